@@ -1,0 +1,9 @@
+pub mod KeyOrder
+pub mod Unsorted
+pub mod Ties
+pub mod ConflictLemmas
+pub mod Fields
+pub mod Touches
+pub mod TouchLoop
+pub mod Commands
+pub mod Extension

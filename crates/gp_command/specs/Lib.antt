@@ -1,0 +1,9 @@
+pub mod Key
+pub mod KeyFields
+pub mod Footprint
+pub mod Views
+pub mod Refusal
+pub mod Order
+pub mod Conflict
+pub mod Spelling
+pub mod Reading

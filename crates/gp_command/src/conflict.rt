@@ -1,0 +1,49 @@
+//! When two commands conflict.
+ghost use Rattle.std.specs.Prelude.{◌≡◌, ◌↔◌, IsTrue};
+ghost use Rattle.std.specs.List.{list_any};
+ghost use Rattle.gp_command.specs.Conflict.{conflict, is_clash, touches_clash};
+
+use crate::command::Command;
+use crate::touch::{Access, Touch};
+
+/// Whether the two commands conflict: they differ, and one is a checkpoint or they share a key
+/// whose accesses are neither both reads nor both additions.
+///
+/// The relation is symmetric, and no command conflicts with itself. Generalized consensus leaves it
+/// open (Lamport, *Generalized Consensus and Paxos*, 2005). It takes no memory.
+#[tactic(auto, unfolding(crate::specs::Conflict::conflict))]
+pub fn conflicts(a: &Command, b: &Command) -> bool
+    ensures { result ≡ conflict a.now b.now }
+{
+    a != b
+        && (a.draft().is_checkpoint()
+            || b.draft().is_checkpoint()
+            || foots_clash(a.draft().foot(), b.draft().foot()))
+}
+
+fn foots_clash(a: &[Touch], b: &[Touch]) -> bool
+    ensures { result ≡ list_any (λ t. list_any (touches_clash t) b.now) a.now }
+{
+    a.iter().any(|t| foot_clashes(t, b))
+}
+
+fn foot_clashes(t: &Touch, foot: &[Touch]) -> bool
+    ensures { result ≡ list_any (touches_clash t.now) foot.now }
+{
+    foot.iter().any(|u| touches_clash(t, u))
+}
+
+fn touches_clash(t: &Touch, u: &Touch) -> bool
+    ensures { result ≡ touches_clash t.now u.now }
+{
+    t.key == u.key && is_clash(t.access, u.access)
+}
+
+fn is_clash(a: Access, b: Access) -> bool
+    ensures { result ≡ is_clash a b }
+{
+    !matches!(
+        (a, b),
+        (Access::Read, Access::Read) | (Access::Add, Access::Add)
+    )
+}

@@ -1,0 +1,202 @@
+//! Drafts: commands without their identity.
+ghost use Rattle.std.specs.Prelude.{◌≡◌, ◌≤◌, true, [], None, IfOk, IfErr, OnOk, length};
+ghost use Rattle.gp_command.specs.Footprint.{first_unsorted};
+ghost use Rattle.gp_command.specs.Refusal.{touching, checkpoint_of, refusal, long_body, IsRefusal};
+
+use crate::body::{Body, MOST_BYTES};
+use crate::foot::{Foot, MOST_TOUCHES, first_unsorted};
+use crate::memory::NoMemory;
+use crate::touch::Touch;
+use std::alloc::Global;
+use std::cmp::Ordering;
+use std::marker::Model;
+
+/// A command without its identity: a mark whether it is a checkpoint, a footprint and a body.
+///
+/// A checkpoint has no touches. Drafts are ordered by mark (a checkpoint last), footprint and body.
+#[derive(Drop, Debug)]
+pub struct Draft {
+    checkpoint: bool,
+    foot: Foot,
+    body: Body,
+}
+
+impl Model for Draft {
+    ghost use Rattle.std.specs.Prelude.{◌≡◌, true, []};
+    ghost use Rattle.gp_command.specs.Views.{DraftView};
+
+    ghost Value = { DraftView };
+
+    ghost view = { λ d. record { checkpoint = d.checkpoint; foot = d.foot; body = d.body } };
+
+    ghost invariant = { λ d. d.checkpoint ≡ true → d.foot ≡ [] };
+}
+
+/// Why there is no draft. The first cause in this order decides.
+#[derive(Clone, Copy, Debug, PartialEq, Eq)]
+pub enum DraftRefused {
+    /// Touch `at` is the first whose key is not greater than the one before.
+    Unsorted { at: usize },
+    /// There are `given` touches, more than 8.
+    TooMany { given: usize },
+    /// The body has `given` bytes, more than 64.
+    TooLong { given: usize },
+    /// Memory ran out.
+    NoMemory,
+}
+
+impl From<NoMemory> for DraftRefused {
+    ghost use Rattle.std.specs.Prelude.{◌≡◌};
+    ghost use Rattle.gp_command.specs.declared.draft.DraftRefused.TheVariants.{NoMemory};
+
+    ghost from_gives = { λ _ e. e ≡ NoMemory };
+
+    fn from(_refused: NoMemory) -> DraftRefused {
+        DraftRefused::NoMemory
+    }
+}
+
+impl Draft {
+    /// The draft that touches these keys, with this body.
+    pub fn new(alloc: Global, foot: &[Touch], body: &[u8]) -> Result<Draft, DraftRefused>
+        ensures made { IfOk result (λ draft. draft ≡ touching foot.now body.now) }
+        ensures accepted { OnOk result (refusal foot.now body.now ≡ None) }
+        ensures refused { IfErr result (IsRefusal (refusal foot.now body.now)) }
+    {
+        if let Some(at) = first_unsorted(foot) {
+            return Err(DraftRefused::Unsorted { at });
+        }
+        if foot.len() > MOST_TOUCHES {
+            return Err(DraftRefused::TooMany { given: foot.len() });
+        }
+        if body.len() > MOST_BYTES {
+            return Err(DraftRefused::TooLong { given: body.len() });
+        }
+        Ok(Draft {
+            checkpoint: false,
+            foot: Foot::new(alloc, foot)?,
+            body: Body::new(alloc, body)?,
+        })
+    }
+
+    /// A checkpoint with this body.
+    pub fn checkpoint(alloc: Global, body: &[u8]) -> Result<Draft, DraftRefused>
+        ensures made { IfOk result (λ draft. draft ≡ checkpoint_of body.now) }
+        ensures accepted { OnOk result (long_body body.now ≡ None) }
+        ensures refused { IfErr result (IsRefusal (long_body body.now)) }
+    {
+        if body.len() > MOST_BYTES {
+            return Err(DraftRefused::TooLong { given: body.len() });
+        }
+        Ok(Draft {
+            checkpoint: true,
+            foot: Foot::new(alloc, &[])?,
+            body: Body::new(alloc, body)?,
+        })
+    }
+
+    // The draft of parts that were checked before.
+    pub(crate) fn of_parts(checkpoint: bool, foot: Foot, body: Body) -> Draft
+        requires { checkpoint ≡ true → foot ≡ [] }
+        ensures checkpoint { result.checkpoint ≡ checkpoint }
+        ensures foot { result.foot ≡ foot }
+        ensures body { result.body ≡ body }
+    {
+        Draft {
+            checkpoint,
+            foot,
+            body,
+        }
+    }
+
+    /// An equal draft.
+    pub fn copy(&self) -> Result<Draft, NoMemory>
+        ensures { IfOk result (λ copy. copy ≡ self.now) }
+    {
+        Ok(Draft {
+            checkpoint: self.checkpoint,
+            foot: self.foot.copy()?,
+            body: self.body.copy()?,
+        })
+    }
+
+    /// Whether it is a checkpoint, which conflicts with every other command.
+    pub fn is_checkpoint(&self) -> bool
+        ensures value { result ≡ self.now.checkpoint }
+        ensures bare { result ≡ true → self.now.foot ≡ [] }
+    {
+        self.checkpoint
+    }
+
+    /// The touches, at most 8, in ascending order of their keys.
+    pub fn foot(&self) -> &[Touch]
+        ensures value { result.now ≡ self.now.foot }
+        ensures few { length result.now ≤ 8 }
+        ensures sorted { first_unsorted result.now ≡ None }
+    {
+        self.foot.as_slice()
+    }
+
+    /// The body, at most 64 bytes.
+    pub fn body(&self) -> &[u8]
+        ensures value { result.now ≡ self.now.body }
+        ensures short { length result.now ≤ 64 }
+    {
+        self.body.as_slice()
+    }
+}
+
+impl PartialEq for Draft {
+    ghost use Rattle.std.specs.Cmp.{partial_equiv_from_equiv, eq_by_cmp_equiv};
+    ghost use Rattle.std.specs.Ordering.{eq_by_cmp};
+    ghost use Rattle.gp_command.specs.Order.{draft_cmp, draft_cmp_total};
+
+    ghost eq = { eq_by_cmp draft_cmp };
+
+    ghost laws = { partial_equiv_from_equiv (eq_by_cmp_equiv draft_cmp_total) };
+
+    fn eq(&self, other: &Draft) -> bool {
+        self.cmp(other).is_eq()
+    }
+}
+
+impl Eq for Draft {
+    ghost use Rattle.std.specs.Cmp.{eq_by_cmp_equiv};
+    ghost use Rattle.gp_command.specs.Order.{draft_cmp_total};
+
+    ghost laws = { eq_by_cmp_equiv draft_cmp_total };
+}
+
+impl PartialOrd for Draft {
+    ghost use Rattle.std.specs.Cmp.{partial_order_from_total};
+    ghost use Rattle.std.specs.Ordering.{as_partial_cmp};
+    ghost use Rattle.gp_command.specs.Order.{draft_cmp, draft_cmp_total};
+
+    ghost partial_cmp = { as_partial_cmp draft_cmp };
+
+    ghost laws = { partial_order_from_total draft_cmp_total };
+
+    fn partial_cmp(&self, other: &Draft) -> Option<Ordering> {
+        Some(self.cmp(other))
+    }
+}
+
+impl Ord for Draft {
+    ghost use Rattle.std.specs.Prelude.{refl};
+    ghost use Rattle.gp_command.specs.Order.{draft_cmp, draft_cmp_total};
+
+    ghost cmp = { draft_cmp };
+
+    ghost total = { draft_cmp_total };
+
+    ghost matches_partial_cmp = { λ x y. refl };
+
+    ghost matches_eq = { λ x y. refl };
+
+    fn cmp(&self, other: &Draft) -> Ordering {
+        self.checkpoint
+            .cmp(&other.checkpoint)
+            .then(self.foot().cmp(other.foot()))
+            .then(self.body().cmp(other.body()))
+    }
+}
