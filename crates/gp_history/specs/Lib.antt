@@ -1,0 +1,5 @@
+pub mod History
+pub mod Sequence
+pub mod Canonical
+pub mod Bounds
+pub mod Walks
