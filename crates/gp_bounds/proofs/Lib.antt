@@ -1,0 +1,4 @@
+pub mod Joining
+pub mod Meeting
+pub mod Masked
+pub mod Beside

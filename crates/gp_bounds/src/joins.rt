@@ -1,0 +1,40 @@
+//! Joins.
+ghost use Rattle.std.specs.Prelude.{◌≡◌, IfOk, map};
+ghost use Rattle.gp_history.specs.Sequence.{history_of};
+ghost use Rattle.gp_history.specs.Bounds.{join, join_all};
+
+use gp_command::NoMemory;
+use gp_history::Hist;
+use gp_history::walks::common_start;
+use std::alloc::Global;
+
+/// The first history, and then what the second has more, in the canonical order of the second.
+///
+/// It is defined for every pair. Where the two are compatible it is their least upper bound. It takes
+/// no copy that the join does not keep.
+pub fn join<H: Hist>(_alloc: Global, a: &H, b: &H) -> Result<H, NoMemory>
+    ensures { IfOk result (λ j. history_of (H.sequence j) ≡ join (history_of (H.sequence a.now)) (history_of (H.sequence b.now))) }
+{
+    let mut joined = a.copy()?;
+    for i in common_start(a, b)..b.len() {
+        let c = b.at(i);
+        if a.place_of(c, i).is_none() {
+            joined.push(c.copy()?)?;
+        }
+    }
+    Ok(joined)
+}
+
+/// The join of all elements, from the empty history on.
+///
+/// Where each two of them are compatible it is the least upper bound of all, in whatever order the
+/// list stands.
+pub fn join_all<H: Hist>(alloc: Global, list: &[H]) -> Result<H, NoMemory>
+    ensures { IfOk result (λ j. history_of (H.sequence j) ≡ join_all (map (λ h. history_of (H.sequence h)) list.now)) }
+{
+    let mut all = H::empty(alloc)?;
+    for h in list {
+        all = join(alloc, &all, h)?;
+    }
+    Ok(all)
+}

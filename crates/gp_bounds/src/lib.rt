@@ -1,0 +1,11 @@
+//! Bounds of histories: compatibility, meets and joins, and the laws that consensus rests on.
+#![tactic(auto)]
+
+mod compatibles;
+mod joins;
+pub mod laws;
+mod meets;
+
+pub use compatibles::compatible;
+pub use joins::{join, join_all};
+pub use meets::{meet, meet_all};
