@@ -1,0 +1,4 @@
+pub mod Masks
+pub mod Counting
+pub mod Owners
+pub mod Orders
