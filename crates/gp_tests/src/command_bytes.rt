@@ -1,0 +1,193 @@
+//! The bytes of commands.
+use gp_command::{
+    Access, Command, CommandId, Draft, Key, ReadRefused, Touch, read_command, write_command,
+};
+use std::alloc::Global;
+use std::process::Abort;
+use std::test::Fail;
+
+// The first offer of proposer 0, `put a 5`: proposer, number, mark, number of touches; the key `a`
+// with its length and a write; the body with its length.
+const PUT_A_5: [u8; 21] = [
+    0, 0, 0, 0, 1, 0, 0, 0, 0, 1, 1, 0x61, 2, 7, 0x70, 0x75, 0x74, 0x20, 0x61, 0x20, 0x35,
+];
+
+fn put_a_5(alloc: Global) -> Result<Command, Fail> {
+    let touches = [Touch {
+        key: Key::new(b"a")?,
+        access: Access::Write,
+    }];
+    let draft = Draft::new(alloc, &touches, b"put a 5")?;
+    let id = CommandId {
+        proposer: 0,
+        number: 1,
+    };
+    Ok(Command::new(id, draft))
+}
+
+#[test]
+fn a_put_has_21_bytes(rt: HostRuntime) -> Result<(), Fail> {
+    let alloc = rt.alloc();
+    let command = put_a_5(alloc)?;
+    assert_eq!(rt;
+        written(&rt, alloc, &command)?.as_slice(),
+        PUT_A_5.as_slice()
+    );
+    Ok(())
+}
+
+// The bytes of a command behind others.
+fn written(rt: &impl Abort, alloc: Global, command: &Command) -> Result<Vec<u8>, Fail> {
+    let mut bytes = [9].to_vec(alloc)?;
+    let id = command.id();
+    assert!(rt; id.proposer < 8 && 1 <= id.number);
+    write_command(command, &mut bytes)?;
+    assert_eq!(rt; bytes.first(), Some(&9));
+    Ok(bytes[1..].to_vec(alloc)?)
+}
+
+#[test]
+fn a_command_is_read_whatever_follows(rt: HostRuntime) -> Result<(), Fail> {
+    let alloc = rt.alloc();
+    let want = put_a_5(alloc)?;
+    for more in [0, 1, 9] {
+        let mut bytes = PUT_A_5.to_vec(alloc)?;
+        bytes.resize(21 + more, 0xff)?;
+        let (command, len) = read_command(alloc, &bytes)?;
+        assert!(rt; command == want);
+        assert_eq!(rt; len, 21);
+    }
+    Ok(())
+}
+
+#[test]
+fn a_part_of_a_command_is_cut_in_the_field_that_is_not_whole(rt: HostRuntime) {
+    for (len, at) in [
+        (0, 0),
+        (3, 0),
+        (4, 4),
+        (7, 4),
+        (8, 8),
+        (9, 9),
+        (10, 10),
+        (11, 11),
+        (12, 12),
+        (13, 13),
+        (14, 14),
+        (20, 14),
+    ] {
+        assert!(rt; len <= PUT_A_5.len());
+        let read = read_command(rt.alloc(), &PUT_A_5[..len]);
+        assert_eq!(rt; read.err(), Some(ReadRefused::Cut { at }));
+    }
+}
+
+#[test]
+fn a_field_that_breaks_its_rule_is_bad(rt: HostRuntime) {
+    // a place, the byte that is put there, and the field that it breaks
+    for (place, byte, at) in [
+        (0, 8, 0), // there are 8 proposers, from 0
+        (3, 1, 0), // and they have four bytes
+        (4, 0, 4), // numbers are at least 1
+        (8, 2, 8), // a mark is 0 or 1
+        (8, 1, 9), // a checkpoint has no touches
+        (9, 9, 9), // there are at most 8 touches
+        (10, 0, 10), // a key has at least one byte
+        (10, 17, 10), // and at most 16
+        (11, 0x41, 11), // `A` is no byte of a key
+        (12, 3, 12), // there are three accesses
+        (13, 65, 13), // a body has at most 64 bytes
+    ] {
+        let mut bytes = PUT_A_5;
+        assert!(rt; place < bytes.len());
+        bytes[place] = byte;
+        let read = read_command(rt.alloc(), &bytes);
+        assert_eq!(rt; read.err(), Some(ReadRefused::Bad { at }));
+    }
+}
+
+#[test]
+fn the_first_fault_is_told(rt: HostRuntime) {
+    // a mark that breaks its rule, and an input that ends two fields later
+    let marked = [0, 0, 0, 0, 1, 0, 0, 0, 7, 1];
+    let read = read_command(rt.alloc(), &marked);
+    assert_eq!(rt; read.err(), Some(ReadRefused::Bad { at: 8 }));
+    // two touches of one key
+    let twice = [0, 0, 0, 0, 1, 0, 0, 0, 0, 2, 1, 0x61, 2, 1, 0x61, 2, 0];
+    let read = read_command(rt.alloc(), &twice);
+    assert_eq!(rt; read.err(), Some(ReadRefused::Bad { at: 14 }));
+}
+
+// Eight keys of 16 bytes, which differ in the last, with the three accesses in turn.
+fn eight_long_touches(alloc: Global) -> Result<Vec<Touch>, Fail> {
+    let mut touches = Vec::new(alloc);
+    for digit in *b"01234567" {
+        let mut key = *b"aaaaaaaaaaaaaaa0";
+        key[15] = digit;
+        touches.push(Touch {
+            key: Key::new(&key)?,
+            access: access(digit),
+        })?;
+    }
+    Ok(touches)
+}
+
+fn access(digit: u8) -> Access {
+    match digit {
+        b'0' | b'3' | b'6' => Access::Read,
+        b'1' | b'4' | b'7' => Access::Add,
+        _ => Access::Write,
+    }
+}
+
+// The bytes by the format: proposer 7, the greatest number, no mark, 8 touches, and a body of 64.
+fn longest_bytes(alloc: Global) -> Result<Vec<u8>, Fail> {
+    let mut bytes = [7, 0, 0, 0, 0xff, 0xff, 0xff, 0xff, 0, 8].to_vec(alloc)?;
+    bytes.extend_from_slice(b"\x10aaaaaaaaaaaaaaa0\x00\x10aaaaaaaaaaaaaaa1\x01")?;
+    bytes.extend_from_slice(b"\x10aaaaaaaaaaaaaaa2\x02\x10aaaaaaaaaaaaaaa3\x00")?;
+    bytes.extend_from_slice(b"\x10aaaaaaaaaaaaaaa4\x01\x10aaaaaaaaaaaaaaa5\x02")?;
+    bytes.extend_from_slice(b"\x10aaaaaaaaaaaaaaa6\x00\x10aaaaaaaaaaaaaaa7\x01")?;
+    bytes.push(64)?;
+    bytes.resize(219, 0xfe)?;
+    Ok(bytes)
+}
+
+fn longest_command(alloc: Global) -> Result<Command, Fail> {
+    let id = CommandId {
+        proposer: 7,
+        number: u32::MAX,
+    };
+    let draft = Draft::new(alloc, &eight_long_touches(alloc)?, &[0xfe; 64])?;
+    Ok(Command::new(id, draft))
+}
+
+#[test]
+fn the_longest_command_goes_both_ways(rt: HostRuntime) -> Result<(), Fail> {
+    let alloc = rt.alloc();
+    goes_both_ways(&rt, alloc, &longest_command(alloc)?, &longest_bytes(alloc)?)
+}
+
+fn goes_both_ways(
+    rt: &impl Abort,
+    alloc: Global,
+    command: &Command,
+    bytes: &[u8],
+) -> Result<(), Fail> {
+    assert_eq!(rt; written(rt, alloc, command)?.as_slice(), bytes);
+    let (read, len) = read_command(alloc, bytes)?;
+    assert!(rt; read == *command);
+    assert_eq!(rt; len, bytes.len());
+    Ok(())
+}
+
+#[test]
+fn a_checkpoint_has_mark_1_and_no_touches(rt: HostRuntime) -> Result<(), Fail> {
+    let alloc = rt.alloc();
+    let id = CommandId {
+        proposer: 2,
+        number: 258,
+    };
+    let command = Command::new(id, Draft::checkpoint(alloc, b"checkpoint")?);
+    let bytes = b"\x02\0\0\0\x02\x01\0\0\x01\0\x0acheckpoint";
+    goes_both_ways(&rt, alloc, &command, bytes)
+}
