@@ -1,5 +1,6 @@
 //! Joins.
-ghost use Rattle.std.specs.Prelude.{◌≡◌, IfOk, map};
+ghost use Rattle.std.specs.Prelude.{◌≡◌, IfOk, OnOk, OnErr, map};
+ghost use Rattle.gp_history.specs.History.{IsPrefix};
 ghost use Rattle.gp_history.specs.Sequence.{history_of};
 ghost use Rattle.gp_history.specs.Bounds.{join, join_all};
 
@@ -16,13 +17,23 @@ pub fn join<H: Hist>(_alloc: Global, a: &H, b: &H) -> Result<H, NoMemory>
     ensures { IfOk result (λ j. history_of (H.sequence j) ≡ join (history_of (H.sequence a.now)) (history_of (H.sequence b.now))) }
 {
     let mut joined = a.copy()?;
+    join_onto(&mut joined, b)?;
+    Ok(joined)
+}
+
+/// Makes the first history the join of both. Where memory runs out it is extended by a part of the
+/// second.
+pub fn join_onto<H: Hist>(a: &mut H, b: &H) -> Result<(), NoMemory>
+    ensures joined { OnOk result (history_of (H.sequence a.new) ≡ join (history_of (H.sequence a.old)) (history_of (H.sequence b.now))) }
+    ensures extended { OnErr result (IsPrefix (history_of (H.sequence a.old)) (history_of (H.sequence a.new))) }
+{
     for i in common_start(a, b)..b.len() {
         let c = b.at(i);
         if a.place_of(c, i).is_none() {
-            joined.push(c.copy()?)?;
+            a.push(c.copy()?)?;
         }
     }
-    Ok(joined)
+    Ok(())
 }
 
 /// The join of all elements, from the empty history on.
@@ -34,7 +45,7 @@ pub fn join_all<H: Hist>(alloc: Global, list: &[H]) -> Result<H, NoMemory>
 {
     let mut all = H::empty(alloc)?;
     for h in list {
-        all = join(alloc, &all, h)?;
+        join_onto(&mut all, h)?;
     }
     Ok(all)
 }

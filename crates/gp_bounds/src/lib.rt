@@ -7,5 +7,5 @@ pub mod laws;
 mod meets;
 
 pub use compatibles::compatible;
-pub use joins::{join, join_all};
+pub use joins::{join, join_all, join_onto};
 pub use meets::{meet, meet_all};

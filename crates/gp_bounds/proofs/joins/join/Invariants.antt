@@ -1,7 +1,0 @@
-use Rattle.std.proofs.Common.{◌≡◌, take}
-use Rattle.gp_history.specs.History.{pushes}
-use Rattle.gp_history.specs.Sequence.{history_of}
-use Rattle.gp_bounds.proofs.joins.join.Given as goal
-
-abbrev pub invariant-loop-i : goal.invariant-loop-i
-invariant-loop-i g l = history_of (g.H.Hist.sequence l.joined) ≡ pushes (history_of (g.H.Hist.sequence l.a)) (take l.i (g.H.Hist.sequence l.b))
