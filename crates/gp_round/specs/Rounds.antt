@@ -1,7 +1,8 @@
 -- Rounds and their order.
 use Rattle.std.specs.Prelude.{ℕ, Bool, true, false}
 use Rattle.std.specs.declared.cmp.Ordering.{Ordering}
-use Rattle.std.specs.Ordering.{nat_cmp, on, then_cmp, is_lt}
+use Rattle.std.specs.Cmp.{IsTotalOrder, then_total, on_total, nat_cmp_total}
+use Rattle.std.specs.Ordering.{nat_cmp, on, then_cmp, is_lt, eq_by_cmp}
 use Rattle.gp_round.specs.declared.round.Mode.{Mode}
 use Rattle.gp_round.specs.declared.round.Mode.TheVariants.{Single, Multi, Fast}
 use Rattle.gp_round.specs.declared.round.Round.{Round}
@@ -28,6 +29,13 @@ round_cmp = then_cmp (on (λ r. r.count) nat_cmp) (then_cmp (on (λ r. mode_numb
 -- one round is below the other
 abbrev pub earlier : Round → Round → Bool
 earlier i j = is_lt (round_cmp i j)
+
+-- neither is below the other
+abbrev pub same_round : Round → Round → Bool
+same_round = eq_by_cmp round_cmp
+
+pub round_cmp_total : IsTotalOrder round_cmp
+round_cmp_total = then_total (on_total (λ (r : Round). r.count) nat_cmp_total) (then_total (on_total (λ (r : Round). mode_number r.mode) nat_cmp_total) (on_total (λ (r : Round). r.lead) nat_cmp_total))
 
 -- below all that are begun
 abbrev pub round_zero : Round

@@ -2,6 +2,8 @@
 ghost use Rattle.std.specs.Prelude.{◌≡◌};
 ghost use Rattle.gp_round.specs.Rounds.{round_zero};
 
+use std::cmp::Ordering;
+
 /// How a round is coordinated.
 ///
 /// In a single round one coordinator sends values, as in Paxos; in a multi round quorums of
@@ -18,7 +20,7 @@ pub enum Mode {
 ///
 /// A round that is begun has a count from 1 to 1,000,000. The lead is the coordinator of a single or
 /// fast round, and 0 in a multi round.
-#[derive(Clone, Copy, Debug, PartialEq, Eq, PartialOrd, Ord)]
+#[derive(Clone, Copy, Debug)]
 pub struct Round {
     pub count: u32,
     pub mode: Mode,
@@ -35,5 +37,59 @@ impl Round {
             mode: Mode::Single,
             lead: 0,
         }
+    }
+}
+
+impl PartialEq for Round {
+    ghost use Rattle.std.specs.Cmp.{partial_equiv_from_equiv, eq_by_cmp_equiv};
+    ghost use Rattle.gp_round.specs.Rounds.{same_round, round_cmp_total};
+
+    ghost eq = { same_round };
+
+    ghost laws = { partial_equiv_from_equiv (eq_by_cmp_equiv round_cmp_total) };
+
+    fn eq(&self, other: &Round) -> bool {
+        self.cmp(other).is_eq()
+    }
+}
+
+impl Eq for Round {
+    ghost use Rattle.std.specs.Cmp.{eq_by_cmp_equiv};
+    ghost use Rattle.gp_round.specs.Rounds.{round_cmp_total};
+
+    ghost laws = { eq_by_cmp_equiv round_cmp_total };
+}
+
+impl PartialOrd for Round {
+    ghost use Rattle.std.specs.Cmp.{partial_order_from_total};
+    ghost use Rattle.std.specs.Ordering.{as_partial_cmp};
+    ghost use Rattle.gp_round.specs.Rounds.{round_cmp, round_cmp_total};
+
+    ghost partial_cmp = { as_partial_cmp round_cmp };
+
+    ghost laws = { partial_order_from_total round_cmp_total };
+
+    fn partial_cmp(&self, other: &Round) -> Option<Ordering> {
+        Some(self.cmp(other))
+    }
+}
+
+impl Ord for Round {
+    ghost use Rattle.std.specs.Prelude.{refl};
+    ghost use Rattle.gp_round.specs.Rounds.{round_cmp, round_cmp_total};
+
+    ghost cmp = { round_cmp };
+
+    ghost total = { round_cmp_total };
+
+    ghost matches_partial_cmp = { λ x y. refl };
+
+    ghost matches_eq = { λ x y. refl };
+
+    fn cmp(&self, other: &Round) -> Ordering {
+        self.count
+            .cmp(&other.count)
+            .then((self.mode as u8).cmp(&(other.mode as u8)))
+            .then(self.lead.cmp(&other.lead))
     }
 }
