@@ -1,0 +1,6 @@
+pub mod Gathering
+pub mod Choosing
+pub mod Subsets
+pub mod Meetings
+pub mod CountingQuorums
+pub mod Safety

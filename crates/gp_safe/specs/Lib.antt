@@ -1,0 +1,5 @@
+pub mod Meets
+pub mod Met
+pub mod Choice
+pub mod Held
+pub mod Counting

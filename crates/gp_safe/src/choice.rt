@@ -1,0 +1,116 @@
+//! The safe choice.
+ghost use Rattle.std.specs.Prelude.{◌≡◌, ◌≤◌, IfOk, Option, cond, not, ◌&&◌};
+ghost use Rattle.std.specs.Option.{option_map, option_copied};
+ghost use Rattle.gp_history.specs.Sequence.{history_of};
+ghost use Rattle.gp_safe.specs.Choice.{reply_of, reply_by, top_round, votes_at, answers_by, lowest, safe_choice};
+ghost use Rattle.gp_safe.specs.Counting.{AreConsistent, SomeCounts, IsLeastUpperBoundOfValues, IsSafe};
+
+use crate::meets::{Values, join_of_meets};
+use gp_command::NoMemory;
+use gp_history::{Hist, SeqHistory};
+use gp_round::{Config, Round};
+use std::alloc::Global;
+
+/// What an acceptor answered in the first phase: the last round in which it voted, and its vote there.
+#[derive(Drop, Debug)]
+pub struct Answer {
+    pub acceptor: u32,
+    pub round: Round,
+    pub vote: SeqHistory,
+}
+
+/// The safe choice from the answers of acceptors.
+///
+/// Of the quorums of the greatest round that was answered, of the least size and in order of their
+/// masks, those count whose members among the answering acceptors all answered that round. Where one
+/// counts the choice is the join of the meets of their votes, and otherwise the vote of the lowest
+/// acceptor that answered that round. It is in the manner of the provably safe values of Lamport,
+/// *Generalized Consensus and Paxos*, 2005.
+///
+/// Let the acceptors that answered be a quorum of the first phase, and the meets of the quorums that
+/// count compatible in pairs. Then the choice is the least upper bound of these meets, of quorums of
+/// every size, where one counts. And it extends each value that a quorum of that round may still
+/// choose, whatever its members that did not answer have voted for.
+#[tactic(auto, using(crate::proofs::Choosing::history_of_nothing))]
+pub fn pick(alloc: Global, config: &Config, answers: &[Answer]) -> Result<SeqHistory, NoMemory>
+    ensures choice { IfOk result (λ h. history_of h ≡ safe_choice config.now.acceptors (reply_by answers.now)) }
+    ensures least { IfOk result (λ h. AreConsistent config.now.acceptors (reply_by answers.now)
+        → SomeCounts config.now.acceptors (reply_by answers.now)
+        → IsLeastUpperBoundOfValues config.now.acceptors (reply_by answers.now) (history_of h)) }
+    ensures safe { IfOk result (λ h. AreConsistent config.now.acceptors (reply_by answers.now)
+        → IsSafe config.now.acceptors (reply_by answers.now) (history_of h)) }
+{
+    let n = config.acceptors();
+    let round = top_round(answers, n);
+    let votes = Votes { answers, round };
+    if let Some(joined) = join_of_meets(alloc, &votes, n, config.quorum(round.mode))? {
+        return Ok(joined);
+    }
+    match lowest(&votes, n) {
+        Some(vote) => vote.copy(),
+        None => Ok(SeqHistory::empty(alloc)?),
+    }
+}
+
+// The answer of an acceptor.
+fn reply_by(answers: &[Answer], acceptor: u32) -> Option<&Answer>
+    ensures { option_map reply_of (option_copied result) ≡ reply_by answers.now acceptor }
+{
+    for answer in answers {
+        if answer.acceptor == acceptor {
+            return Some(answer);
+        }
+    }
+    None
+}
+
+// The greatest round that was answered.
+fn top_round(answers: &[Answer], n: u32) -> Round
+    ensures { result ≡ top_round (reply_by answers.now) n }
+{
+    let mut top = Round::zero();
+    for i in 0..n {
+        if let Some(answer) = reply_by(answers, i) {
+            if top < answer.round {
+                top = answer.round;
+            }
+        }
+    }
+    top
+}
+
+// The votes of those that answered one round, by acceptor. Those count that answered.
+#[derive(Drop)]
+struct Votes<'a> {
+    answers: &'a [Answer],
+    round: Round,
+}
+
+impl<'a> Values for Votes<'a> {
+    ghost value = { λ v. votes_at v.round (reply_by v.answers.now) };
+
+    ghost within = { λ v. answers_by (reply_by v.answers.now) };
+
+    fn value(&self, i: u32) -> Option<&SeqHistory> {
+        let answer = reply_by(self.answers, i)?;
+        (answer.round == self.round).then_some(&answer.vote)
+    }
+
+    fn is_within(&self, i: u32) -> bool {
+        reply_by(self.answers, i).is_some()
+    }
+}
+
+// The value of the lowest acceptor that has one.
+#[tactic(auto, using(crate::proofs::Choosing::lowest_found))]
+fn lowest<'a>(votes: &'a Votes<'_>, n: u32) -> Option<&'a SeqHistory>
+    requires { n ≤ 7 }
+    ensures { option_map history_of (option_copied result) ≡ lowest (votes_at votes.now.round (reply_by votes.now.answers.now)) n }
+{
+    for i in 0..n {
+        if let Some(value) = votes.value(i) {
+            return Some(value);
+        }
+    }
+    None
+}

@@ -1,0 +1,11 @@
+//! The safe choice of a value for a round, and the joins of meets over quorums that it and the roles
+//! are made of.
+#![tactic(auto)]
+
+mod choice;
+mod held;
+mod meets;
+
+pub use choice::{Answer, pick};
+pub use held::{Replaced, newer};
+pub use meets::{Values, join_of_meets};

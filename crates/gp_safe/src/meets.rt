@@ -1,0 +1,136 @@
+//! The join of the meets of all quorums of one size.
+ghost use Rattle.std.specs.Prelude.{◌≡◌, ◌≤◌, ◌<◌, ◌&&◌, ℕ, Bool, List, Option, Some, IfOk};
+ghost use Rattle.std.specs.Option.{option_map, option_copied, is_some};
+ghost use Rattle.gp_command.specs.declared.command.Command.{Command};
+ghost use Rattle.gp_history.specs.History.{History};
+ghost use Rattle.gp_history.specs.Sequence.{history_of};
+ghost use Rattle.gp_round.specs.Sets.{masks, bit};
+ghost use Rattle.gp_safe.specs.Met.{met_history};
+ghost use Rattle.gp_safe.specs.Meets.{with_one, gathered, quorum_meet, quorum_meets, all_joined, with_meet};
+
+use gp_bounds::{join_onto, meet};
+use gp_command::NoMemory;
+use gp_history::{Hist, SeqHistory};
+use gp_round::{Subsets, is_member};
+use std::alloc::Global;
+
+/// What senders gave, by their numbers.
+pub trait Values {
+    /// The value of a sender.
+    ghost value: { Self → ℕ → Option History };
+
+    /// Whether a sender counts.
+    ghost within: { Self → ℕ → Bool };
+
+    /// The value of a sender, where it has one.
+    fn value(&self, i: u32) -> Option<&SeqHistory>
+        requires { i < 8 }
+        ensures { option_map history_of (option_copied result) ≡ value self.now i };
+
+    /// Whether a sender counts. A quorum is whole where each member that counts has a value.
+    fn is_within(&self, i: u32) -> bool
+        requires { i < 8 }
+        ensures { result ≡ within self.now i };
+}
+
+/// The join of the meets of those sets with `size` of n senders that are whole, in order of their
+/// masks, where there is one.
+#[tactic(auto, using(crate::proofs::Gathering::one_more_meet))]
+pub fn join_of_meets<V: Values>(
+    alloc: Global,
+    values: &V,
+    n: u32,
+    size: u32,
+) -> Result<Option<SeqHistory>, NoMemory>
+    requires few { n ≤ 7 }
+    requires room { size ≤ n }
+    ensures { IfOk result (λ j. option_map history_of j ≡ all_joined (quorum_meets (V.value values.now) (V.within values.now) n (masks n size))) }
+{
+    let mut joined = None;
+    for mask in Subsets::new(n, size) {
+        let met = quorum_meet(alloc, values, n, mask)?;
+        joined = with_meet(joined, met)?;
+    }
+    Ok(joined)
+}
+
+// What there was, joined with one more where there is one.
+#[tactic(auto, using(crate::proofs::Gathering::join_empty))]
+fn with_meet(
+    joined: Option<SeqHistory>,
+    met: Option<SeqHistory>,
+) -> Result<Option<SeqHistory>, NoMemory>
+    ensures { IfOk result (λ j. option_map history_of j ≡ with_meet (option_map history_of joined) (option_map history_of met)) }
+{
+    match (joined, met) {
+        (None, met) => Ok(met),
+        (Some(joined), None) => Ok(Some(joined)),
+        (Some(mut joined), Some(met)) => {
+            join_onto(&mut joined, &met)?;
+            Ok(Some(joined))
+        }
+    }
+}
+
+// The meet of the values of one set, if it is whole and not empty.
+fn quorum_meet<V: Values>(
+    alloc: Global,
+    values: &V,
+    n: u32,
+    mask: u8,
+) -> Result<Option<SeqHistory>, NoMemory>
+    requires { n ≤ 7 }
+    ensures { IfOk result (λ m. option_map history_of m ≡ quorum_meet (V.value values.now) (V.within values.now) n mask) }
+{
+    if !is_whole(values, n, mask) {
+        return Ok(None);
+    }
+    let mut met = None;
+    for i in 0..n {
+        if is_member(mask, i) && values.is_within(i) {
+            if let Some(value) = values.value(i) {
+                met = Some(and_value(alloc, met, value)?);
+            }
+        }
+    }
+    match met {
+        None => Ok(None),
+        Some(Met::One(value)) => Ok(Some(value.copy()?)),
+        Some(Met::Several(meet)) => Ok(Some(meet)),
+    }
+}
+
+// Whether each member of a set that counts has a value.
+fn is_whole<V: Values>(values: &V, n: u32, mask: u8) -> bool
+    requires { n ≤ 7 }
+    ensures { result ≡ is_some (gathered (V.value values.now) (λ i. bit mask i && V.within values.now i) n) }
+{
+    for i in 0..n {
+        if is_member(mask, i) && values.is_within(i) && values.value(i).is_none() {
+            return false;
+        }
+    }
+    true
+}
+
+// The meet of one value or of several, where one needs no copy.
+#[derive(Drop)]
+enum Met<'a> {
+    One(&'a SeqHistory),
+    Several(SeqHistory),
+}
+
+// The meet with one value more.
+fn and_value<'a>(
+    alloc: Global,
+    met: Option<Met<'a>>,
+    value: &'a SeqHistory,
+) -> Result<Met<'a>, NoMemory>
+    ensures { IfOk result (λ m. with_one (Some (history_of value.now)) (Some (option_map met_history met.entry)) ≡ Some (Some (met_history m))) }
+{
+    match met {
+        None => Ok(Met::One(value)),
+        Some(Met::One(first)) => Ok(Met::Several(meet(alloc, first, value)?)),
+        Some(Met::Several(so_far)) => Ok(Met::Several(meet(alloc, &so_far, value)?)),
+    }
+}
