@@ -1,0 +1,5 @@
+pub mod State
+pub mod Replies
+pub mod Codes
+pub mod Table
+pub mod Steps
