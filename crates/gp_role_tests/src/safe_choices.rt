@@ -1,0 +1,72 @@
+//! The safe choice, worked out by hand.
+use crate::scene::{FAST_1, SINGLE_1, SINGLE_2, ZERO, history};
+use gp_history::Hist;
+use gp_round::{Config, Round};
+use gp_safe::{Answer, pick};
+use std::alloc::Global;
+use std::process::Abort;
+use std::test::Fail;
+
+// What an acceptor answered: its number, the round of its vote, and the vote.
+type Reply = (u32, Round, &'static str);
+
+#[test]
+fn among_three_acceptors(rt: HostRuntime) -> Result<(), Fail> {
+    let config = Config::new(3, 1, 1)?;
+    for (replies, want) in [
+        // nobody voted yet
+        ([(0, ZERO, ""), (2, ZERO, "")], ""),
+        // a fast quorum is all three: acceptor 1 answered an older round, so none counts, and the
+        // vote of the lowest acceptor that answered the fast round is left
+        ([(0, FAST_1, "X"), (1, ZERO, "")], "X"),
+        ([(1, ZERO, ""), (2, FAST_1, "Y")], "Y"),
+        // all three count: the vote of acceptor 2 may agree with what is common
+        ([(0, FAST_1, "aX"), (1, FAST_1, "bX")], "X"),
+        // two of three are a quorum of a single round: 1 and 2, of whom 1 answered
+        ([(0, SINGLE_1, "abc"), (1, SINGLE_2, "d")], "d"),
+        // the quorums 0 and 2, 1 and 2, and 0 and 1, of whom 2 did not answer: all votes
+        ([(0, SINGLE_1, "ab"), (1, SINGLE_1, "abc")], "abc"),
+    ] {
+        assert!(rt; is_picked(rt.alloc(), &config, &replies, want)?);
+    }
+    Ok(())
+}
+
+#[test]
+fn among_four_acceptors(rt: HostRuntime) -> Result<(), Fail> {
+    let config = Config::new(4, 1, 1)?;
+    for (replies, want) in [
+        // a fast quorum is three of four: two of those who answered share `X` alone, and what 2 voted
+        // has it behind `Y`; the longest vote is not the pick
+        (
+            [(0, FAST_1, "X"), (1, FAST_1, "X"), (2, FAST_1, "YXab")],
+            "X",
+        ),
+        // each two have something in common
+        (
+            [(0, FAST_1, "ab"), (1, FAST_1, "bc"), (2, FAST_1, "ca")],
+            "abc",
+        ),
+        // of the quorums only 0, 1 and 3 has no member that answered an older round
+        (
+            [(0, FAST_1, "ab"), (1, FAST_1, "bc"), (2, SINGLE_1, "abc")],
+            "b",
+        ),
+    ] {
+        assert!(rt; is_picked(rt.alloc(), &config, &replies, want)?);
+    }
+    Ok(())
+}
+
+fn is_picked(alloc: Global, config: &Config, replies: &[Reply], want: &str) -> Result<bool, Fail> {
+    let mut answers = Vec::new(alloc);
+    for (acceptor, round, word) in replies {
+        answers.push(Answer {
+            acceptor: *acceptor,
+            round: *round,
+            vote: history(alloc, word)?,
+        })?;
+    }
+    let picked = pick(alloc, config, &answers)?;
+    Ok(picked.same(&history(alloc, want)?))
+}
