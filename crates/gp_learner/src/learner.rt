@@ -6,7 +6,7 @@ ghost use Rattle.gp_msg.specs.Messages.{message_of, Voted};
 ghost use Rattle.gp_safe.specs.Held.{newer};
 ghost use Rattle.gp_learner.specs.Table.{opening, learner_take, learner_fall, learned_with, heard, vote_of, votes_held};
 
-use crate::votes::{Ballot, Votes, has_all, held_of, hold};
+use crate::votes::{HeldVote, Votes, has_all, held_of, hold};
 use gp_bounds::join;
 use gp_command::NoMemory;
 use gp_history::{Hist, SeqHistory};
@@ -27,7 +27,7 @@ pub struct Learner {
     alloc: Global,
     config: Config,
     number: u32,
-    votes: BTreeMap<(Round, u32), Ballot>,
+    votes: BTreeMap<(Round, u32), HeldVote>,
     learned: SeqHistory,
 }
 

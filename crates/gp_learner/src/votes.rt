@@ -18,11 +18,11 @@ use std::marker::Model;
 
 /// A vote that is held. A contract sees it as its history.
 #[derive(Drop, Debug)]
-pub struct Ballot {
+pub struct HeldVote {
     vote: SeqHistory,
 }
 
-impl Model for Ballot {
+impl Model for HeldVote {
     ghost use Rattle.gp_history.specs.History.{History};
     ghost use Rattle.gp_history.specs.Sequence.{history_of};
     ghost use Rattle.gp_history.specs.Codes.{history_code};
@@ -34,12 +34,12 @@ impl Model for Ballot {
     ghost view = { λ b. history_of b.vote };
 }
 
-impl Ballot {
-    /// The ballot with this vote. It takes no memory.
-    pub fn new(vote: SeqHistory) -> Ballot
+impl HeldVote {
+    /// This vote, to be held. It takes no memory.
+    pub fn new(vote: SeqHistory) -> HeldVote
         ensures { result ≡ history_of vote }
     {
-        Ballot { vote }
+        HeldVote { vote }
     }
 
     /// Its vote.
@@ -50,12 +50,12 @@ impl Ballot {
     }
 }
 
-impl Clone for Ballot {
+impl Clone for HeldVote {
     ghost is_clone = { λ b c. c ≡ b };
 
-    fn clone(&self) -> Result<Ballot, AllocError> {
+    fn clone(&self) -> Result<HeldVote, AllocError> {
         match self.vote.copy() {
-            Ok(vote) => Ok(Ballot { vote }),
+            Ok(vote) => Ok(HeldVote { vote }),
             Err(NoMemory) => Err(AllocError),
         }
     }
@@ -64,7 +64,7 @@ impl Clone for Ballot {
 /// The votes that are held in one round, by acceptor. Every acceptor counts.
 #[derive(Drop)]
 pub struct Votes<'a> {
-    pub votes: &'a BTreeMap<(Round, u32), Ballot>,
+    pub votes: &'a BTreeMap<(Round, u32), HeldVote>,
     pub round: Round,
 }
 
@@ -84,21 +84,21 @@ impl<'a> Values for Votes<'a> {
 
 /// The vote that is held of an acceptor in a round. It takes no memory.
 pub fn held_of(
-    votes: &BTreeMap<(Round, u32), Ballot>,
+    votes: &BTreeMap<(Round, u32), HeldVote>,
     round: Round,
     acceptor: u32,
 ) -> Option<&SeqHistory>
     ensures { option_map history_of (option_copied result) ≡ vote_of votes.now.entries round acceptor }
 {
     match votes.get(&(round, acceptor)) {
-        Some(ballot) => Some(ballot.vote()),
+        Some(held) => Some(held.vote()),
         None => None,
     }
 }
 
 /// Holds a vote of an acceptor in a round. Where memory runs out the votes stay as they were.
 pub fn hold(
-    votes: &mut BTreeMap<(Round, u32), Ballot>,
+    votes: &mut BTreeMap<(Round, u32), HeldVote>,
     round: Round,
     acceptor: u32,
     vote: SeqHistory,
@@ -106,7 +106,7 @@ pub fn hold(
     ensures held { OnOk result (votes.new.entries ≡ insert_entry voter_cmp votes.old.entries (round, acceptor) (history_of vote)) }
     ensures unchanged { OnErr result (votes.new.entries ≡ votes.old.entries) }
 {
-    votes.insert((round, acceptor), Ballot::new(vote))?;
+    votes.insert((round, acceptor), HeldVote::new(vote))?;
     Ok(())
 }
 
