@@ -1,0 +1,19 @@
+-- What a call of a source gives.
+use Rattle.std.specs.Prelude.{◌≡◌, ℕ, ◌<◌, ◌≤◌, List, [], ◌++◌, length, take, drop, Option, Some, None, Result, Ok, Err}
+
+-- n bytes of the rest stand at the front of the piece, which has so much room, and are no longer left
+pub record Gives (rest : List ℕ) (left : Option (List ℕ)) (room : ℕ) (piece : List ℕ) (n : ℕ) : Type 0 where
+  pub inside : n ≤ length rest
+  pub front : take n piece ≡ take n rest
+  pub behind : left ≡ Some (drop n rest)
+  pub end : n ≡ 0 → 0 < room → rest ≡ []
+
+-- what a call leaves of the rest, and puts into the piece, which has so much room
+abbrev pub GivesNext : {E : Type 0} → Option (List ℕ) → Option (List ℕ) → ℕ → List ℕ → Result ℕ E → Type 0
+GivesNext None left room piece result = left ≡ None
+GivesNext (Some rest) left room piece (Ok n) = Gives rest left room piece n
+GivesNext (Some rest) left room piece (Err e) = left ≡ Some rest
+
+-- the piece with these bytes at its front
+abbrev pub overlaid : List ℕ → List ℕ → List ℕ
+overlaid bytes piece = bytes ++ drop (length bytes) piece

@@ -1,0 +1,25 @@
+//! Where bytes come from.
+ghost use Rattle.std.specs.Prelude.{ℕ, ◌≤◌, List, length, Option, IfOk, OnErr};
+ghost use Rattle.gp_edge.specs.Faults.{Rose};
+ghost use Rattle.gp_edge.specs.Reads.{GivesNext};
+
+use crate::refusal::Failed;
+
+/// A source of bytes, which are read from its front.
+pub trait Source {
+    /// The bytes that are left, where the source tells them.
+    ghost rest: { Self → Option (List ℕ) };
+
+    /// The count of faults, which never falls. At 2^64 - 1 it need not rise any more.
+    ghost faults: { Self → ℕ };
+
+    /// Puts the next bytes at the front of the piece, and answers how many. For a piece that is not
+    /// empty, 0 is the end of the input.
+    ///
+    /// It fails only where the count of faults rises, or stands at 2^64 - 1. Then the rest stays.
+    fn read(&mut self, into: &mut [u8]) -> Result<usize, Failed>
+        ensures within { IfOk result (λ n. n ≤ length into.old) }
+        ensures next { GivesNext (rest self.old) (rest self.new) (length into.old) into.new result }
+        ensures never_falls { faults self.old ≤ faults self.new }
+        ensures failed { OnErr result (Rose (faults self.old) (faults self.new)) };
+}
