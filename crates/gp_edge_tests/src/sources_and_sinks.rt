@@ -1,0 +1,87 @@
+//! Sources and sinks, call by call.
+use gp_edge::{
+    CalmSink, CalmSource, Failed, MemSink, MemSource, ReadSource, Refused, Sink, Source, WriteSink,
+};
+use std::io;
+use std::io::{Cursor, ErrorKind, Read};
+use std::test::Fail;
+
+// A reader that fails.
+#[derive(Drop)]
+struct Broken;
+
+impl Read for Broken {
+    fn read(&mut self, _buf: &mut [u8]) -> io::Result<usize> {
+        Err(io::Error::from(ErrorKind::BrokenPipe))
+    }
+}
+
+// Whether a read into three bytes answers so, and then these bytes stand there.
+fn reads<S: Source>(source: &mut S, answer: Result<usize, Failed>, bytes: &[u8; 3]) -> bool {
+    let mut piece = *b"---";
+    source.read(&mut piece) == answer && piece == *bytes
+}
+
+#[test]
+fn a_source_loses_no_byte_at_a_failure(rt: HostRuntime) -> Result<(), Fail> {
+    let mut source = MemSource::new(rt.alloc(), b"abcde", 2, &[1])?;
+    assert!(rt; reads(&mut source, Ok(2), b"ab-"));
+    assert!(rt; reads(&mut source, Err(Failed), b"---"));
+    assert!(rt; reads(&mut source, Ok(2), b"cd-"));
+    assert!(rt; reads(&mut source, Ok(1), b"e--"));
+    assert!(rt; reads(&mut source, Ok(0), b"---"));
+    Ok(())
+}
+
+#[test]
+fn a_calm_source_fills_each_piece(rt: HostRuntime) -> Result<(), Fail> {
+    let mut source = CalmSource::new(rt.alloc(), b"abcde")?;
+    assert!(rt; reads(&mut source, Ok(3), b"abc"));
+    assert!(rt; reads(&mut source, Ok(2), b"de-"));
+    assert!(rt; reads(&mut source, Ok(0), b"---"));
+    Ok(())
+}
+
+#[test]
+fn a_sink_writes_nothing_at_a_failure(rt: HostRuntime) -> Result<(), Fail> {
+    let mut sink = MemSink::new(rt.alloc(), 2, &[1])?;
+    assert!(rt; sink.write(b"abc") == Ok(2));
+    assert!(rt; sink.write(b"c") == Err(Refused::Failed));
+    assert!(rt; sink.write(b"c") == Ok(1));
+    assert!(rt; sink.written() == b"abc".as_slice());
+    Ok(())
+}
+
+#[test]
+fn a_calm_sink_takes_whole_pieces(rt: HostRuntime) -> Result<(), Fail> {
+    let mut sink = CalmSink::new(rt.alloc())?;
+    assert!(rt; sink.write(b"abc") == Ok(3));
+    assert!(rt; sink.write(b"de") == Ok(2));
+    assert!(rt; sink.written() == b"abcde".as_slice());
+    Ok(())
+}
+
+#[test]
+fn a_source_over_a_reader_counts_its_failures(rt: HostRuntime) -> Result<(), Fail> {
+    let mut source = ReadSource::new(Cursor::new(*b"abcd"));
+    assert!(rt; reads(&mut source, Ok(3), b"abc"));
+    assert!(rt; reads(&mut source, Ok(1), b"d--"));
+    assert!(rt; reads(&mut source, Ok(0), b"---"));
+    assert!(rt; source.faults() == 0);
+    let mut broken = ReadSource::new(Broken);
+    assert!(rt; reads(&mut broken, Err(Failed), b"---"));
+    assert!(rt; broken.faults() == 1);
+    Ok(())
+}
+
+#[test]
+fn a_sink_over_a_writer_counts_writes_that_take_nothing(rt: HostRuntime) -> Result<(), Fail> {
+    let mut sink = WriteSink::new(Cursor::new([0u8; 3]));
+    assert!(rt; sink.write(b"ab") == Ok(2));
+    assert!(rt; sink.write(b"cd") == Ok(1));
+    assert!(rt; sink.write(b"") == Ok(0));
+    assert!(rt; sink.faults() == 0);
+    assert!(rt; sink.write(b"d") == Ok(0));
+    assert!(rt; sink.faults() == 1);
+    Ok(())
+}
