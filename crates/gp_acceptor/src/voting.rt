@@ -34,9 +34,7 @@ pub fn next_vote(
         return Ok(Some(agreed.into_history()?));
     }
     if voted == round && !is_fast(round.mode) {
-        let mut next = vote.copy()?;
-        join_onto(&mut next, agreed.history())?;
-        return Ok(Some(next));
+        return Ok(Some(join_onto(vote.copy()?, agreed.history())?));
     }
     Ok(None)
 }

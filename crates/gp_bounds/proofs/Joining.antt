@@ -1,13 +1,12 @@
 -- The join by pushes in any order that stands for the history.
-use Rattle.std.proofs.Common.{◌≡◌, ℕ, ◌+◌, true, cond, List, [], ◌∷◌, ◌++◌, take, Some, refl, sym, ap, subst, ◌∙◌}
+use Rattle.std.proofs.Common.{◌≡◌, ℕ, ◌+◌, true, cond, List, [], ◌∷◌, ◌++◌, take, Some, refl, sym, ap, ◌∙◌}
 use Rattle.std.specs.Prelude.{slice_get, None}
 use Rattle.std.specs.Option.{is_some}
-use Rattle.std.specs.Prelude.{Result, Ok, Err, OnErr}
 use Rattle.std.specs.List.{list_any}
 use Rattle.gp_command.specs.declared.command.Command.{Command}
 use Rattle.gp_command.specs.Conflict.{same}
 use Rattle.gp_command.proofs.ConflictLemmas.{same_itself}
-use Rattle.gp_history.specs.History.{History, IsHistory, IsPrefix, has, push, pushes}
+use Rattle.gp_history.specs.History.{History, has, push, pushes}
 use Rattle.gp_history.specs.Sequence.{history_of, place, place_in}
 use Rattle.gp_history.specs.Canonical.{canonical}
 use Rattle.gp_history.specs.Bounds.{join}
@@ -15,7 +14,6 @@ use Rattle.gp_history.proofs.Tests.{left_of, right_of, by_cases, never}
 use Rattle.gp_history.proofs.Sets.{has_history_of}
 use Rattle.gp_history.proofs.Push.{Within, push_there}
 use Rattle.gp_history.proofs.Joins.{history_of-push}
-use Rattle.gp_history.proofs.Bound.{pushed_extends}
 use Rattle.gp_history.proofs.Canonical.{canonical_stands}
 use Rattle.gp_history.proofs.Places.{take_next, starts}
 use Rattle.gp_history.proofs.Alike.{pushed_alike}
@@ -43,14 +41,6 @@ join_step h xs ys new i c d so now is at =
 pub join_past : (h : History) (xs ys : List Command) (i : ℕ) (d : Command) → history_of xs ≡ pushes h (take i ys) → slice_get ys i ≡ Some d → has (history_of xs) d ≡ true → history_of xs ≡ pushes h (take (i + 1) ys)
 join_past h xs ys i d so at p =
     so ∙ sym (push_there (pushes h (take i ys)) d (ap (λ (u : History). has u d) (sym so) ∙ p)) ∙ sym (ap (pushes h) (take_next ys i d at) ∙ pushes_last h (take i ys) d)
-
--- what was made so far extends the first
-pub extended : (h : History) → IsHistory h → (xs cs : List Command) → history_of xs ≡ pushes h cs → IsPrefix h (history_of xs)
-extended h w xs cs so = subst (IsPrefix h) (sym so) (pushed_extends h cs w)
-
-pub on_err : {T E P : Type 0} (r : Result T E) → P → OnErr r P
-on_err (Ok x) p = tt
-on_err (Err e) p = p
 
 -- a command that has a place
 pub found_there : (xs : List Command) (c : Command) → is_some (place_in xs c) ≡ true → has (history_of xs) c ≡ true

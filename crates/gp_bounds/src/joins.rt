@@ -1,6 +1,5 @@
 //! Joins.
-ghost use Rattle.std.specs.Prelude.{◌≡◌, IfOk, OnOk, OnErr, map};
-ghost use Rattle.gp_history.specs.History.{IsPrefix};
+ghost use Rattle.std.specs.Prelude.{◌≡◌, IfOk, map};
 ghost use Rattle.gp_history.specs.Sequence.{history_of};
 ghost use Rattle.gp_history.specs.Bounds.{join, join_all};
 
@@ -16,24 +15,20 @@ use std::alloc::Global;
 pub fn join<H: Hist>(_alloc: Global, a: &H, b: &H) -> Result<H, NoMemory>
     ensures { IfOk result (λ j. history_of (H.sequence j) ≡ join (history_of (H.sequence a.now)) (history_of (H.sequence b.now))) }
 {
-    let mut joined = a.copy()?;
-    join_onto(&mut joined, b)?;
-    Ok(joined)
+    join_onto(a.copy()?, b)
 }
 
-/// Makes the first history the join of both. Where memory runs out it is extended by a part of the
-/// second.
-pub fn join_onto<H: Hist>(a: &mut H, b: &H) -> Result<(), NoMemory>
-    ensures joined { OnOk result (history_of (H.sequence a.new) ≡ join (history_of (H.sequence a.old)) (history_of (H.sequence b.now))) }
-    ensures extended { OnErr result (IsPrefix (history_of (H.sequence a.old)) (history_of (H.sequence a.new))) }
+/// The join of both, made of the first itself. Where memory runs out the first is dropped.
+pub fn join_onto<H: Hist>(mut a: H, b: &H) -> Result<H, NoMemory>
+    ensures { IfOk result (λ j. history_of (H.sequence j) ≡ join (history_of (H.sequence a)) (history_of (H.sequence b.now))) }
 {
-    for i in common_start(a, b)..b.len() {
+    for i in common_start(&a, b)..b.len() {
         let c = b.at(i);
         if a.place_of(c, i).is_none() {
             a.push(c.copy()?)?;
         }
     }
-    Ok(())
+    Ok(a)
 }
 
 /// The join of all elements, from the empty history on.
@@ -45,7 +40,7 @@ pub fn join_all<H: Hist>(alloc: Global, list: &[H]) -> Result<H, NoMemory>
 {
     let mut all = H::empty(alloc)?;
     for h in list {
-        join_onto(&mut all, h)?;
+        all = join_onto(all, h)?;
     }
     Ok(all)
 }

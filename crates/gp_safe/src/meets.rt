@@ -65,10 +65,7 @@ fn with_meet(
     match (joined, met) {
         (None, met) => Ok(met),
         (Some(joined), None) => Ok(Some(joined)),
-        (Some(mut joined), Some(met)) => {
-            join_onto(&mut joined, &met)?;
-            Ok(Some(joined))
-        }
+        (Some(joined), Some(met)) => Ok(Some(join_onto(joined, &met)?)),
     }
 }
 

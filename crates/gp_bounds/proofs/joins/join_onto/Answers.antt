@@ -1,30 +1,19 @@
-use Rattle.std.proofs.Common.{◌≡◌, not, length, take, sym, ap, ◌∙◌, subst, arith}
+use Rattle.std.proofs.Common.{◌≡◌, not, length, take, sym, ap, ◌∙◌, arith}
 use Rattle.std.specs.Option.{is_some}
 use Rattle.std.proofs.Math.Seq.{take-length}
-use Rattle.gp_history.specs.History.{IsPrefix, pushes}
+use Rattle.gp_history.specs.History.{pushes}
 use Rattle.gp_history.specs.Sequence.{history_of}
-use Rattle.gp_history.proofs.Joins.{history_of_is, history_within}
-use Rattle.gp_bounds.proofs.Joining.{join_of_pushes, join_step, join_past, join_start, found_there, extended, on_err}
+use Rattle.gp_history.proofs.Joins.{history_within}
+use Rattle.gp_bounds.proofs.Joining.{join_of_pushes, join_step, join_past, join_start, found_there}
 use Rattle.gp_bounds.proofs.joins.join_onto.Goals as goal
 use Rattle.gp_bounds.proofs.joins.join_onto.Goals.{then-is_none+in_ok-copy+in_ok-push, else-is_none}
 
 pub loop-i-init : goal.loop-i-init
-loop-i-init g c = join_start (g.H.Hist.sequence c.args.a.now) (g.H.Hist.sequence c.args.b.now) c.common_start-i.result c.common_start-i.ensures.alike
-
-pub returns-in_err-copy-clause-extended : goal.returns-in_err-copy-clause-extended
-returns-in_err-copy-clause-extended g c =
-    let xs = g.H.Hist.sequence c.args.a.now in
-    on_err c.from_residual.result (extended (history_of xs) (history_of_is xs) (g.H.Hist.sequence c.loop-i.a) (take c.loop-i.i (g.H.Hist.sequence c.args.b.now)) c.loop-i.invariant)
-
-pub returns-in_err-push-clause-extended : goal.returns-in_err-push-clause-extended
-returns-in_err-push-clause-extended g c =
-    let xs = g.H.Hist.sequence c.args.a.now in
-    let before = extended (history_of xs) (history_of_is xs) (g.H.Hist.sequence c.loop-i.a) (take c.loop-i.i (g.H.Hist.sequence c.args.b.now)) c.loop-i.invariant in
-    on_err c.from_residual-in_err-push.result (subst (λ zs. IsPrefix (history_of xs) (history_of zs)) (sym c.in_err-push.ensures.unchanged) before)
+loop-i-init g c = join_start (g.H.Hist.sequence c.args.a) (g.H.Hist.sequence c.args.b.now) c.common_start-i.result c.common_start-i.ensures.alike
 
 pub loop-i-preserved : goal.loop-i-preserved
 loop-i-preserved g c =
-    let xs = g.H.Hist.sequence c.args.a.now in
+    let xs = g.H.Hist.sequence c.args.a in
     let ys = g.H.Hist.sequence c.args.b.now in
     let d = c.at-c.result.now in
     let joined = g.H.Hist.sequence c.loop-i.a in
@@ -38,9 +27,9 @@ loop-i-preserved g c =
           ∙ join_past (history_of xs) joined ys c.loop-i.i d c.loop-i.invariant c.at-c.ensures there
     ]
 
-pub returns-clause-joined : goal.returns-clause-joined
-returns-clause-joined g c =
-    let xs = g.H.Hist.sequence c.args.a.now in
+pub returns : goal.returns
+returns g c =
+    let xs = g.H.Hist.sequence c.args.a in
     let ys = g.H.Hist.sequence c.args.b.now in
     let end : c.loop-i.i ≡ length ys = omega (arith, c.len-i-end.ensures.items, c.common_start-i.ensures.right) in
     c.loop-i.invariant
