@@ -1,4 +1,4 @@
--- What a call of a source gives.
+-- What a source gives.
 use Rattle.std.specs.Prelude.{◌≡◌, ℕ, ◌<◌, ◌≤◌, List, [], ◌++◌, length, take, drop, Option, Some, None, Result, Ok, Err}
 
 -- n bytes of the rest stand at the front of the piece, which has so much room, and are no longer left
@@ -17,3 +17,13 @@ GivesNext (Some rest) left room piece (Err e) = left ≡ Some rest
 -- the piece with these bytes at its front
 abbrev pub overlaid : List ℕ → List ℕ → List ℕ
 overlaid bytes piece = bytes ++ drop (length bytes) piece
+
+-- these bytes are the rest up to a limit, and are no longer left
+abbrev pub ReadsUpTo : ℕ → Option (List ℕ) → Option (List ℕ) → List ℕ → Type 0
+ReadsUpTo limit None left bytes = left ≡ None
+ReadsUpTo limit (Some rest) left bytes = (bytes ≡ take limit rest) × (left ≡ Some (drop limit rest))
+
+-- some first bytes of the rest, no more than a limit, are no longer left
+abbrev pub LosesUpTo : ℕ → Option (List ℕ) → Option (List ℕ) → Type 0
+LosesUpTo limit None left = left ≡ None
+LosesUpTo limit (Some rest) left = (n : ℕ) × (n ≤ limit) × (left ≡ Some (drop n rest))

@@ -12,7 +12,7 @@ pub struct Failed;
 pub enum Refused {
     /// The object failed, and counted it.
     Failed,
-    /// The object itself found no memory, and counted no fault.
+    /// Memory ran out, and no fault was counted.
     NoMemory,
 }
 
@@ -23,5 +23,15 @@ impl From<AllocError> for Refused {
 
     fn from(_refused: AllocError) -> Refused {
         Refused::NoMemory
+    }
+}
+
+impl From<Failed> for Refused {
+    ghost use Rattle.std.specs.Prelude.{◌≡◌};
+
+    ghost from_gives = { λ _ r. r ≡ refused.Failed };
+
+    fn from(_failed: Failed) -> Refused {
+        Refused::Failed
     }
 }

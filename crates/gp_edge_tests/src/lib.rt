@@ -3,3 +3,5 @@
 
 #[cfg(test)]
 mod sources_and_sinks;
+#[cfg(test)]
+mod whole_reads_and_writes;

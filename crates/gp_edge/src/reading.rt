@@ -1,0 +1,39 @@
+//! Reading a source to its end, or to a limit.
+ghost use Rattle.std.specs.Prelude.{ℕ, ◌≤◌, length, IfOk, OnErr};
+ghost use Rattle.gp_edge.specs.Faults.{Rose, HasFailed};
+ghost use Rattle.gp_edge.specs.Reads.{ReadsUpTo, LosesUpTo};
+
+use crate::refusal::Refused;
+use crate::source::Source;
+use std::alloc::Global;
+
+/// The most bytes that are asked for at once.
+const PIECE: usize = 4096;
+
+/// Reads the next bytes to the end of the input, but no more than `limit` of them.
+///
+/// It answers `Failed` where a read fails, and `NoMemory` where there is none for the bytes. What was
+/// read before a refusal is lost.
+pub fn read_up_to<S: Source>(
+    alloc: Global,
+    source: &mut S,
+    limit: usize,
+) -> Result<Vec<u8>, Refused>
+    ensures within { IfOk result (λ bytes. length bytes.items ≤ limit) }
+    ensures whole { IfOk result (λ bytes. ReadsUpTo limit (S.rest source.old) (S.rest source.new) bytes.items) }
+    ensures refused { OnErr result (LosesUpTo limit (S.rest source.old) (S.rest source.new)) }
+    ensures never_falls { S.faults source.old ≤ S.faults source.new }
+    ensures failed { HasFailed result → Rose (S.faults source.old) (S.faults source.new) }
+{
+    let mut bytes = Vec::new(alloc);
+    let mut piece = [0u8; PIECE];
+    while bytes.len() < limit {
+        let room = (limit - bytes.len()).min(PIECE);
+        let count = source.read(&mut piece[..room])?;
+        if count == 0 {
+            break;
+        }
+        bytes.extend_from_slice(&piece[..count])?;
+    }
+    Ok(bytes)
+}

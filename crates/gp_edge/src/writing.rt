@@ -1,0 +1,28 @@
+//! Writing a whole text to a sink.
+ghost use Rattle.std.specs.Prelude.{◌≡◌, ℕ, ◌≤◌, [], IsOk, OnOk, OnErr};
+ghost use Rattle.gp_edge.specs.Faults.{Rose, HasFailed};
+ghost use Rattle.gp_edge.specs.Writes.{AppendsWhole, AppendsPart};
+
+use crate::refusal::Refused;
+use crate::sink::Sink;
+
+/// Writes the text in as many calls as it takes, and in none where it is empty.
+///
+/// It answers `Failed` where a call fails or takes nothing, and `NoMemory` where the sink found none.
+pub fn write_whole<K: Sink>(sink: &mut K, text: &[u8]) -> Result<(), Refused>
+    ensures whole { OnOk result (AppendsWhole (K.written sink.old) (K.written sink.new) text.now) }
+    ensures refused { OnErr result (AppendsPart (K.written sink.old) (K.written sink.new) text.now) }
+    ensures never_falls { K.faults sink.old ≤ K.faults sink.new }
+    ensures failed { HasFailed result → Rose (K.faults sink.old) (K.faults sink.new) }
+    ensures empty { text.now ≡ [] → IsOk result × (sink.new ≡ sink.old) }
+{
+    let mut done = 0;
+    while done < text.len() {
+        let count = sink.write(&text[done..])?;
+        if count == 0 {
+            return Err(Refused::Failed);
+        }
+        done += count;
+    }
+    Ok(())
+}

@@ -1,0 +1,170 @@
+//! Whole reads and whole writes, in pieces and with failing calls.
+ghost use Rattle.std.specs.Prelude.{ℕ, ◌≤◌};
+
+use gp_edge::{
+    CalmSink, CalmSource, MemSink, MemSource, ReadSource, Refused, Source, WriteSink, read_up_to,
+    write_whole,
+};
+use std::alloc::Global;
+use std::io;
+use std::io::{Cursor, ErrorKind, Read};
+use std::test::Fail;
+
+const FAILED: Result<&str, Refused> = Err(Refused::Failed);
+
+// Whether reading up to a limit answers so.
+fn reads<S: Source>(
+    alloc: Global,
+    source: &mut S,
+    limit: usize,
+    answer: Result<&str, Refused>,
+) -> bool {
+    match (read_up_to(alloc, source, limit), answer) {
+        (Ok(bytes), Ok(text)) => bytes.as_slice() == text.as_bytes(),
+        (Err(refused), Err(wanted)) => refused == wanted,
+        _ => false,
+    }
+}
+
+// Whether `abcde` is read so up to a limit, and then so to its end.
+fn reads_twice(
+    alloc: Global,
+    piece: usize,
+    failing: &[u64],
+    limit: usize,
+    first: Result<&str, Refused>,
+    then: Result<&str, Refused>,
+) -> Result<bool, Fail>
+    requires { 1 ≤ piece }
+{
+    let mut source = MemSource::new(alloc, b"abcde", piece, failing)?;
+    Ok(reads(alloc, &mut source, limit, first) && reads(alloc, &mut source, 100, then))
+}
+
+#[test]
+fn a_source_is_read_to_its_end_or_to_the_limit(rt: HostRuntime) -> Result<(), Fail> {
+    let alloc = rt.alloc();
+    assert!(rt; reads_twice(alloc, 1, &[], 100, Ok("abcde"), Ok(""))?);
+    assert!(rt; reads_twice(alloc, 9, &[], 6, Ok("abcde"), Ok(""))?);
+    assert!(rt; reads_twice(alloc, 9, &[], 5, Ok("abcde"), Ok(""))?);
+    assert!(rt; reads_twice(alloc, 9, &[], 4, Ok("abcd"), Ok("e"))?);
+    assert!(rt; reads_twice(alloc, 2, &[], 3, Ok("abc"), Ok("de"))?);
+    assert!(rt; reads_twice(alloc, 1, &[], 4, Ok("abcd"), Ok("e"))?);
+    assert!(rt; reads_twice(alloc, 9, &[], 0, Ok(""), Ok("abcde"))?);
+    Ok(())
+}
+
+// Calls 0 to 2 give `ab`, `cd` and `e`, and call 3 the end.
+#[test]
+fn each_read_may_fail(rt: HostRuntime) -> Result<(), Fail> {
+    let alloc = rt.alloc();
+    assert!(rt; reads_twice(alloc, 2, &[0], 100, FAILED, Ok("abcde"))?);
+    assert!(rt; reads_twice(alloc, 2, &[1], 100, FAILED, Ok("cde"))?);
+    assert!(rt; reads_twice(alloc, 2, &[2], 100, FAILED, Ok("e"))?);
+    assert!(rt; reads_twice(alloc, 2, &[3], 100, FAILED, Ok(""))?);
+    assert!(rt; reads_twice(alloc, 2, &[4], 100, Ok("abcde"), FAILED)?);
+    Ok(())
+}
+
+// Where the limit is met there is no call for the end.
+#[test]
+fn no_read_follows_the_limit(rt: HostRuntime) -> Result<(), Fail> {
+    let alloc = rt.alloc();
+    assert!(rt; reads_twice(alloc, 9, &[1], 5, Ok("abcde"), FAILED)?);
+    assert!(rt; reads_twice(alloc, 9, &[1], 6, FAILED, Ok(""))?);
+    assert!(rt; reads_twice(alloc, 9, &[0], 0, Ok(""), FAILED)?);
+    Ok(())
+}
+
+#[test]
+fn a_calm_source_is_read_in_more_than_one_piece(rt: HostRuntime) -> Result<(), Fail> {
+    let alloc = rt.alloc();
+    let bytes = vec![in alloc; 7; 10_000]?;
+    let mut source = CalmSource::new(alloc, &bytes)?;
+    assert!(rt; read_up_to(alloc, &mut source, 9_999)?.as_slice() == &bytes[..9_999]);
+    assert!(rt; reads(alloc, &mut source, 9_999, Ok("\u{7}")));
+    Ok(())
+}
+
+// A reader that fails.
+#[derive(Drop)]
+struct Broken;
+
+impl Read for Broken {
+    fn read(&mut self, _buf: &mut [u8]) -> io::Result<usize> {
+        Err(io::Error::from(ErrorKind::BrokenPipe))
+    }
+}
+
+#[test]
+fn a_broken_reader_is_a_failed_read(rt: HostRuntime) -> Result<(), Fail> {
+    let mut source = ReadSource::new(Broken);
+    assert!(rt; reads(rt.alloc(), &mut source, 9, FAILED));
+    assert!(rt; source.faults() == 1);
+    Ok(())
+}
+
+// Whether `abcde` is written so, and then this stands in the sink.
+fn writes(
+    alloc: Global,
+    piece: usize,
+    failing: &[u64],
+    answer: Result<(), Refused>,
+    written: &str,
+) -> Result<bool, Fail>
+    requires { 1 ≤ piece }
+{
+    let mut sink = MemSink::new(alloc, piece, failing)?;
+    Ok(write_whole(&mut sink, b"abcde") == answer && sink.written() == written.as_bytes())
+}
+
+#[test]
+fn a_text_is_written_in_pieces(rt: HostRuntime) -> Result<(), Fail> {
+    let alloc = rt.alloc();
+    assert!(rt; writes(alloc, 1, &[], Ok(()), "abcde")?);
+    assert!(rt; writes(alloc, 2, &[], Ok(()), "abcde")?);
+    assert!(rt; writes(alloc, 9, &[], Ok(()), "abcde")?);
+    Ok(())
+}
+
+// Calls 0 to 2 take `ab`, `cd` and `e`, and there is no call 3.
+#[test]
+fn each_write_may_fail(rt: HostRuntime) -> Result<(), Fail> {
+    let alloc = rt.alloc();
+    assert!(rt; writes(alloc, 2, &[0], Err(Refused::Failed), "")?);
+    assert!(rt; writes(alloc, 2, &[1], Err(Refused::Failed), "ab")?);
+    assert!(rt; writes(alloc, 2, &[2], Err(Refused::Failed), "abcd")?);
+    assert!(rt; writes(alloc, 2, &[3], Ok(()), "abcde")?);
+    Ok(())
+}
+
+#[test]
+fn an_empty_text_makes_no_call(rt: HostRuntime) -> Result<(), Fail> {
+    let mut sink = MemSink::new(rt.alloc(), 9, &[0])?;
+    assert!(rt; write_whole(&mut sink, b"") == Ok(()));
+    assert!(rt; write_whole(&mut sink, b"a") == Err(Refused::Failed));
+    Ok(())
+}
+
+#[test]
+fn a_text_stands_behind_what_was_written(rt: HostRuntime) -> Result<(), Fail> {
+    let mut sink = CalmSink::new(rt.alloc())?;
+    assert!(rt; write_whole(&mut sink, b"ab") == Ok(()));
+    assert!(rt; write_whole(&mut sink, b"cde") == Ok(()));
+    assert!(rt; sink.written() == b"abcde".as_slice());
+    Ok(())
+}
+
+#[test]
+fn a_sink_that_takes_no_more_has_failed(rt: HostRuntime) -> Result<(), Fail> {
+    let mut sink = WriteSink::new(Cursor::new([0u8; 10]));
+    assert!(rt; write_whole(&mut sink, b"0123456") == Ok(()));
+    assert!(rt; write_whole(&mut sink, b"789") == Ok(()));
+    assert!(rt; sink.faults() == 0);
+    assert!(rt; write_whole(&mut sink, b"x") == Err(Refused::Failed));
+    assert!(rt; sink.faults() == 1);
+    let mut sink = WriteSink::new(Cursor::new([0u8; 10]));
+    assert!(rt; write_whole(&mut sink, b"0123456789x") == Err(Refused::Failed));
+    assert!(rt; sink.faults() == 1);
+    Ok(())
+}
