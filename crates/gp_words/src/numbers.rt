@@ -1,0 +1,50 @@
+//! Numbers in decimal.
+ghost use Rattle.std.specs.Prelude.{◌≡◌, ◌++◌, OnOk, OnErr, decimal};
+ghost use Rattle.std.specs.List.{list_all};
+ghost use Rattle.std.specs.Char.{is_ascii_digit};
+ghost use Rattle.gp_words.specs.Numbers.{is_decimal, number_of};
+
+use gp_command::NoMemory;
+use itoa::Buffer;
+
+/// The number that a token spells: digits, without a sign, without a leading zero but for `0` itself,
+/// and at most 18446744073709551615. `None` for every other token. It takes no memory.
+///
+/// What `push_number` writes is read again, and nothing else is read as that number.
+pub fn number_of(token: &[u8]) -> Option<u64>
+    ensures { result ≡ number_of token.now }
+{
+    if !is_decimal(token) {
+        return None;
+    }
+    let Ok(text) = str::from_utf8(token) else {
+        return None;
+    };
+    match text.parse::<u64>() {
+        Ok(number) => Some(number),
+        Err(_) => None,
+    }
+}
+
+/// Appends a number in decimal. Where memory runs out `to` holds what it held.
+pub fn push_number(number: u64, to: &mut Vec<u8>) -> Result<(), NoMemory>
+    ensures written { OnOk result (to.new.items ≡ to.old.items ++ decimal number) }
+    ensures unchanged { OnErr result (to.new.items ≡ to.old.items) }
+{
+    let mut buffer = Buffer::new();
+    to.extend_from_slice(buffer.format(number).as_bytes())?;
+    Ok(())
+}
+
+#[tactic(auto, unfolding(crate::specs::Numbers::is_decimal))]
+fn is_decimal(token: &[u8]) -> bool
+    ensures { result ≡ is_decimal token.now }
+{
+    are_digits(token) && !token.is_empty() && (token[0] != b'0' || token.len() == 1)
+}
+
+fn are_digits(token: &[u8]) -> bool
+    ensures { result ≡ list_all is_ascii_digit token.now }
+{
+    token.iter().all(|byte| byte.is_ascii_digit())
+}
