@@ -1,0 +1,5 @@
+pub mod Operations
+pub mod Touched
+pub mod Forms
+pub mod FormViews
+pub mod Drafts
