@@ -1,0 +1,194 @@
+-- What a line says is admitted, and what is admitted has one line that says it.
+use Rattle.std.proofs.Common.{◌≡◌, ℕ, ◌<◌, ◌≤◌, ◌^◌, true, ◌&&◌, eqb, ltb, leb, List, Option, Some, None, Result, Ok, Err, refl, sym, ap, subst, arith}
+use Rattle.std.specs.Prelude.{decimal}
+use Rattle.std.proofs.lemmas.Bool.{and_parts, eqb-true, ltb-true, leb-true, lt-ltb, le-leb, eq-eqb}
+use Rattle.gp_round.specs.Counts.{Counts}
+use Rattle.gp_round.specs.Ranges.{AreInRange}
+use Rattle.gp_round.specs.Configs.{is_between, is_owner, lead_of}
+use Rattle.gp_round.specs.declared.round.Round.{Round}
+use Rattle.gp_msg.specs.declared.node.Node.{Node}
+use Rattle.gp_msg.specs.declared.node.Node.TheVariants.{Proposer, Coordinator, Acceptor, Learner}
+use Rattle.gp_msg.specs.declared.event.Kept.{Kept}
+use Rattle.gp_msg.specs.declared.event.Kept.TheVariants as kept
+use Rattle.gp_store.specs.declared.op.Op.{Op}
+use Rattle.gp_store.specs.declared.form.OpFault.{OpFault}
+use Rattle.gp_store.specs.Forms.{op_of_form, form_for}
+use Rattle.gp_store.proofs.ReadingLemmas.{op_read, op_again}
+use Rattle.gp_script.specs.declared.reason.Reason.TheVariants.{BadFall}
+use Rattle.gp_script.specs.declared.items.Item.{Item}
+use Rattle.gp_script.specs.declared.items.Item.TheVariants.{Offer, Begin, Take, Fall, Show}
+use Rattle.gp_script.specs.Reasons.{or_reason}
+use Rattle.gp_script.specs.Names.{number, node_of, proposer_of, coordinator_of, learner_of}
+use Rattle.gp_script.specs.Forms.{KeptForm, NothingKept, TakeKept, BeginKept, Form, NodesLine, OfferLine, BeginLine, TakeLine, FallLine, ShowLine}
+use Rattle.gp_script.specs.Items.{round_of, round_count, may_fall, kept_of, node_number, fall_of, item_of}
+use Rattle.gp_script.specs.Admitted.{IsNode, CanKeep, IsAdmitted}
+use Rattle.gp_script.specs.Spelling.{node_word}
+use Rattle.gp_script.proofs.Steps.{step_says, test_then}
+use Rattle.gp_script.proofs.NameLemmas.{number_says, number_read, count_says, count_read, IsNamed, node_says, proposer_says, coordinator_says, learner_says, node_read}
+
+-- the form of the line that says an item
+abbrev pub kept_line : Option Kept → KeptForm
+kept_line None = NothingKept
+kept_line (Some (kept.Take message)) = TakeKept (decimal message)
+kept_line (Some (kept.Begin round)) = BeginKept (decimal round.count) round.mode
+
+abbrev pub line_for : Item → Form
+line_for (Offer proposer op) = OfferLine (node_word (Proposer proposer)) (form_for op)
+line_for (Begin coordinator round) = BeginLine (node_word (Coordinator coordinator)) (decimal round.count) round.mode
+line_for (Take node message) = TakeLine (node_word node) (decimal message)
+line_for (Fall node what) = FallLine (node_word node) (kept_line what)
+line_for (Show learner) = ShowLine (node_word (Learner learner))
+
+-- the form is that of the item's line, and the item is admitted
+pub record IsRead (c : Counts) (form : Form) (item : Item) : Type 0 where
+  pub same : form ≡ line_for item
+  pub admitted : IsAdmitted c item
+
+-- ---- rounds
+
+-- the round is in range, and it is the one that this coordinator begins with its count and mode
+pub record IsOwn (coordinator : ℕ) (round : Round) : Type 0 where
+  pub least : 1 ≤ round.count
+  pub most : round.count ≤ 1000000
+  pub made : round_of coordinator round.count round.mode ≡ round
+
+own_owned : (many n : ℕ) (round : Round) → n < many → IsOwn n round → is_owner many n round ≡ true
+own_owned many n round lt own =
+    subst (λ (r : Round). is_owner many n r ≡ true) own.made
+    (rw (le-leb 1 round.count own.least, le-leb round.count 1000000 own.most, lt-ltb n many lt, eq-eqb (lead_of round.mode n) (lead_of round.mode n) refl) refl)
+
+pub owner_there : (many n : ℕ) (round : Round) → is_owner many n round ≡ true → n < many
+owner_there many n round e = ltb-true n many (and_parts (is_between 1 1000000 round.count) (ltb n many) (and_parts (is_between 1 1000000 round.count && ltb n many) (eqb round.lead (lead_of round.mode n)) e).0).1
+
+pub owned_own : (many n : ℕ) (round : Round) → is_owner many n round ≡ true → IsOwn n round
+owned_own many n round e =
+    let (front, led) = and_parts (is_between 1 1000000 round.count && ltb n many) (eqb round.lead (lead_of round.mode n)) e in
+    let (between, there) = and_parts (is_between 1 1000000 round.count) (ltb n many) front in
+    let (least, most) = and_parts (leb 1 round.count) (leb round.count 1000000) between in
+    let with_lead : ℕ → Round = λ lead. record { count = round.count; mode = round.mode; lead = lead } in
+    record {
+      least = leb-true 1 round.count least;
+      most = leb-true round.count 1000000 most;
+      made = ap with_lead (sym (eqb-true round.lead (lead_of round.mode n) led));
+    }
+
+-- ---- what is read is admitted
+
+or_reason_says : (r : Result Op OpFault) (op : Op) → or_reason r ≡ Ok op → r ≡ Ok op
+or_reason_says (Ok made) op e = cc
+or_reason_says (Err fault) op e = absurd cc
+
+-- what a crash keeps is right, whoever crashes
+abbrev IsKept : ℕ → Option Kept → Type 0
+IsKept n None = Unit {0}
+IsKept n (Some (kept.Take message)) = message < 2 ^ 64
+IsKept n (Some (kept.Begin round)) = IsOwn n round
+
+record IsKeptRead (n : ℕ) (form : KeptForm) (what : Option Kept) : Type 0 where
+  same : form ≡ kept_line what
+  right : IsKept n what
+
+kept_read : (n : ℕ) (form : KeptForm) (what : Option Kept) → kept_of n form ≡ Ok what → IsKeptRead n form what
+kept_read n NothingKept what e = let same : None ≡ what = cc in subst (IsKeptRead n NothingKept) same (record { same = refl; right = tt })
+kept_read n (TakeKept token) what e =
+    let (message, is, e) = step_says (number token) _ what e in
+    let (written, small) = number_says token message is in
+    let same : Some (kept.Take message) ≡ what = cc in
+    subst (IsKeptRead n (TakeKept token)) same (record { same = ap TakeKept written; right = small })
+kept_read n (BeginKept token mode) what e =
+    let (count, is, e) = step_says (round_count token) _ what e in
+    let said = count_says 1 1000000 token count is in
+    let same : Some (kept.Begin (round_of n count mode)) ≡ what = cc in
+    subst (IsKeptRead n (BeginKept token mode)) same (record { same = ap (λ (t : List ℕ). BeginKept t mode) said.written; right = record { least = said.least; most = said.most; made = refl } })
+
+can_keep : (c : Counts) (node : Node) (what : Option Kept) → IsNode c node → may_fall node (kept_line what) ≡ true → IsKept (node_number node) what → CanKeep c node what
+can_keep c (Proposer n) what there may right = absurd cc
+can_keep c (Coordinator n) None there may right = tt
+can_keep c (Coordinator n) (Some (kept.Take message)) there may right = right
+can_keep c (Coordinator n) (Some (kept.Begin round)) there may right = own_owned c.coordinators n round there right
+can_keep c (Acceptor n) None there may right = tt
+can_keep c (Acceptor n) (Some (kept.Take message)) there may right = right
+can_keep c (Acceptor n) (Some (kept.Begin round)) there may right = absurd cc
+can_keep c (Learner n) None there may right = tt
+can_keep c (Learner n) (Some (kept.Take message)) there may right = absurd cc
+can_keep c (Learner n) (Some (kept.Begin round)) there may right = absurd cc
+
+fall_read : (c : Counts) (token : List ℕ) (node : Node) (form : KeptForm) (item : Item) → IsNamed c token node → fall_of node form ≡ Ok item → IsRead c (FallLine token form) item
+fall_read c token node form item named e =
+    let (may, e) = test_then (may_fall node form) _ item BadFall e in
+    let (what, is, e) = step_says (kept_of (node_number node) form) _ item e in
+    let read = kept_read (node_number node) form what is in
+    let same : Fall node what ≡ item = cc in
+    subst (IsRead c (FallLine token form)) same (record {
+      same = cc (named.written, read.same);
+      admitted = (named.there, can_keep c node what named.there (subst (λ (f : KeptForm). may_fall node f ≡ true) read.same may) read.right);
+    })
+
+-- a form that says an item is that of its line, and the item is admitted
+pub item_read : (c : Counts) (form : Form) (item : Item) → item_of c form ≡ Ok item → IsRead c form item
+unfolding item_of
+item_read c (NodesLine a k l) item e = absurd cc
+item_read c (OfferLine token form) item e =
+    let (proposer, is, e) = step_says (proposer_of c token) _ item e in
+    let (op, of_form, e) = step_says (or_reason (op_of_form form)) _ item e in
+    let named = proposer_says c token proposer is in
+    let read = op_read form op (or_reason_says (op_of_form form) op of_form) in
+    let same : Offer proposer op ≡ item = cc in
+    subst (IsRead c (OfferLine token form)) same (record { same = cc (named.written, read.same); admitted = (named.there, read.range) })
+item_read c (BeginLine token counted mode) item e =
+    let (coordinator, is, e) = step_says (coordinator_of c token) _ item e in
+    let (count, is_count, e) = step_says (round_count counted) _ item e in
+    let named = coordinator_says c token coordinator is in
+    let said = count_says 1 1000000 counted count is_count in
+    let same : Begin coordinator (round_of coordinator count mode) ≡ item = cc in
+    subst (IsRead c (BeginLine token counted mode)) same (record {
+      same = cc (named.written, said.written);
+      admitted = own_owned c.coordinators coordinator (round_of coordinator count mode) named.there (record { least = said.least; most = said.most; made = refl });
+    })
+item_read c (TakeLine token counted) item e =
+    let (node, is, e) = step_says (node_of c token) _ item e in
+    let (message, is_message, e) = step_says (number counted) _ item e in
+    let named = node_says c token node is in
+    let (written, small) = number_says counted message is_message in
+    let same : Take node message ≡ item = cc in
+    subst (IsRead c (TakeLine token counted)) same (record { same = cc (named.written, written); admitted = (named.there, small) })
+item_read c (FallLine token form) item e =
+    let (node, is, e) = step_says (node_of c token) _ item e in
+    fall_read c token node form item (node_says c token node is) e
+item_read c (ShowLine token) item e =
+    let (learner, is, e) = step_says (learner_of c token) _ item e in
+    let named = learner_says c token learner is in
+    let same : Show learner ≡ item = cc in
+    subst (IsRead c (ShowLine token)) same (record { same = ap ShowLine named.written; admitted = named.there })
+
+-- what a line says is admitted
+pub item_admitted : (c : Counts) (form : Form) (item : Item) → item_of c form ≡ Ok item → IsAdmitted c item
+item_admitted c form item e = (item_read c form item e).admitted
+
+-- ---- what is admitted is read
+
+fall_again : (c : Counts) (node : Node) (what : Option Kept) → CanKeep c node what → fall_of node (kept_line what) ≡ Ok (Fall node what)
+fall_again c (Proposer n) what can = absurd can
+fall_again c (Coordinator n) None can = refl
+fall_again c (Coordinator n) (Some (kept.Take message)) can = rw (number_read message can) refl
+fall_again c (Coordinator n) (Some (kept.Begin round)) can =
+    let own = owned_own c.coordinators n round can in
+    rw (count_read 1 1000000 round.count (let most = own.most in omega arith) own.least own.most) (ap (λ (r : Round). Ok (Fall (Coordinator n) (Some (kept.Begin r)))) own.made)
+fall_again c (Acceptor n) None can = refl
+fall_again c (Acceptor n) (Some (kept.Take message)) can = rw (number_read message can) refl
+fall_again c (Acceptor n) (Some (kept.Begin round)) can = absurd can
+fall_again c (Learner n) None can = refl
+fall_again c (Learner n) (Some (kept.Take message)) can = absurd can
+fall_again c (Learner n) (Some (kept.Begin round)) can = absurd can
+
+-- the form of an admitted item's line says the item
+pub item_again : (c : Counts) (item : Item) → AreInRange c.acceptors c.coordinators c.learners → IsAdmitted c item → item_of c (line_for item) ≡ Ok item
+unfolding item_of
+item_again c (Offer proposer op) range a = rw (node_read c (Proposer proposer) range a.0, op_again op a.1) refl
+item_again c (Begin coordinator round) range a =
+    let own = owned_own c.coordinators coordinator round a in
+    rw (node_read c (Coordinator coordinator) range (owner_there c.coordinators coordinator round a), count_read 1 1000000 round.count (let most = own.most in omega arith) own.least own.most)
+    (ap (λ (r : Round). Ok (Begin coordinator r)) own.made)
+item_again c (Take node message) range a = rw (node_read c node range a.0, number_read message a.1) refl
+item_again c (Fall node what) range a = rw (node_read c node range a.0) (fall_again c node what a.1)
+item_again c (Show learner) range a = rw (node_read c (Learner learner) range a) refl

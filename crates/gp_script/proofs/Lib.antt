@@ -1,0 +1,6 @@
+pub mod Steps
+pub mod NameLemmas
+pub mod FormLemmas
+pub mod ItemLemmas
+pub mod LineLemmas
+pub mod CountsLemmas

@@ -1,0 +1,303 @@
+-- The line of an item: its words, and how long it is.
+use Rattle.std.proofs.Common.{◌≡◌, ◌≢◌, ℕ, ◌+◌, ◌<◌, ◌≤◌, ◌^◌, Bool, true, false, not, eqb, List, [], ◌∷◌, ◌++◌, length, Option, Some, None, refl, sym, ap, subst, ◌∙◌, arith, append_assoc, length-append}
+use Rattle.std.specs.Prelude.{decimal, codes}
+use Rattle.std.specs.List.{AllByRecursion}
+use Rattle.std.proofs.lemmas.Bool.{and_from, ne_eqb}
+use Rattle.std.proofs.lemmas.Fmt.{decimal_nonempty}
+use Rattle.std.proofs.lemmas.List.{append-nil}
+use Rattle.std.proofs.lemmas.List.Folds.{list_all-append}
+use Rattle.gp_round.specs.Counts.{Counts}
+use Rattle.gp_round.specs.Ranges.{AreInRange}
+use Rattle.gp_round.specs.Configs.{is_owner}
+use Rattle.gp_round.specs.declared.round.Mode.{Mode}
+use Rattle.gp_round.specs.declared.round.Mode.TheVariants.{Single, Multi, Fast}
+use Rattle.gp_round.specs.declared.round.Round.{Round}
+use Rattle.gp_msg.specs.declared.node.Node.{Node}
+use Rattle.gp_msg.specs.declared.node.Node.TheVariants.{Proposer, Coordinator, Acceptor, Learner}
+use Rattle.gp_msg.specs.declared.event.Kept.{Kept}
+use Rattle.gp_msg.specs.declared.event.Kept.TheVariants as kept
+use Rattle.gp_words.specs.Bytes.{Lacks}
+use Rattle.gp_words.specs.Lines.{is_line_feed}
+use Rattle.gp_words.specs.Spacing.{joined}
+use Rattle.gp_words.specs.Tokens.{is_space, tokens_of, has_empty}
+use Rattle.gp_words.proofs.NumberLemmas.{decimal_spaceless, decimal_feedless, decimal_short}
+use Rattle.gp_words.proofs.TokenLemmas.{tokens_split, joined_tokens}
+use Rattle.gp_store.specs.declared.op.Op.{Op}
+use Rattle.gp_store.specs.declared.op.Op.TheVariants.{Put, Add, Get, Del, Cas, Copy, Checkpoint}
+use Rattle.gp_store.specs.Operations.{IsOp, op_words, op_text}
+use Rattle.gp_store.specs.Forms.{form_for}
+use Rattle.gp_store.proofs.SpellingLemmas.{words_spaceless, words_some, text_feedless, text_short}
+use Rattle.gp_store.proofs.ReadingLemmas.{form_again, op_again, words_read}
+use Rattle.gp_script.specs.declared.items.Item.{Item}
+use Rattle.gp_script.specs.declared.items.Item.TheVariants.{Offer, Begin, Take, Fall, Show}
+use Rattle.gp_script.specs.Forms.{Form, form_of}
+use Rattle.gp_script.specs.Items.{node_number}
+use Rattle.gp_script.specs.Admitted.{IsNode, CanKeep, IsAdmitted}
+use Rattle.gp_script.specs.Spelling.{node_word, mode_word, round_words, kept_words, item_line, SaysItem}
+use Rattle.gp_script.specs.Rows.{kept_words_of, HasWords}
+use Rattle.gp_script.proofs.FormLemmas.{form_says, form_read}
+use Rattle.gp_script.proofs.ItemLemmas.{owned_own, owner_there, kept_line, line_for, item_read, item_again}
+
+-- the words of an item's line
+abbrev pub item_words : Item → List (List ℕ)
+item_words (Offer proposer op) = codes "offer" ∷ node_word (Proposer proposer) ∷ op_words op
+item_words (Begin coordinator round) = codes "begin" ∷ node_word (Coordinator coordinator) ∷ decimal round.count ∷ mode_word round.mode ∷ []
+item_words (Take node message) = codes "take" ∷ node_word node ∷ decimal message ∷ []
+item_words (Fall node what) = codes "fall" ∷ node_word node ∷ kept_words_of (kept_line what)
+item_words (Show learner) = codes "show" ∷ node_word (Learner learner) ∷ []
+
+words_there : (item : Item) → item_words item ≢ []
+words_there (Offer proposer op) e = cc
+words_there (Begin coordinator round) e = cc
+words_there (Take node message) e = cc
+words_there (Fall node what) e = cc
+words_there (Show learner) e = cc
+
+-- ---- the line is its words with single spaces between
+
+pub spaced_apart : (w t : List ℕ) → w ++ 32 ∷ t ≡ w ++ codes " " ++ t
+spaced_apart w t = sym (append_assoc w (codes " ") t)
+
+behind_word : (w : List ℕ) (op : Op) → joined (w ∷ op_words op) ≡ w ++ 32 ∷ op_text op
+behind_word w (Put key value) = refl
+behind_word w (Add key value) = refl
+behind_word w (Get key) = refl
+behind_word w (Del key) = refl
+behind_word w (Cas key old new) = refl
+behind_word w (Copy from into) = refl
+behind_word w Checkpoint = refl
+
+words_joined : (item : Item) → joined (item_words item) ≡ item_line item
+words_joined (Offer proposer op) = ap (λ (t : List ℕ). codes "offer " ++ t) (behind_word (node_word (Proposer proposer)) op ∙ spaced_apart (node_word (Proposer proposer)) (op_text op))
+words_joined (Begin coordinator round) =
+    let round_apart = spaced_apart (decimal round.count) (mode_word round.mode) in
+    let node = node_word (Coordinator coordinator) in
+    ap (λ (t : List ℕ). codes "begin " ++ t) (ap (λ (t : List ℕ). node ++ 32 ∷ t) round_apart ∙ spaced_apart node (round_words round))
+words_joined (Take node message) = ap (λ (t : List ℕ). codes "take " ++ t) (spaced_apart (node_word node) (decimal message))
+words_joined (Fall node None) = ap (λ (t : List ℕ). codes "fall " ++ t) (sym (append-nil (node_word node)))
+words_joined (Fall node (Some (kept.Take message))) = refl
+words_joined (Fall node (Some (kept.Begin round))) = ap (λ (t : List ℕ). codes "fall " ++ node_word node ++ (codes " begin " ++ t)) (spaced_apart (decimal round.count) (mode_word round.mode))
+words_joined (Show learner) = refl
+
+-- ---- the words have no spaces, and none is empty
+
+number_small : (c : Counts) (node : Node) → AreInRange c.acceptors c.coordinators c.learners → IsNode c node → node_number node < 2 ^ 64
+number_small c (Proposer n) range lt = omega arith
+number_small c (Coordinator n) range lt = omega arith
+number_small c (Acceptor n) range lt = omega arith
+number_small c (Learner n) range lt = omega arith
+
+node_spaceless : (node : Node) → node_number node < 2 ^ 64 → Lacks is_space (node_word node)
+node_spaceless (Proposer n) lt = decimal_spaceless n lt
+node_spaceless (Coordinator n) lt = decimal_spaceless n lt
+node_spaceless (Acceptor n) lt = decimal_spaceless n lt
+node_spaceless (Learner n) lt = decimal_spaceless n lt
+
+node_feedless : (node : Node) → node_number node < 2 ^ 64 → Lacks is_line_feed (node_word node)
+node_feedless (Proposer n) lt = decimal_feedless n lt
+node_feedless (Coordinator n) lt = decimal_feedless n lt
+node_feedless (Acceptor n) lt = decimal_feedless n lt
+node_feedless (Learner n) lt = decimal_feedless n lt
+
+mode_spaceless : (mode : Mode) → Lacks is_space (mode_word mode)
+mode_spaceless Single = refl
+mode_spaceless Multi = refl
+mode_spaceless Fast = refl
+
+mode_feedless : (mode : Mode) → Lacks is_line_feed (mode_word mode)
+mode_feedless Single = refl
+mode_feedless Multi = refl
+mode_feedless Fast = refl
+
+none_where_some : (word : List ℕ) → 0 < length word → eqb (length word) 0 ≡ false
+none_where_some word lt = ne_eqb (length word) 0 (λ none. omega arith)
+
+node_some : (node : Node) → eqb (length (node_word node)) 0 ≡ false
+node_some (Proposer n) = none_where_some (node_word (Proposer n)) (omega arith)
+node_some (Coordinator n) = none_where_some (node_word (Coordinator n)) (omega arith)
+node_some (Acceptor n) = none_where_some (node_word (Acceptor n)) (omega arith)
+node_some (Learner n) = none_where_some (node_word (Learner n)) (omega arith)
+
+pub number_some : (n : ℕ) → n < 2 ^ 64 → eqb (length (decimal n)) 0 ≡ false
+number_some n lt = none_where_some (decimal n) (decimal_nonempty n lt)
+
+mode_some : (mode : Mode) → eqb (length (mode_word mode)) 0 ≡ false
+mode_some Single = refl
+mode_some Multi = refl
+mode_some Fast = refl
+
+-- the numbers of an item that is admitted are below 2^64
+abbrev KeptFits : Option Kept → Type 0
+KeptFits None = Unit {0}
+KeptFits (Some (kept.Take message)) = message < 2 ^ 64
+KeptFits (Some (kept.Begin round)) = round.count < 2 ^ 64
+
+abbrev ItemFits : Item → Type 0
+ItemFits (Offer proposer op) = (proposer < 2 ^ 64) × IsOp op
+ItemFits (Begin coordinator round) = (coordinator < 2 ^ 64) × (round.count < 2 ^ 64)
+ItemFits (Take node message) = (node_number node < 2 ^ 64) × (message < 2 ^ 64)
+ItemFits (Fall node what) = (node_number node < 2 ^ 64) × KeptFits what
+ItemFits (Show learner) = learner < 2 ^ 64
+
+count_fits : (many n : ℕ) (round : Round) → is_owner many n round ≡ true → round.count < 2 ^ 64
+count_fits many n round owner = let most = (owned_own many n round owner).most in omega arith
+
+kept_fits : (c : Counts) (node : Node) (what : Option Kept) → CanKeep c node what → KeptFits what
+kept_fits c node None can = tt
+kept_fits c (Proposer n) (Some what) can = absurd can
+kept_fits c (Coordinator n) (Some (kept.Take message)) can = can
+kept_fits c (Coordinator n) (Some (kept.Begin round)) can = count_fits c.coordinators n round can
+kept_fits c (Acceptor n) (Some (kept.Take message)) can = can
+kept_fits c (Acceptor n) (Some (kept.Begin round)) can = absurd can
+kept_fits c (Learner n) (Some what) can = absurd can
+
+item_fits : (c : Counts) (item : Item) → AreInRange c.acceptors c.coordinators c.learners → IsAdmitted c item → ItemFits item
+item_fits c (Offer proposer op) range a = (number_small c (Proposer proposer) range a.0, a.1)
+item_fits c (Begin coordinator round) range a = (number_small c (Coordinator coordinator) range (owner_there c.coordinators coordinator round a), count_fits c.coordinators coordinator round a)
+item_fits c (Take node message) range a = (number_small c node range a.0, a.1)
+item_fits c (Fall node what) range a = (number_small c node range a.0, kept_fits c node what a.1)
+item_fits c (Show learner) range a = number_small c (Learner learner) range a
+
+kept_spaceless : (what : Option Kept) → KeptFits what → AllByRecursion (Lacks is_space) (kept_words_of (kept_line what))
+kept_spaceless None f = tt
+kept_spaceless (Some (kept.Take message)) f = (refl, (decimal_spaceless message f, tt))
+kept_spaceless (Some (kept.Begin round)) f = (refl, (decimal_spaceless round.count f, (mode_spaceless round.mode, tt)))
+
+item_spaceless : (item : Item) → ItemFits item → AllByRecursion (Lacks is_space) (item_words item)
+item_spaceless (Offer proposer op) f = (refl, (node_spaceless (Proposer proposer) f.0, words_spaceless op f.1))
+item_spaceless (Begin coordinator round) f = (refl, (node_spaceless (Coordinator coordinator) f.0, (decimal_spaceless round.count f.1, (mode_spaceless round.mode, tt))))
+item_spaceless (Take node message) f = (refl, (node_spaceless node f.0, (decimal_spaceless message f.1, tt)))
+item_spaceless (Fall node what) f = (refl, (node_spaceless node f.0, kept_spaceless what f.1))
+item_spaceless (Show learner) f = (refl, (node_spaceless (Learner learner) f, tt))
+
+kept_some : (what : Option Kept) → KeptFits what → has_empty (kept_words_of (kept_line what)) ≡ false
+kept_some None f = refl
+kept_some (Some (kept.Take message)) f = rw (number_some message f) refl
+kept_some (Some (kept.Begin round)) f = rw (number_some round.count f, mode_some round.mode) refl
+
+item_some : (item : Item) → ItemFits item → has_empty (item_words item) ≡ false
+item_some (Offer proposer op) f = rw (node_some (Proposer proposer)) (words_some op f.1)
+item_some (Begin coordinator round) f = rw (node_some (Coordinator coordinator), number_some round.count f.1, mode_some round.mode) refl
+item_some (Take node message) f = rw (node_some node, number_some message f.1) refl
+item_some (Fall node what) f = rw (node_some node) (kept_some what f.1)
+item_some (Show learner) f = rw (node_some (Learner learner)) refl
+
+-- ---- the line says the item, and no other line does
+
+has_its_words : (item : Item) → HasWords (line_for item) (item_words item)
+has_its_words (Offer proposer op) = (op_words op, form_again op, refl)
+has_its_words (Begin coordinator round) = refl
+has_its_words (Take node message) = refl
+has_its_words (Fall node what) = refl
+has_its_words (Show learner) = refl
+
+tokens_of_fitting : (item : Item) → ItemFits item → tokens_of (item_line item) ≡ item_words item
+tokens_of_fitting item f = ap tokens_of (sym (words_joined item)) ∙ tokens_split (item_words item) (words_there item) (item_spaceless item f)
+
+-- the tokens of an admitted item's line are its words
+pub line_tokens : (c : Counts) (item : Item) → AreInRange c.acceptors c.coordinators c.learners → IsAdmitted c item → tokens_of (item_line item) ≡ item_words item
+line_tokens c item range a = tokens_of_fitting item (item_fits c item range a)
+
+-- the line of an admitted item says the item
+pub line_says : (c : Counts) (item : Item) → AreInRange c.acceptors c.coordinators c.learners → IsAdmitted c item → SaysItem c (tokens_of (item_line item)) item
+line_says c item range a =
+    let f = item_fits c item range a in
+    record {
+      form = line_for item;
+      of_tokens = ap form_of (tokens_of_fitting item f) ∙ form_read (line_for item) (item_words item) (item_some item f) (has_its_words item);
+      said = item_again c item range a;
+    }
+
+only_words : (c : Counts) (item : Item) (words : List (List ℕ)) → IsAdmitted c item → HasWords (line_for item) words → words ≡ item_words item
+only_words c (Offer proposer op) words a (others, is, same) = same ∙ ap (λ (ws : List (List ℕ)). codes "offer" ∷ node_word (Proposer proposer) ∷ ws) (words_read others (form_for op) op is (op_again op a.1))
+only_words c (Begin coordinator round) words a same = same
+only_words c (Take node message) words a same = same
+only_words c (Fall node what) words a same = same
+only_words c (Show learner) words a same = same
+
+-- a text that says an item is the item's line
+pub only_line : (c : Counts) (text : List ℕ) (item : Item) → SaysItem c (tokens_of text) item → text ≡ item_line item
+only_line c text item says =
+    let read = item_read c says.form item says.said in
+    let has = (form_says (tokens_of text) says.form says.of_tokens).1 in
+    let words = only_words c item (tokens_of text) read.admitted (subst (λ (form : Form). HasWords form (tokens_of text)) read.same has) in
+    sym (joined_tokens text) ∙ ap joined words ∙ words_joined item
+
+-- ---- the line has no line feed, and is short
+
+lacks_append : (p : ℕ → Bool) (a b : List ℕ) → Lacks p a → Lacks p b → Lacks p (a ++ b)
+lacks_append p a b x y = list_all-append (λ b. not (p b)) a b ∙ and_from _ _ x y
+
+-- two texts with a space between
+pub feedless_apart : (a b : List ℕ) → Lacks is_line_feed a → Lacks is_line_feed b → Lacks is_line_feed (a ++ codes " " ++ b)
+feedless_apart a b x y = lacks_append is_line_feed (a ++ codes " ") b (lacks_append is_line_feed a (codes " ") x refl) y
+
+pub length_apart : (a b : List ℕ) → length (a ++ codes " " ++ b) ≡ length a + 1 + length b
+length_apart a b = length-append (a ++ codes " ") b ∙ ap (λ n. n + length b) (length-append a (codes " "))
+
+round_feedless : (round : Round) → round.count < 2 ^ 64 → Lacks is_line_feed (round_words round)
+round_feedless round lt = feedless_apart (decimal round.count) (mode_word round.mode) (decimal_feedless round.count lt) (mode_feedless round.mode)
+
+kept_feedless : (what : Option Kept) → KeptFits what → Lacks is_line_feed (kept_words what)
+kept_feedless None f = refl
+kept_feedless (Some (kept.Take message)) f = decimal_feedless message f
+kept_feedless (Some (kept.Begin round)) f = round_feedless round f
+
+line_lacks : (item : Item) → ItemFits item → Lacks is_line_feed (item_line item)
+line_lacks (Offer proposer op) f = feedless_apart (node_word (Proposer proposer)) (op_text op) (node_feedless (Proposer proposer) f.0) (text_feedless op f.1)
+line_lacks (Begin coordinator round) f = feedless_apart (node_word (Coordinator coordinator)) (round_words round) (node_feedless (Coordinator coordinator) f.0) (round_feedless round f.1)
+line_lacks (Take node message) f = feedless_apart (node_word node) (decimal message) (node_feedless node f.0) (decimal_feedless message f.1)
+line_lacks (Fall node what) f = lacks_append is_line_feed (node_word node) (kept_words what) (node_feedless node f.0) (kept_feedless what f.1)
+line_lacks (Show learner) f = decimal_feedless learner f
+
+pub line_feedless : (c : Counts) (item : Item) → AreInRange c.acceptors c.coordinators c.learners → IsAdmitted c item → Lacks is_line_feed (item_line item)
+line_feedless c item range a = line_lacks item (item_fits c item range a)
+
+node_short : (node : Node) → node_number node < 2 ^ 64 → length (node_word node) ≤ 21
+node_short (Proposer n) lt = let short = decimal_short n lt in omega arith
+node_short (Coordinator n) lt = let short = decimal_short n lt in omega arith
+node_short (Acceptor n) lt = let short = decimal_short n lt in omega arith
+node_short (Learner n) lt = let short = decimal_short n lt in omega arith
+
+mode_short : (mode : Mode) → length (mode_word mode) ≤ 6
+mode_short Single = omega arith
+mode_short Multi = omega arith
+mode_short Fast = omega arith
+
+round_short : (round : Round) → round.count < 2 ^ 64 → length (round_words round) ≤ 27
+round_short round lt =
+    let sum = length_apart (decimal round.count) (mode_word round.mode) in
+    let count = decimal_short round.count lt in
+    let mode = mode_short round.mode in
+    omega arith
+
+kept_short : (what : Option Kept) → KeptFits what → length (kept_words what) ≤ 34
+kept_short None f = omega arith
+kept_short (Some (kept.Take message)) f = let short = decimal_short message f in omega arith
+kept_short (Some (kept.Begin round)) f = let short = round_short round f in omega arith
+
+line_length : (item : Item) → ItemFits item → length (item_line item) ≤ 90
+line_length (Offer proposer op) f =
+    let sum = length_apart (node_word (Proposer proposer)) (op_text op) in
+    let node = node_short (Proposer proposer) f.0 in
+    let op = text_short op f.1 in
+    omega arith
+line_length (Begin coordinator round) f =
+    let sum = length_apart (node_word (Coordinator coordinator)) (round_words round) in
+    let node = node_short (Coordinator coordinator) f.0 in
+    let words = round_short round f.1 in
+    omega arith
+line_length (Take node message) f =
+    let sum = length_apart (node_word node) (decimal message) in
+    let node = node_short node f.0 in
+    let number = decimal_short message f.1 in
+    omega arith
+line_length (Fall node what) f =
+    let sum = length-append (node_word node) (kept_words what) in
+    let node = node_short node f.0 in
+    let words = kept_short what f.1 in
+    omega arith
+line_length (Show learner) f = let node = node_short (Learner learner) f in omega arith
+
+pub line_short : (c : Counts) (item : Item) → AreInRange c.acceptors c.coordinators c.learners → IsAdmitted c item → length (item_line item) ≤ 90
+line_short c item range a = line_length item (item_fits c item range a)

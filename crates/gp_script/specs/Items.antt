@@ -1,0 +1,95 @@
+-- What a line says: its tokens from left to right.
+use Rattle.std.specs.Prelude.{ℕ, Bool, true, false, List, Option, Some, None, Result, Ok, Err, if◌then◌else◌}
+use Rattle.gp_round.specs.Counts.{Counts}
+use Rattle.gp_round.specs.Configs.{lead_of}
+use Rattle.gp_round.specs.declared.round.Mode.{Mode}
+use Rattle.gp_round.specs.declared.round.Round.{Round}
+use Rattle.gp_msg.specs.declared.node.Node.{Node}
+use Rattle.gp_msg.specs.declared.node.Node.TheVariants.{Proposer, Coordinator, Acceptor, Learner}
+use Rattle.gp_msg.specs.declared.event.Kept.{Kept}
+use Rattle.gp_msg.specs.declared.event.Kept.TheVariants as kept
+use Rattle.gp_words.specs.Results.{◌>>=◌}
+use Rattle.gp_store.specs.Forms.{op_of_form}
+use Rattle.gp_script.specs.declared.reason.Reason.{Reason}
+use Rattle.gp_script.specs.declared.reason.Reason.TheVariants.{BadLine, BadFall}
+use Rattle.gp_script.specs.declared.items.Item.{Item}
+use Rattle.gp_script.specs.declared.items.Item.TheVariants.{Offer, Begin, Take, Fall, Show}
+use Rattle.gp_script.specs.Reasons.{or_reason}
+use Rattle.gp_script.specs.Names.{number, count_of, node_of, proposer_of, coordinator_of, learner_of}
+use Rattle.gp_script.specs.Forms.{Form, NodesLine, OfferLine, BeginLine, TakeLine, FallLine, ShowLine, KeptForm, NothingKept, TakeKept, BeginKept}
+
+-- the round that this coordinator begins
+abbrev pub round_of : ℕ → ℕ → Mode → Round
+round_of coordinator count mode = record { count = count; mode = mode; lead = lead_of mode coordinator }
+
+-- a count of rounds
+abbrev pub round_count : List ℕ → Result ℕ Reason
+round_count = count_of 1 1000000
+
+-- whether a node of this kind can fall so: proposers never, learners keep nothing, acceptors begin nothing
+abbrev pub may_fall : Node → KeptForm → Bool
+may_fall (Proposer n) form = false
+may_fall (Coordinator n) form = true
+may_fall (Acceptor n) NothingKept = true
+may_fall (Acceptor n) (TakeKept message) = true
+may_fall (Acceptor n) (BeginKept count mode) = false
+may_fall (Learner n) NothingKept = true
+may_fall (Learner n) (TakeKept message) = false
+may_fall (Learner n) (BeginKept count mode) = false
+
+-- the step that a node keeps
+abbrev pub kept_of : ℕ → KeptForm → Result (Option Kept) Reason
+kept_of number_of_node NothingKept = Ok None
+kept_of number_of_node (TakeKept message) = do
+  m ← number message
+  Ok (Some (kept.Take m))
+kept_of number_of_node (BeginKept count mode) = do
+  n ← round_count count
+  Ok (Some (kept.Begin (round_of number_of_node n mode)))
+
+-- a node's number among those of its kind
+abbrev pub node_number : Node → ℕ
+node_number (Proposer n) = n
+node_number (Coordinator n) = n
+node_number (Acceptor n) = n
+node_number (Learner n) = n
+
+-- a crash of this node
+abbrev pub fall_of : Node → KeptForm → Result Item Reason
+fall_of node form =
+    if may_fall node form then (kept_of (node_number node) form >>= (λ kept. Ok (Fall node kept))) else Err BadFall
+
+-- what a line behind the `nodes` line says
+unfoldable pub item_of : Counts → Form → Result Item Reason
+item_of c (NodesLine acceptors coordinators learners) = Err BadLine
+item_of c (OfferLine node form) = do
+  proposer ← proposer_of c node
+  op ← or_reason (op_of_form form)
+  Ok (Offer proposer op)
+item_of c (BeginLine node count mode) = do
+  coordinator ← coordinator_of c node
+  n ← round_count count
+  Ok (Begin coordinator (round_of coordinator n mode))
+item_of c (TakeLine node message) = do
+  n ← node_of c node
+  m ← number message
+  Ok (Take n m)
+item_of c (FallLine node form) = do
+  n ← node_of c node
+  fall_of n form
+item_of c (ShowLine node) = do
+  learner ← learner_of c node
+  Ok (Show learner)
+
+-- what the `nodes` line says
+unfoldable pub counts_of : Form → Result Counts Reason
+counts_of (NodesLine acceptors coordinators learners) = do
+  a ← count_of 3 7 acceptors
+  c ← count_of 1 5 coordinators
+  l ← count_of 1 4 learners
+  Ok (record { acceptors = a; coordinators = c; learners = l })
+counts_of (OfferLine node form) = Err BadLine
+counts_of (BeginLine node count mode) = Err BadLine
+counts_of (TakeLine node message) = Err BadLine
+counts_of (FallLine node form) = Err BadLine
+counts_of (ShowLine node) = Err BadLine

@@ -1,0 +1,17 @@
+-- Why what a line's words say is refused.
+use Rattle.std.specs.Prelude.{Result, Ok, Err}
+use Rattle.gp_store.specs.declared.op.Op.{Op}
+use Rattle.gp_store.specs.declared.form.OpFault.{OpFault}
+use Rattle.gp_store.specs.declared.form.OpFault.TheVariants as fault
+use Rattle.gp_script.specs.declared.reason.Reason.{Reason}
+use Rattle.gp_script.specs.declared.reason.Reason.TheVariants.{BadNumber, BadKey}
+
+-- why a line is refused whose operation has a fault
+abbrev pub fault_reason : OpFault → Reason
+fault_reason fault.BadKey = BadKey
+fault_reason fault.BadNumber = BadNumber
+
+-- the operation, or why the line is refused
+abbrev pub or_reason : Result Op OpFault → Result Op Reason
+or_reason (Ok op) = Ok op
+or_reason (Err fault) = Err (fault_reason fault)

@@ -1,0 +1,62 @@
+-- The one line that says an item, and the one that says a configuration.
+use Rattle.std.specs.Prelude.{◌≡◌, ℕ, List, ◌++◌, Option, Some, None, Ok, codes, decimal}
+use Rattle.gp_round.specs.Counts.{Counts}
+use Rattle.gp_round.specs.declared.round.Mode.{Mode}
+use Rattle.gp_round.specs.declared.round.Mode.TheVariants.{Single, Multi, Fast}
+use Rattle.gp_round.specs.declared.round.Round.{Round}
+use Rattle.gp_msg.specs.declared.node.Node.{Node}
+use Rattle.gp_msg.specs.declared.node.Node.TheVariants.{Proposer, Coordinator, Acceptor, Learner}
+use Rattle.gp_msg.specs.declared.event.Kept.{Kept}
+use Rattle.gp_msg.specs.declared.event.Kept.TheVariants as kept
+use Rattle.gp_store.specs.Operations.{op_text}
+use Rattle.gp_script.specs.declared.items.Item.{Item}
+use Rattle.gp_script.specs.declared.items.Item.TheVariants.{Offer, Begin, Take, Fall, Show}
+use Rattle.gp_script.specs.Forms.{Form, form_of}
+use Rattle.gp_script.specs.Items.{item_of, counts_of}
+
+-- a node's letter and number
+abbrev pub node_word : Node → List ℕ
+node_word (Proposer n) = codes "p" ++ decimal n
+node_word (Coordinator n) = codes "c" ++ decimal n
+node_word (Acceptor n) = codes "a" ++ decimal n
+node_word (Learner n) = codes "l" ++ decimal n
+
+-- the name of a mode
+abbrev pub mode_word : Mode → List ℕ
+mode_word Single = codes "single"
+mode_word Multi = codes "multi"
+mode_word Fast = codes "fast"
+
+-- the count and the mode of a round; whose round it is stands elsewhere in the line
+abbrev pub round_words : Round → List ℕ
+round_words r = decimal r.count ++ codes " " ++ mode_word r.mode
+
+-- the step that a crash keeps, behind the node
+abbrev pub kept_words : Option Kept → List ℕ
+kept_words None = codes ""
+kept_words (Some (kept.Take message)) = codes " take " ++ decimal message
+kept_words (Some (kept.Begin round)) = codes " begin " ++ round_words round
+
+-- the line that says an item
+abbrev pub item_line : Item → List ℕ
+item_line (Offer proposer op) = codes "offer " ++ node_word (Proposer proposer) ++ codes " " ++ op_text op
+item_line (Begin coordinator round) = codes "begin " ++ node_word (Coordinator coordinator) ++ codes " " ++ round_words round
+item_line (Take node message) = codes "take " ++ node_word node ++ codes " " ++ decimal message
+item_line (Fall node what) = codes "fall " ++ node_word node ++ kept_words what
+item_line (Show learner) = codes "show " ++ node_word (Learner learner)
+
+-- the line that says a configuration
+abbrev pub nodes_text : Counts → List ℕ
+nodes_text c = codes "nodes " ++ decimal c.acceptors ++ codes " " ++ decimal c.coordinators ++ codes " " ++ decimal c.learners
+
+-- these tokens are a line of the table, and it says this item
+pub record SaysItem (c : Counts) (tokens : List (List ℕ)) (item : Item) : Type 0 where
+  pub form : Form
+  pub of_tokens : form_of tokens ≡ Some form
+  pub said : item_of c form ≡ Ok item
+
+-- these tokens are a line of the table, and it says this configuration
+pub record SaysCounts (tokens : List (List ℕ)) (counts : Counts) : Type 0 where
+  pub form : Form
+  pub of_tokens : form_of tokens ≡ Some form
+  pub said : counts_of form ≡ Ok counts

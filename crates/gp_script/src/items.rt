@@ -1,0 +1,132 @@
+//! What lines say.
+ghost use Rattle.std.specs.Prelude.{◌≡◌};
+ghost use Rattle.gp_script.specs.Items.{round_of, round_count, may_fall, kept_of, node_number, fall_of, item_of, counts_of};
+ghost use Rattle.gp_script.specs.FormViews.{form_view, kept_view};
+
+use crate::forms::{Form, KeptForm};
+use crate::names::{coordinator_of, count_of, learner_of, node_of, number, proposer_of};
+use crate::reason::Reason;
+use gp_msg::{Kept, Node};
+use gp_round::{Config, Mode, Round};
+use gp_store::{Op, op_of_form};
+
+/// What a line behind the `nodes` line says.
+#[derive(Clone, Copy, Debug, PartialEq, Eq)]
+pub enum Item {
+    /// A proposer is given an operation to offer.
+    Offer { proposer: u32, op: Op },
+    /// A coordinator begins a round.
+    Begin { coordinator: u32, round: Round },
+    /// A node takes a message.
+    Take { node: Node, message: u64 },
+    /// A node crashes and starts again.
+    Fall { node: Node, kept: Option<Kept> },
+    /// The learned line of this learner is printed; no event.
+    Show { learner: u32 },
+}
+
+fn round_of(coordinator: u32, count: u32, mode: Mode) -> Round
+    ensures { result ≡ round_of coordinator count mode }
+{
+    let lead = match mode {
+        Mode::Multi => 0,
+        Mode::Single | Mode::Fast => coordinator,
+    };
+    Round { count, mode, lead }
+}
+
+fn round_count(token: &[u8]) -> Result<u32, Reason>
+    ensures { result ≡ round_count token.now }
+{
+    count_of(1, 1_000_000, token)
+}
+
+fn may_fall(node: Node, form: KeptForm<'_>) -> bool
+    ensures { result ≡ may_fall node (kept_view form.entry) }
+{
+    match (node, form) {
+        (Node::Proposer(_), _) => false,
+        (Node::Coordinator(_), _) => true,
+        (Node::Acceptor(_), KeptForm::Begin(_, _)) => false,
+        (Node::Acceptor(_), _) => true,
+        (Node::Learner(_), KeptForm::Nothing) => true,
+        (Node::Learner(_), _) => false,
+    }
+}
+
+fn kept_of(number_of_node: u32, form: KeptForm<'_>) -> Result<Option<Kept>, Reason>
+    ensures { result ≡ kept_of number_of_node (kept_view form.entry) }
+{
+    match form {
+        KeptForm::Nothing => Ok(None),
+        KeptForm::Take(message) => Ok(Some(Kept::Take(number(message)?))),
+        KeptForm::Begin(count, mode) => {
+            let count = round_count(count)?;
+            Ok(Some(Kept::Begin(round_of(number_of_node, count, mode))))
+        }
+    }
+}
+
+fn node_number(node: Node) -> u32
+    ensures { result ≡ node_number node }
+{
+    match node {
+        Node::Proposer(number)
+        | Node::Coordinator(number)
+        | Node::Acceptor(number)
+        | Node::Learner(number) => number,
+    }
+}
+
+fn fall_of(node: Node, form: KeptForm<'_>) -> Result<Item, Reason>
+    ensures { result ≡ fall_of node (kept_view form.entry) }
+{
+    if !may_fall(node, form) {
+        return Err(Reason::BadFall);
+    }
+    let kept = kept_of(node_number(node), form)?;
+    Ok(Item::Fall { node, kept })
+}
+
+/// What a line behind the `nodes` line says, its tokens read from left to right. It takes no memory.
+#[tactic(auto, unfolding(crate::specs::Items::item_of))]
+pub fn item_of(config: &Config, line: Form<'_>) -> Result<Item, Reason>
+    ensures { result ≡ item_of config.now (form_view line.entry) }
+{
+    match line {
+        Form::Nodes(_, _, _) => Err(Reason::BadLine),
+        Form::Offer(node, operation) => {
+            let proposer = proposer_of(config, node)?;
+            let op = op_of_form(operation)?;
+            Ok(Item::Offer { proposer, op })
+        }
+        Form::Begin(node, count, mode) => {
+            let coordinator = coordinator_of(config, node)?;
+            let round = round_of(coordinator, round_count(count)?, mode);
+            Ok(Item::Begin { coordinator, round })
+        }
+        Form::Take(node, message) => {
+            let node = node_of(config, node)?;
+            let message = number(message)?;
+            Ok(Item::Take { node, message })
+        }
+        Form::Fall(node, kept) => fall_of(node_of(config, node)?, kept),
+        Form::Show(node) => Ok(Item::Show {
+            learner: learner_of(config, node)?,
+        }),
+    }
+}
+
+/// The configuration that the `nodes` line says. It takes no memory.
+#[tactic(auto, unfolding(crate::specs::Items::counts_of))]
+pub fn config_of(line: Form<'_>) -> Result<Config, Reason>
+    ensures { result ≡ counts_of (form_view line.entry) }
+{
+    let Form::Nodes(acceptors, coordinators, learners) = line else {
+        return Err(Reason::BadLine);
+    };
+    let acceptors = count_of(3, 7, acceptors)?;
+    let coordinators = count_of(1, 5, coordinators)?;
+    let learners = count_of(1, 4, learners)?;
+    Ok(Config::new(acceptors, coordinators, learners)?)
+}

@@ -1,0 +1,47 @@
+//! Laws of the lines of a script. Each function is there for its contract, which is the law.
+ghost use Rattle.std.specs.Prelude.{◌≡◌, ◌≤◌, ◌↔◌, ℕ, false, List, Some, Ok, length};
+ghost use Rattle.gp_round.specs.Counts.{Counts};
+ghost use Rattle.gp_round.specs.Ranges.{AreInRange};
+ghost use Rattle.gp_words.specs.Bytes.{Lacks};
+ghost use Rattle.gp_words.specs.Lines.{is_line_feed};
+ghost use Rattle.gp_words.specs.Tokens.{tokens_of, has_empty};
+ghost use Rattle.gp_script.specs.declared.items.Item.{Item};
+ghost use Rattle.gp_script.specs.Forms.{Form, form_of};
+ghost use Rattle.gp_script.specs.Items.{item_of, counts_of};
+ghost use Rattle.gp_script.specs.Admitted.{IsAdmitted};
+ghost use Rattle.gp_script.specs.Rows.{HasWords};
+ghost use Rattle.gp_script.specs.Spelling.{item_line, nodes_text, SaysItem, SaysCounts};
+
+/// A line is one of the table exactly where it has the words of a row, and none of them is empty.
+pub fn a_line_has_the_words_of_its_row()
+    ensures { (tokens : List (List ℕ)) (form : Form) → (form_of tokens ≡ Some form) ↔ ((has_empty tokens ≡ false) × HasWords form tokens) }
+{}
+
+/// What a line says is right for the configuration: its nodes are there, a round that is begun or
+/// kept is its coordinator's own, and a node crashes only as one of its kind can.
+pub fn what_a_line_says_is_admitted()
+    ensures { (c : Counts) (form : Form) (item : Item) → item_of c form ≡ Ok item → IsAdmitted c item }
+{}
+
+/// All that is right for a configuration has a line that says it, and no other text says it. So
+/// what `item_of` reads is what these lines say, and nothing else.
+pub fn an_item_has_one_line()
+    ensures read { (c : Counts) (item : Item) → AreInRange c.acceptors c.coordinators c.learners → IsAdmitted c item → SaysItem c (tokens_of (item_line item)) item }
+    ensures only { (c : Counts) (text : List ℕ) (item : Item) → SaysItem c (tokens_of text) item → text ≡ item_line item }
+{}
+
+/// Every configuration has a line that says it, no other text says it, and no line says a
+/// configuration that is out of range.
+pub fn a_configuration_has_one_line()
+    ensures read { (c : Counts) → AreInRange c.acceptors c.coordinators c.learners → SaysCounts (tokens_of (nodes_text c)) c }
+    ensures only { (text : List ℕ) (c : Counts) → SaysCounts (tokens_of text) c → text ≡ nodes_text c }
+    ensures range { (form : Form) (c : Counts) → counts_of form ≡ Ok c → AreInRange c.acceptors c.coordinators c.learners }
+{}
+
+/// A line that says an item or a configuration has no line feed inside, and at most 90 bytes.
+pub fn lines_are_short()
+    ensures item_feedless { (c : Counts) (item : Item) → AreInRange c.acceptors c.coordinators c.learners → IsAdmitted c item → Lacks is_line_feed (item_line item) }
+    ensures item_short { (c : Counts) (item : Item) → AreInRange c.acceptors c.coordinators c.learners → IsAdmitted c item → length (item_line item) ≤ 90 }
+    ensures nodes_feedless { (c : Counts) → AreInRange c.acceptors c.coordinators c.learners → Lacks is_line_feed (nodes_text c) }
+    ensures nodes_short { (c : Counts) → AreInRange c.acceptors c.coordinators c.learners → length (nodes_text c) ≤ 90 }
+{}

@@ -1,0 +1,52 @@
+//! Why a script is refused.
+ghost use Rattle.std.specs.Prelude.{◌≡◌};
+ghost use Rattle.gp_script.specs.declared.reason.Reason.TheVariants as variant;
+ghost use Rattle.gp_script.specs.Reasons.{fault_reason};
+
+use gp_store::OpFault;
+
+/// Why a line of a script is refused. The first cause in the order of a line's tokens decides.
+#[derive(Clone, Copy, Debug, PartialEq, Eq)]
+pub enum Reason {
+    /// The line holds the byte at place 1,048,576 of the input, counted from 0.
+    TooLong,
+    /// The first line that is not passed over is no `nodes` line, or there is no such line.
+    NoNodesLine,
+    /// The first word is unknown, a second `nodes`, or the other words are not those of the table.
+    BadLine,
+    /// A number is not spelled in decimal without leading zeros, or is 2^64 or more.
+    BadNumber,
+    /// A number of nodes, or the count of a round, is out of range.
+    BadCount,
+    /// A key is not 1 to 16 bytes of `a` to `z`, `0` to `9` and `_`.
+    BadKey,
+    /// There is no such node, or one of its kind cannot stand here.
+    NoNode,
+    /// A node of this kind cannot crash so.
+    BadFall,
+    /// The message is not there yet.
+    NoMessage,
+    /// It is the 257th offer.
+    TooManyCommands,
+    /// It is the 8,193rd event.
+    TooManyEvents,
+}
+
+impl From<OpFault> for Reason {
+    ghost from_gives = { λ fault reason. reason ≡ fault_reason fault };
+
+    fn from(fault: OpFault) -> Reason {
+        match fault {
+            OpFault::BadKey => Reason::BadKey,
+            OpFault::BadNumber => Reason::BadNumber,
+        }
+    }
+}
+
+impl From<gp_round::BadCount> for Reason {
+    ghost from_gives = { λ _ reason. reason ≡ variant.BadCount };
+
+    fn from(_refused: gp_round::BadCount) -> Reason {
+        Reason::BadCount
+    }
+}
