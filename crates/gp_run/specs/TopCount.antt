@@ -1,0 +1,59 @@
+-- The rounds of a run, and the greatest count among them.
+use Rattle.std.specs.Prelude.{ℕ, zero, suc, List, [], ◌∷◌, ◌++◌, map, max, Option, Some, None}
+use Rattle.std.specs.List.{flat_map}
+use Rattle.gp_round.specs.declared.round.Round.{Round}
+use Rattle.gp_round.specs.Counts.{Counts}
+use Rattle.gp_safe.specs.Choice.{Reply}
+use Rattle.gp_msg.specs.Messages.{Message, Proposed, Asked, Answered, Sent, Voted, Entry}
+use Rattle.gp_coordinator.specs.State.{CoordinatorState}
+use Rattle.gp_acceptor.specs.State.{AcceptorState}
+use Rattle.gp_learner.specs.State.{LearnerState}
+use Rattle.gp_run.specs.Messages.{messages}
+use Rattle.gp_run.specs.States.{coordinator_at, acceptor_at, learner_at}
+
+-- the rounds in a message
+abbrev pub rounds_of : Message → List Round
+rounds_of (Proposed c) = []
+rounds_of (Asked r) = r ∷ []
+rounds_of (Answered r a q v) = r ∷ q ∷ []
+rounds_of (Sent r c v) = r ∷ []
+rounds_of (Voted r a v) = r ∷ []
+
+-- the round of the vote in an answer
+abbrev pub reply_rounds : Option Reply → List Round
+reply_rounds None = []
+reply_rounds (Some reply) = reply.round ∷ []
+
+-- the rounds in the state of a coordinator: its own, and those of the votes that acceptors answered
+abbrev pub coordinator_rounds : CoordinatorState → List Round
+coordinator_rounds s = s.round ∷ flat_map reply_rounds s.answers
+
+-- the rounds in the state of an acceptor
+abbrev pub acceptor_rounds : AcceptorState → List Round
+acceptor_rounds s = s.round ∷ s.voted ∷ []
+
+-- the rounds in the state of a learner: those of the votes that it holds
+abbrev pub learner_rounds : LearnerState → List Round
+learner_rounds s = map (λ v. v.0.0) s.votes
+
+-- the rounds of the nodes of one kind, of which there are n
+abbrev pub rounds_below : ℕ → (ℕ → List Round) → List Round
+rounds_below zero f = []
+rounds_below (suc n) f = rounds_below n f ++ f n
+
+-- all rounds in the messages and the nodes of a run
+abbrev pub rounds_in : Counts → List Entry → List Round
+rounds_in config es =
+    flat_map rounds_of (messages es)
+    ++ rounds_below config.coordinators (λ c. coordinator_rounds (coordinator_at config c es))
+    ++ rounds_below config.acceptors (λ a. acceptor_rounds (acceptor_at config a es))
+    ++ rounds_below config.learners (λ l. learner_rounds (learner_at config l es))
+
+-- the greatest count of some rounds, and 0 where there are none
+abbrev pub greatest_count : List Round → ℕ
+greatest_count [] = 0
+greatest_count (r ∷ rs) = max r.count (greatest_count rs)
+
+-- the greatest count of a round in a message or a node
+abbrev pub top_count : Counts → List Entry → ℕ
+top_count config es = greatest_count (rounds_in config es)
