@@ -5,3 +5,5 @@ pub mod Owning
 pub mod Counting
 pub mod RoleRounds
 pub mod GreatestRounds
+pub mod Telling
+pub mod Others

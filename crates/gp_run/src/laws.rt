@@ -1,12 +1,16 @@
 //! Laws of runs. Each function does nothing, and its contract is the law.
-ghost use Rattle.std.specs.Prelude.{◌≡◌, ◌↔◌, ◌++◌, ◌≤◌, ℕ, List, [], ◌∷◌, true, None, length};
+ghost use Rattle.std.specs.Prelude.{◌≡◌, ◌↔◌, ◌++◌, ◌≤◌, ℕ, List, [], ◌∷◌, true, None, length, map};
 ghost use Rattle.gp_round.specs.Counts.{Counts};
+ghost use Rattle.gp_msg.specs.declared.node.Node.TheVariants as Node;
 ghost use Rattle.gp_msg.specs.declared.event.Event.{Event};
-ghost use Rattle.gp_msg.specs.Messages.{Entry};
-ghost use Rattle.gp_run.specs.Legal.{fits, Legal};
+ghost use Rattle.gp_msg.specs.declared.record.Record.{Record};
+ghost use Rattle.gp_msg.specs.Messages.{Entry, entry_of, message_of};
+ghost use Rattle.gp_run.specs.Nodes.{node_of};
+ghost use Rattle.gp_run.specs.Messages.{messages, messages_in};
+ghost use Rattle.gp_run.specs.Legal.{fits, Legal, Follows};
 ghost use Rattle.gp_run.specs.Refusals.{refusal};
-ghost use Rattle.gp_run.specs.Runs.{run_onto, run_of, events_of, AllFit};
-ghost use Rattle.gp_run.specs.States.{coordinator_at, proposer_at};
+ghost use Rattle.gp_run.specs.Runs.{run_onto, run_of, events_of, entries_in, AllFit, AreOfOthers};
+ghost use Rattle.gp_run.specs.States.{proposer_at, coordinator_at, acceptor_at, learner_at};
 ghost use Rattle.gp_run.specs.TopCount.{top_count, greatest_count, rounds_below};
 
 /// An event is refused exactly where it does not fit.
@@ -28,6 +32,30 @@ pub fn a_legal_run_is_that_of_its_events()
 /// The run of two lists of events is that of the second on top of that of the first.
 pub fn a_run_goes_on()
     ensures { (config : Counts) (es : List Entry) (first second : List Event) → run_onto config es (first ++ second) ≡ run_onto config (run_onto config es first) second }
+{}
+
+/// Records tell a run: one more record is one more entry, and the messages are the same.
+pub fn records_tell_a_run()
+    ensures entry { (records : List Record) (last : Record) → entries_in (records ++ last ∷ []) ≡ entry_of last ∷ entries_in records }
+    ensures same { (records : List Record) → messages (entries_in records) ≡ map message_of (messages_in records) }
+{}
+
+/// Later entries put their messages behind those that stand, so message k stays message k.
+pub fn messages_are_only_added()
+    ensures { (later earlier : List Entry) → messages (later ++ earlier) ≡ messages earlier ++ messages later }
+{}
+
+/// The events of other nodes change nothing at a node.
+pub fn a_node_changes_by_its_own_events_alone()
+    ensures proposers { (p : ℕ) (more es : List Entry) → AreOfOthers (Node.Proposer p) more → proposer_at p (more ++ es) ≡ proposer_at p es }
+    ensures coordinators { (config : Counts) (c : ℕ) (more es : List Entry) → AreOfOthers (Node.Coordinator c) more → coordinator_at config c (more ++ es) ≡ coordinator_at config c es }
+    ensures acceptors { (config : Counts) (a : ℕ) (more es : List Entry) → AreOfOthers (Node.Acceptor a) more → acceptor_at config a (more ++ es) ≡ acceptor_at config a es }
+    ensures learners { (config : Counts) (l : ℕ) (more es : List Entry) → AreOfOthers (Node.Learner l) more → learner_at config l (more ++ es) ≡ learner_at config l es }
+{}
+
+/// An entry that follows a run follows it still where entries of other nodes were added.
+pub fn an_entry_still_follows_behind_those_of_other_nodes()
+    ensures { (config : Counts) (more es : List Entry) (e : Entry) → Follows config es e → AreOfOthers (node_of e.event) more → Follows config (more ++ es) e }
 {}
 
 /// A proposer has had no more offers than there are entries.
