@@ -1,0 +1,11 @@
+use Rattle.gp_cstructs.proofs.ProtocolLaws.{lawful}
+use Rattle.gp_cstructs.proofs.CommandLaws.{commands_kept}
+use Rattle.gp_cstructs.proofs.Runs.{happens_keeps}
+use Rattle.gp_cstructs.proofs.OfferedCommands.{happens_offers}
+use Rattle.gp_cstructs.proofs.laws.each_step_keeps_the_facts.Goals as goal
+
+pub returns-clause-facts : goal.returns-clause-facts
+returns-clause-facts g c a k some w e facts fits = happens_keeps (lawful g.V.CStructs.operations g.met.V.CStructs.laws a k some) w facts e fits
+
+pub returns-clause-offered : goal.returns-clause-offered
+returns-clause-offered g c a k w e offered fits = happens_offers (commands_kept g.V.CStructs.operations g.met.V.CStructs.laws a k) w offered e fits

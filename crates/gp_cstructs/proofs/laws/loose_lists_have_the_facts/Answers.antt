@@ -1,0 +1,11 @@
+use Rattle.gp_cstructs.proofs.ProtocolLaws.{lawful}
+use Rattle.gp_cstructs.proofs.CommandLaws.{commands_kept}
+use Rattle.gp_cstructs.proofs.Runs.{run_keeps}
+use Rattle.gp_cstructs.proofs.OfferedCommands.{run_offers}
+use Rattle.gp_cstructs.proofs.laws.loose_lists_have_the_facts.Goals as goal
+
+pub returns-clause-facts : goal.returns-clause-facts
+returns-clause-facts g c a k some es loose = run_keeps (lawful g.V.CStructs.operations g.met.V.CStructs.laws a k some) es loose
+
+pub returns-clause-offered : goal.returns-clause-offered
+returns-clause-offered g c a k es loose = run_offers (commands_kept g.V.CStructs.operations g.met.V.CStructs.laws a k) es loose

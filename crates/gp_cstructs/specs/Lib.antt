@@ -1,0 +1,17 @@
+pub mod CStructs
+pub mod Tables
+pub mod Acceptor
+pub mod Coordinator
+pub mod Learner
+pub mod Loose
+pub mod Safety
+pub mod Lawful
+pub mod Facts
+pub mod Offered
+pub mod LooseAgreement
+pub mod Meets
+pub mod Choice
+pub mod Protocol
+pub mod Legal
+pub mod LegalRuns
+pub mod Agreement

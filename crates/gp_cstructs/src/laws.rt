@@ -1,0 +1,104 @@
+//! Laws of the protocol. Each function does nothing, and its contract is the law.
+//!
+//! In each, `T` has the tables over a kind of c-structs, for `a` acceptors and `c` coordinators. What
+//! rests on quorums that meet asks for one acceptor.
+ghost use Rattle.std.specs.Prelude.{◌≡◌, ◌<◌, ◌≤◌, ℕ, Bool, true, false, List, slice_get, Option, Some};
+ghost use Rattle.gp_round.specs.declared.round.Round.{Round};
+ghost use Rattle.gp_cstructs.specs.CStructs.{Among, Compatible};
+ghost use Rattle.gp_cstructs.specs.Tables.{Propose, P1b};
+ghost use Rattle.gp_cstructs.specs.Loose.{Event, System, Fits, Loose, happens, run};
+ghost use Rattle.gp_cstructs.specs.Facts.{Facts, IsVote, HadVote, IsSafe, IsChosen, ledger_of};
+ghost use Rattle.gp_cstructs.specs.Offered.{AllOffered};
+ghost use Rattle.gp_cstructs.specs.LooseAgreement.{AgreesLoosely};
+ghost use Rattle.gp_cstructs.specs.Protocol.{Leads, protocol};
+ghost use Rattle.gp_cstructs.specs.Legal.{Record, Legal, clients, messages, offers_at};
+ghost use Rattle.gp_cstructs.specs.LegalRuns.{Matches, events_of};
+ghost use Rattle.gp_cstructs.specs.Agreement.{Agrees};
+
+use crate::cstructs::CStructs;
+
+/// Each event that may happen keeps the facts, from any system that has them all.
+pub fn each_step_keeps_the_facts<V: CStructs>()
+    ensures facts { (a c : ℕ) → 0 < a → let T = protocol V.operations a c in
+        (w : System T) (e : Event T) → Facts T (Leads c) w → Fits T w e → Facts T (Leads c) (happens T w e) }
+    ensures offered { (a c : ℕ) → let T = protocol V.operations a c in
+        (w : System T) (e : Event T) → AllOffered T w → Fits T w e → AllOffered T (happens T w e) }
+{}
+
+/// After each loose list all facts hold.
+pub fn loose_lists_have_the_facts<V: CStructs>()
+    ensures facts { (a c : ℕ) → 0 < a → let T = protocol V.operations a c in
+        (es : List (Event T)) → Loose T es → Facts T (Leads c) (run T es) }
+    ensures offered { (a c : ℕ) → let T = protocol V.operations a c in
+        (es : List (Event T)) → Loose T es → AllOffered T (run T es) }
+{}
+
+/// The votes that the facts speak of are those that an acceptor had after some number of events.
+pub fn votes_are_those_that_an_acceptor_had<V: CStructs>()
+    ensures only { (a c : ℕ) → let T = protocol V.operations a c in
+        (es : List (Event T)) (i : ℕ) (r : Round) (x : V) → IsVote T (run T es).cast i r x → HadVote T es i r x }
+    ensures all { (a c : ℕ) → 0 < a → let T = protocol V.operations a c in
+        (es : List (Event T)) → Loose T es → (i : ℕ) (r : Round) (x : V) → HadVote T es i r x → IsVote T (run T es).cast i r x }
+{}
+
+/// The choice from answers of a quorum of the first phase of a round is safe at that round.
+pub fn the_safe_choice_is_safe<V: CStructs>()
+    ensures { (a c : ℕ) → 0 < a → let T = protocol V.operations a c in
+        (w : System T) → Facts T (Leads c) w
+        → (r : Round) (answers : ℕ → Option (Round × V))
+        → ((i : ℕ) (q : Round) (v : V) → answers i ≡ Some (q, v) → Among w.sent (P1b r i q v))
+        → T.is_enough answers ≡ true → IsSafe T (ledger_of T w) (T.safe_choice answers) r }
+{}
+
+/// Votes of one round that is not fast are compatible.
+pub fn votes_of_a_round_are_compatible<V: CStructs>()
+    ensures { (a c : ℕ) → 0 < a → let T = protocol V.operations a c in
+        (w : System T) → Facts T (Leads c) w
+        → (r : Round) → T.fast r ≡ false → (i j : ℕ) (x y : V) → IsVote T w.cast i r x → IsVote T w.cast j r y
+        → Compatible T.prefix x y }
+{}
+
+/// Two chosen values, at any rounds, are compatible.
+pub fn chosen_values_are_compatible<V: CStructs>()
+    ensures { (a c : ℕ) → 0 < a → let T = protocol V.operations a c in
+        (w : System T) → Facts T (Leads c) w
+        → (x y : V) (r j : Round) → IsChosen T (ledger_of T w) x r → IsChosen T (ledger_of T w) y j
+        → Compatible T.prefix x y }
+{}
+
+/// Whatever a loose list does, what learners show agrees.
+pub fn loose_lists_agree<V: CStructs>()
+    ensures { (a c : ℕ) → 0 < a → let T = protocol V.operations a c in
+        (es : List (Event T)) → Loose T es → AgreesLoosely T es }
+{}
+
+/// Each legal list is a loose list, with the same states of all nodes and the same messages.
+pub fn legal_lists_are_loose<V: CStructs>()
+    ensures loose { (a c : ℕ) → let T = protocol V.operations a c in
+        (proposers learners : ℕ) (owns : ℕ → Round → Bool) → let D = clients T V.Draft V.make V.same owns proposers learners in
+        (records : List (Record T D)) → Legal T D records → Loose T (events_of T D records) }
+    ensures same { (a c : ℕ) → let T = protocol V.operations a c in
+        (proposers learners : ℕ) (owns : ℕ → Round → Bool) → let D = clients T V.Draft V.make V.same owns proposers learners in
+        (records : List (Record T D)) → Legal T D records → Matches T D records (run T (events_of T D records)) }
+{}
+
+/// Each command is proposed once: no two Propose messages have one identity, and none has a number
+/// above its proposer's count of offers.
+pub fn commands_are_proposed_once<V: CStructs>()
+    ensures numbered { (a c : ℕ) → let T = protocol V.operations a c in
+        (proposers learners : ℕ) (owns : ℕ → Round → Bool) → let D = clients T V.Draft V.make V.same owns proposers learners in
+        (records : List (Record T D)) → Legal T D records
+        → (d : V.Command) → Among (messages T D records) (Propose d) → V.number_of d ≤ offers_at T D (V.proposer_of d) records }
+    ensures once { (a c : ℕ) → let T = protocol V.operations a c in
+        (proposers learners : ℕ) (owns : ℕ → Round → Bool) → let D = clients T V.Draft V.make V.same owns proposers learners in
+        (records : List (Record T D)) → Legal T D records
+        → (i j : ℕ) (d e : V.Command) → slice_get (messages T D records) i ≡ Some (Propose d) → slice_get (messages T D records) j ≡ Some (Propose e)
+        → V.proposer_of d ≡ V.proposer_of e → V.number_of d ≡ V.number_of e → i ≡ j }
+{}
+
+/// Whatever a legal list of records does, what learners show agrees.
+pub fn legal_lists_agree<V: CStructs>()
+    ensures { (a c : ℕ) → 0 < a → let T = protocol V.operations a c in
+        (proposers learners : ℕ) (owns : ℕ → Round → Bool) → let D = clients T V.Draft V.make V.same owns proposers learners in
+        (records : List (Record T D)) → Legal T D records → Agrees T D records }
+{}
