@@ -1,0 +1,15 @@
+pub mod ValueLaws
+pub mod Bundle
+pub mod Shown
+pub mod Told
+pub mod Acceptors
+pub mod Coordinators
+pub mod Learners
+pub mod Simulation
+pub mod Moments
+pub mod Agreement
+pub mod Returning
+pub mod VotesHad
+pub mod Chosen
+pub mod Standing
+pub mod Facts
