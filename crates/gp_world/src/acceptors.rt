@@ -1,0 +1,73 @@
+//! The acceptors of a world.
+ghost use Rattle.std.specs.Prelude.{◌≡◌, ◌<◌, length, map, IfOk, OnOk, OnErr};
+ghost use Rattle.std.specs.Option.{option_map, option_to_list, option_copied};
+ghost use Rattle.gp_msg.specs.Messages.{message_of, part_of};
+ghost use Rattle.gp_acceptor.specs.State.{opening};
+ghost use Rattle.gp_acceptor.specs.Table.{acceptor_take, acceptor_fall, durable};
+ghost use Rattle.gp_world.specs.Nodes.{states_below};
+ghost use Rattle.gp_world.specs.Acting.{changed, sent_of, acceptor_left};
+
+use gp_acceptor::Acceptor;
+use gp_command::NoMemory;
+use gp_msg::{Durable, Kept, Msg, Outs};
+use gp_round::Config;
+use std::alloc::Global;
+
+/// All acceptors, to which nothing has happened.
+#[tactic(auto, using(crate::proofs::Numbering::states_more))]
+pub fn new_all(alloc: Global, config: &Config) -> Result<Vec<Acceptor>, NoMemory>
+    ensures opening { IfOk result (λ all. all.items ≡ states_below config.now.acceptors (opening config.now)) }
+    ensures some { 0 < config.now.acceptors }
+{
+    let mut all = Vec::new(alloc);
+    for a in 0..config.acceptors() {
+        all.push(Acceptor::new(alloc, config, a)?)?;
+    }
+    Ok(all)
+}
+
+/// An acceptor takes a message. Where memory runs out nothing changes.
+#[tactic(auto, using(crate::proofs::Changing::changed_at, crate::proofs::Changing::sent_from))]
+pub fn take(acceptors: &mut [Acceptor], a: u32, m: &Msg) -> Result<Outs, NoMemory>
+    requires { a < length acceptors.old }
+    ensures next { OnOk result (acceptors.new ≡ changed acceptors.old a (λ s. (acceptor_take s (message_of m.now)).0)) }
+    ensures sent { IfOk result (λ outs. map message_of outs ≡ option_to_list (sent_of acceptors.old a (λ s. acceptor_take s (message_of m.now)))) }
+    ensures unchanged { OnErr result (acceptors.new ≡ acceptors.old) }
+{
+    acceptors[a as usize].take(m)
+}
+
+/// An acceptor falls. Where memory runs out nothing changes.
+#[tactic(auto, using(crate::proofs::Changing::changed_at))]
+pub fn fall(
+    acceptors: &mut [Acceptor],
+    a: u32,
+    kept: Option<Kept>,
+    m: Option<&Msg>,
+) -> Result<(), NoMemory>
+    requires { a < length acceptors.old }
+    ensures next { OnOk result (acceptors.new ≡ changed acceptors.old a (λ s. acceptor_fall s (acceptor_left s kept (option_map message_of (option_copied m.entry))))) }
+    ensures unchanged { OnErr result (acceptors.new ≡ acceptors.old) }
+{
+    let durable = durable_left(&acceptors[a as usize], kept, m)?;
+    acceptors[a as usize].fall(durable);
+    Ok(())
+}
+
+// What an acceptor that falls goes on with: its durable part, or that after the step which it keeps.
+fn durable_left(
+    acceptor: &Acceptor,
+    kept: Option<Kept>,
+    m: Option<&Msg>,
+) -> Result<Durable, NoMemory>
+    ensures { IfOk result (λ d. part_of d ≡ acceptor_left acceptor.now kept (option_map message_of (option_copied m.entry))) }
+{
+    match (kept, m) {
+        (Some(Kept::Take(_)), Some(m)) => {
+            let mut after = acceptor.copy()?;
+            after.take(m)?;
+            after.durable()
+        }
+        _ => acceptor.durable(),
+    }
+}
