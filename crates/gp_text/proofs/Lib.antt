@@ -1,0 +1,7 @@
+pub mod CanonicalWalk
+pub mod WrittenWords
+pub mod LineSteps
+pub mod EventSteps
+pub mod TraceLines
+pub mod SaidLegally
+pub mod TraceReading
