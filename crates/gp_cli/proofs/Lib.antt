@@ -1,0 +1,2 @@
+pub mod ShortScripts
+pub mod Causes

@@ -1,0 +1,93 @@
+-- How a run of the program ends: its cause, its run, its text and its status.
+use Rattle.std.specs.Prelude.{◌≡◌, ℕ, List, [], Option, MatchBool}
+use Rattle.gp_round.specs.Counts.{Counts}
+use Rattle.gp_msg.specs.Messages.{Entry}
+use Rattle.gp_run.specs.Runs.{run_of}
+use Rattle.gp_script.specs.declared.reason.Reason.{Reason}
+use Rattle.gp_edge.specs.Faults.{Rose}
+use Rattle.gp_edge.specs.Reads.{ReadsUpTo, LosesUpTo}
+use Rattle.gp_text.specs.Reading.{Reading, Whole, Refused, Sofar, reading}
+use Rattle.gp_text.specs.Texts.{output}
+use Rattle.gp_cli.specs.Texts.{is_play, usage, read_fault, refusal_text}
+
+-- the words are no command; the source failed; a line of the script is refused, behind this run; the script was played; memory ran out before any of these was known
+pub data Ending : Type 0 where
+  Misused : Ending
+  Unread : Ending
+  Refuses : ℕ → Reason → List Entry → Ending
+  Plays : Counts → Sofar → Ending
+  Starved : Ending
+
+-- its status once its text was written
+abbrev pub status_of : Ending → ℕ
+status_of Misused = 2
+status_of Unread = 4
+status_of (Refuses line reason run) = 3
+status_of (Plays config said) = 0
+status_of Starved = 1
+
+-- its status where the sink failed
+abbrev pub status_at_fault : Ending → ℕ
+status_at_fault Misused = 2
+status_at_fault Unread = 4
+status_at_fault (Refuses line reason run) = 3
+status_at_fault (Plays config said) = 5
+status_at_fault Starved = 1
+
+-- what it prints
+abbrev pub text_of : Ending → List ℕ
+text_of Misused = usage
+text_of Unread = read_fault
+text_of (Refuses line reason run) = refusal_text line reason
+text_of (Plays config said) = output config said
+text_of Starved = []
+
+-- the run that it leads to, the newest entry first
+abbrev pub run_to : Ending → List Entry
+run_to Misused = []
+run_to Unread = []
+run_to (Refuses line reason run) = run
+run_to (Plays config said) = run_of config said.events
+run_to Starved = []
+
+-- the configuration, where a script was played, is the script's
+abbrev pub IsConfigOf : Ending → Counts → Type 0
+IsConfigOf Misused config = Unit {0}
+IsConfigOf Unread config = Unit {0}
+IsConfigOf (Refuses line reason run) config = Unit {0}
+IsConfigOf (Plays own said) config = config ≡ own
+IsConfigOf Starved config = Unit {0}
+
+-- what is seen of a source or a sink: the bytes that are left or were written, where it tells them, and its count of faults
+pub record Seen : Type 0 where
+  pub bytes : Option (List ℕ)
+  pub faults : ℕ
+
+abbrev pub seen : Option (List ℕ) → ℕ → Seen
+seen bytes faults = record { bytes = bytes; faults = faults }
+
+-- the bytes read, up to one more than a script may have, have this reading
+pub record HasRead (before now : Seen) (read : Reading) : Type 0 where
+  pub bytes : List ℕ
+  pub taken : ReadsUpTo 1048577 before.bytes now.bytes bytes
+  pub says : reading bytes ≡ read
+
+-- why a run ends so where a script is to be read, by the source before and now
+abbrev pub IsReadCause : Seen → Seen → Ending → Type 0
+IsReadCause before now Misused = ⊥
+IsReadCause before now Unread = Rose before.faults now.faults × LosesUpTo 1048577 before.bytes now.bytes
+IsReadCause before now (Refuses line reason run) = HasRead before now (Refused line reason run)
+IsReadCause before now (Plays config said) = HasRead before now (Whole config said)
+IsReadCause before now Starved = LosesUpTo 1048577 before.bytes now.bytes
+
+-- why it ends so, by the words too: `play` reads a script, and other words read nothing
+abbrev pub IsCause : List (List ℕ) → Seen → Seen → Ending → Type 0
+IsCause words before now ending = MatchBool (is_play words) (IsReadCause before now ending) ((ending ≡ Misused) × (now ≡ before))
+
+-- why it ends so where the script is at hand, by its reading
+abbrev pub IsScriptCause : Reading → Ending → Type 0
+IsScriptCause read Misused = ⊥
+IsScriptCause read Unread = ⊥
+IsScriptCause read (Refuses line reason run) = read ≡ Refused line reason run
+IsScriptCause read (Plays config said) = read ≡ Whole config said
+IsScriptCause read Starved = Unit {0}

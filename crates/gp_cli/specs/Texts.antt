@@ -1,0 +1,42 @@
+-- What the program prints but for the output of a script.
+use Rattle.std.specs.Prelude.{ℕ, Bool, false, List, [], ◌∷◌, ◌++◌, map, codes, decimal, String, string_bytes}
+use Rattle.std.specs.Str.{bytes_eq}
+use Rattle.std.specs.declared.alloc.Global.{Global}
+use Rattle.gp_script.specs.declared.reason.Reason.{Reason}
+use Rattle.gp_script.specs.declared.reason.Reason.TheVariants.{TooLong, NoNodesLine, BadLine, BadNumber, BadCount, BadKey, NoNode, BadFall, NoMessage, TooManyCommands, TooManyEvents}
+
+-- the words, each as its bytes
+abbrev pub texts_of : List (String Global) → List (List ℕ)
+texts_of words = map (λ word. string_bytes word) words
+
+-- the one word `play`
+abbrev pub is_play : List (List ℕ) → Bool
+is_play [] = false
+is_play (word ∷ []) = bytes_eq word (codes "play")
+is_play (word ∷ other ∷ others) = false
+
+-- what is printed where the words are no command
+abbrev pub usage : List ℕ
+usage = codes "usage: mcgp play | run [LIMIT] | sim SEED COMMANDS | drive A L K | log K\n"
+
+-- what is printed where the source failed
+abbrev pub read_fault : List ℕ
+read_fault = codes "read fault\n"
+
+-- why a line is refused
+abbrev pub reason_text : Reason → List ℕ
+reason_text TooLong = codes "too long"
+reason_text NoNodesLine = codes "no nodes line"
+reason_text BadLine = codes "bad line"
+reason_text BadNumber = codes "bad number"
+reason_text BadCount = codes "bad count"
+reason_text BadKey = codes "bad key"
+reason_text NoNode = codes "no node"
+reason_text BadFall = codes "bad fall"
+reason_text NoMessage = codes "no message"
+reason_text TooManyCommands = codes "too many commands"
+reason_text TooManyEvents = codes "too many events"
+
+-- the first refused line, and why
+abbrev pub refusal_text : ℕ → Reason → List ℕ
+refusal_text line reason = codes "line " ++ decimal line ++ codes ": " ++ reason_text reason ++ codes "\n"

@@ -1,0 +1,156 @@
+//! The top call.
+ghost use Rattle.std.specs.Prelude.{◌≡◌, ◌≤◌, ◌⊎◌, [], false, IfSome};
+ghost use Rattle.gp_edge.specs.Faults.{Rose};
+ghost use Rattle.gp_text.specs.Reading.{reading};
+ghost use Rattle.gp_cli.specs.Texts.{texts_of, is_play, usage, refusal_text};
+ghost use Rattle.gp_cli.specs.Endings.{seen, IsCause, IsReadCause, IsScriptCause};
+ghost use Rattle.gp_cli.specs.Serving.{Told, Ends, IsInAgreement, PlaysWhole, StopsAtLine};
+
+use crate::status::{DONE, MISUSED, NO_MEMORY, REFUSED, UNREAD, UNWRITTEN};
+use crate::telling::{READ_FAULT, USAGE, refusal_text, tell};
+use crate::words::is_play;
+use gp_edge::{Refused, Sink, Source, read_up_to};
+use gp_msg::Records;
+use gp_script::Reason;
+use gp_text::{Played, Unplayed, play};
+use std::alloc::Global;
+
+/// The most bytes that are read: one more than a script may have.
+const MOST_BYTES: usize = 1_048_577;
+
+/// How a run of the program ended.
+#[derive(Drop)]
+pub struct Ran {
+    /// The exit status: 0 where the input was read to its end and all was written, 1 where memory ran
+    /// out, 2 where the words are no command, 3 where a line of the input is refused, 4 where the
+    /// source failed, 5 where the sink failed.
+    pub status: u8,
+    /// The records of the run, the oldest first. There are none where it ended before any event.
+    pub trail: Records,
+}
+
+// Prints the usage.
+fn misuse<K: Sink>(alloc: Global, sink: &mut K) -> Ran
+    ensures told { Told (seen (K.written sink.old) (K.faults sink.old)) (seen (K.written sink.new) (K.faults sink.new))
+        usage 2 2 result.status }
+    ensures trail { result.trail ≡ [] }
+    ensures never_falls { K.faults sink.old ≤ K.faults sink.new }
+{
+    Ran {
+        status: tell(sink, USAGE, MISUSED, MISUSED),
+        trail: Records::new(alloc),
+    }
+}
+
+// Prints which line is refused, and why. The records are those of the lines before it.
+fn refuse<K: Sink>(alloc: Global, line: u64, reason: Reason, records: Records, sink: &mut K) -> Ran
+    ensures told { Told (seen (K.written sink.old) (K.faults sink.old)) (seen (K.written sink.new) (K.faults sink.new))
+        (refusal_text line reason) 3 3 result.status }
+    ensures trail { result.trail ≡ records }
+    ensures never_falls { K.faults sink.old ≤ K.faults sink.new }
+{
+    let status = match refusal_text(alloc, line, reason) {
+        Ok(text) => tell(sink, &text, REFUSED, REFUSED),
+        Err(_) => NO_MEMORY,
+    };
+    Ran {
+        status,
+        trail: records,
+    }
+}
+
+// Plays a script, and prints what it prints, or its first refused line.
+fn play_script<K: Sink>(alloc: Global, script: &[u8], sink: &mut K) -> Ran
+    ensures ends { Ends (IsScriptCause (reading script.now))
+        (seen (K.written sink.old) (K.faults sink.old)) (seen (K.written sink.new) (K.faults sink.new)) result }
+    ensures never_falls { K.faults sink.old ≤ K.faults sink.new }
+{
+    match play(alloc, script) {
+        Ok(Played { world, text }) => Ran {
+            status: tell(sink, &text, DONE, UNWRITTEN),
+            trail: world.into_records(),
+        },
+        Err(
+            Unplayed::Bad {
+                line,
+                reason,
+                records,
+            },
+        ) => refuse(alloc, line, reason, records, sink),
+        Err(Unplayed::NoMemory) => Ran {
+            status: NO_MEMORY,
+            trail: Records::new(alloc),
+        },
+    }
+}
+
+// Reads a script, and plays it.
+fn read_and_play<S: Source, K: Sink>(alloc: Global, source: &mut S, sink: &mut K) -> Ran
+    ensures ends { Ends
+        (IsReadCause (seen (S.rest source.old) (S.faults source.old)) (seen (S.rest source.new) (S.faults source.new)))
+        (seen (K.written sink.old) (K.faults sink.old)) (seen (K.written sink.new) (K.faults sink.new)) result }
+    ensures source_never_falls { S.faults source.old ≤ S.faults source.new }
+    ensures sink_never_falls { K.faults sink.old ≤ K.faults sink.new }
+{
+    match read_up_to(alloc, source, MOST_BYTES) {
+        Ok(script) => play_script(alloc, &script, sink),
+        Err(Refused::Failed) => Ran {
+            status: tell(sink, READ_FAULT, UNREAD, UNREAD),
+            trail: Records::new(alloc),
+        },
+        Err(Refused::NoMemory) => Ran {
+            status: NO_MEMORY,
+            trail: Records::new(alloc),
+        },
+    }
+}
+
+/// Runs the command that the words name, reads its input from the source and writes its text to the
+/// sink.
+///
+/// The one command so far is `play`. It reads a script to its end, or to one byte past the most that a
+/// script may have, plays it, and prints what its `show` lines ask for and the report. For other words
+/// the usage is printed, and nothing is read. A fault of the source is found before the script is
+/// looked at, and a refused line before anything is written.
+pub fn serve<S: Source, K: Sink>(
+    alloc: Global,
+    words: &[String],
+    source: &mut S,
+    sink: &mut K,
+) -> Ran
+    // The run ends in one way, which has its cause; the trail, the text and the status are those of it.
+    ensures ends { Ends
+        (IsCause (texts_of words.now)
+        (seen (S.rest source.old) (S.faults source.old)) (seen (S.rest source.new) (S.faults source.new)))
+        (seen (K.written sink.old) (K.faults sink.old)) (seen (K.written sink.new) (K.faults sink.new)) result }
+
+    // Whatever status it is, the records are legal, and what learners showed at any moments agrees.
+    ensures agrees { IsInAgreement result.trail }
+
+    // What a status says.
+    ensures played { result.status ≡ 0 →
+        PlaysWhole
+        (seen (S.rest source.old) (S.faults source.old)) (seen (S.rest source.new) (S.faults source.new))
+        (seen (K.written sink.old) (K.faults sink.old)) (seen (K.written sink.new) (K.faults sink.new)) result }
+    ensures refused { result.status ≡ 3 →
+        StopsAtLine
+        (seen (S.rest source.old) (S.faults source.old)) (seen (S.rest source.new) (S.faults source.new))
+        (seen (K.written sink.old) (K.faults sink.old)) (seen (K.written sink.new) (K.faults sink.new)) result }
+    ensures read_to_end { (result.status ≡ 0) ⊎ (result.status ≡ 5) → IfSome (S.rest source.new) (λ rest. rest ≡ []) }
+    ensures misused { result.status ≡ 2 → is_play (texts_of words.now) ≡ false }
+    ensures unread { result.status ≡ 4 → Rose (S.faults source.old) (S.faults source.new) }
+    ensures unwritten { result.status ≡ 5 → Rose (K.faults sink.old) (K.faults sink.new) }
+
+    // What other words than a command lead to.
+    ensures usage { is_play (texts_of words.now) ≡ false → (result.status ≡ 2) ⊎ (result.status ≡ 1) }
+    ensures untouched { is_play (texts_of words.now) ≡ false → source.new ≡ source.old }
+
+    ensures source_never_falls { S.faults source.old ≤ S.faults source.new }
+    ensures sink_never_falls { K.faults sink.old ≤ K.faults sink.new }
+{
+    if is_play(words) {
+        read_and_play(alloc, source, sink)
+    } else {
+        misuse(alloc, sink)
+    }
+}

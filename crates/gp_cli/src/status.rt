@@ -1,0 +1,19 @@
+//! The statuses with which a run ends.
+
+/// The input was read to its end, and all was written.
+pub const DONE: u8 = 0;
+
+/// Memory ran out.
+pub const NO_MEMORY: u8 = 1;
+
+/// The words are no command.
+pub const MISUSED: u8 = 2;
+
+/// A line of the input is refused.
+pub const REFUSED: u8 = 3;
+
+/// The source failed.
+pub const UNREAD: u8 = 4;
+
+/// The sink failed.
+pub const UNWRITTEN: u8 = 5;
