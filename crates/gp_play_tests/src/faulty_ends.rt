@@ -1,0 +1,82 @@
+//! Sources and sinks that fail.
+use crate::stage::play_over;
+use crate::whole_scripts::{ONE_PUT, ONE_PUT_PRINTS};
+use gp_edge::{CalmSink, CalmSource, MemSink, MemSource, WriteSink};
+use std::alloc::Global;
+use std::io::Cursor;
+use std::test::Fail;
+
+// Whether a failure of the n-th read, each of 64 bytes, ends in a read fault.
+fn read_fails(alloc: Global, n: u64) -> Result<bool, Fail> {
+    let mut source = MemSource::new(alloc, ONE_PUT, 64, &[n])?;
+    let mut sink = CalmSink::new(alloc)?;
+    let status = play_over(alloc, &mut source, &mut sink)?;
+    Ok(status == 4 && sink.written() == b"read fault\n".as_slice())
+}
+
+// Whether a failure of the n-th write, each of 16 bytes, ends in a write fault behind these bytes.
+fn write_fails(alloc: Global, n: u64, written: &[u8]) -> Result<bool, Fail> {
+    let mut source = CalmSource::new(alloc, ONE_PUT)?;
+    let mut sink = MemSink::new(alloc, 16, &[n])?;
+    let status = play_over(alloc, &mut source, &mut sink)?;
+    Ok(status == 5 && sink.written() == written)
+}
+
+#[test]
+fn each_read_may_fail(rt: HostRuntime) -> Result<(), Fail> {
+    for n in 0..4 {
+        assert!(rt; read_fails(rt.alloc(), n)?);
+    }
+    Ok(())
+}
+
+#[test]
+fn each_write_may_fail(rt: HostRuntime) -> Result<(), Fail> {
+    let alloc = rt.alloc();
+    assert!(rt; write_fails(alloc, 0, b"")?);
+    assert!(rt; write_fails(alloc, 1, b"l0 learned 1: p0")?);
+    assert!(rt; write_fails(alloc, 2, b"l0 learned 1: p0.1\nl1 learned 0:")?);
+    assert!(rt;
+        write_fails(
+            alloc,
+            3,
+            b"l0 learned 1: p0.1\nl1 learned 0: -\nevents 11 mes"
+        )?
+    );
+    Ok(())
+}
+
+#[test]
+fn pieces_may_be_of_one_byte(rt: HostRuntime) -> Result<(), Fail> {
+    let alloc = rt.alloc();
+    let mut source = MemSource::new(alloc, ONE_PUT, 1, &[])?;
+    let mut sink = MemSink::new(alloc, 1, &[])?;
+    assert!(rt; play_over(alloc, &mut source, &mut sink)? == 0);
+    assert!(rt; sink.written() == ONE_PUT_PRINTS);
+    Ok(())
+}
+
+#[test]
+fn a_sink_that_takes_nothing_more_is_a_write_fault(rt: HostRuntime) -> Result<(), Fail> {
+    let alloc = rt.alloc();
+    let mut source = CalmSource::new(alloc, ONE_PUT)?;
+    let mut room = [0u8; 10];
+    let mut sink = WriteSink::new(Cursor::new(room.as_mut_slice()));
+    assert!(rt; play_over(alloc, &mut source, &mut sink)? == 5);
+    assert!(rt; room == *b"l0 learned");
+    Ok(())
+}
+
+#[test]
+fn a_write_fault_leaves_the_status_of_a_refusal(rt: HostRuntime) -> Result<(), Fail> {
+    let alloc = rt.alloc();
+    let mut source = CalmSource::new(alloc, b"")?;
+    let mut sink = MemSink::new(alloc, 5, &[1])?;
+    assert!(rt; play_over(alloc, &mut source, &mut sink)? == 3);
+    assert!(rt; sink.written() == b"line ".as_slice());
+    let mut broken = MemSource::new(alloc, b"", 1, &[0])?;
+    let mut sink = MemSink::new(alloc, 5, &[0])?;
+    assert!(rt; play_over(alloc, &mut broken, &mut sink)? == 4);
+    assert!(rt; sink.written().is_empty());
+    Ok(())
+}

@@ -1,0 +1,97 @@
+//! Scripts that are refused at a line.
+use crate::stage::refuses;
+use crate::whole_scripts::ONE_PUT;
+use std::test::Fail;
+
+// A script, and the line that is printed.
+type Row = (&'static [u8], &'static [u8]);
+
+const ROWS: [Row; 18] = [
+    // fewer than 3 acceptors
+    (b"nodes 2 1 1\n", b"line 1: bad count"),
+    // more than 7
+    (b"nodes 8 1 1\n", b"line 1: bad count"),
+    // a key of 17 bytes
+    (
+        b"nodes 3 1 2\noffer p0 put abcdefghijklmnopq 1\n",
+        b"line 2: bad key",
+    ),
+    // a round past the last
+    (
+        b"nodes 3 1 2\nbegin c0 1000001 single\n",
+        b"line 2: bad count",
+    ),
+    // no line at all
+    (b"", b"line 1: no nodes line"),
+    // no line but one that is passed over
+    (b"\n", b"line 2: no nodes line"),
+    // an empty token
+    (b"nodes  3 1 2\n", b"line 1: bad line"),
+    // a carriage return is a byte of its token
+    (b"nodes 3 1 2\r\n", b"line 1: bad number"),
+    // a ninth proposer
+    (b"nodes 3 1 2\noffer p8 get a\n", b"line 2: no node"),
+    // a number with a leading zero
+    (b"nodes 3 1 2\ntake a0 00\n", b"line 2: bad number"),
+    // 2^64
+    (
+        b"nodes 3 1 2\ntake a0 18446744073709551616\n",
+        b"line 2: bad number",
+    ),
+    // a proposer that takes a message which is not there
+    (b"nodes 3 1 2\ntake p0 0\n", b"line 2: no message"),
+    // a proposer that crashes
+    (b"nodes 3 1 2\nfall p0\n", b"line 2: bad fall"),
+    // an acceptor that began a round
+    (
+        b"nodes 3 1 2\nfall a0 begin 1 single\n",
+        b"line 2: bad fall",
+    ),
+    // a learner that keeps something
+    (
+        b"nodes 3 1 2\noffer p0 get a\nfall l0 take 0\n",
+        b"line 3: bad fall",
+    ),
+    // a learner that is not there
+    (b"nodes 3 1 2\nshow l2\n", b"line 2: no node"),
+    // and before the first
+    (b"nodes 3 1 2\nbegin c0 0 single\n", b"line 2: bad count"),
+    // a byte that is no text
+    (b"nodes 3 1 2\n\xff\n", b"line 2: bad line"),
+];
+
+#[test]
+fn a_script_is_refused_at_its_first_bad_line(rt: HostRuntime) -> Result<(), Fail> {
+    for (script, line) in ROWS {
+        assert!(rt; refuses(rt.alloc(), script, line)?);
+    }
+    Ok(())
+}
+
+#[test]
+fn a_message_is_there_before_it_is_taken(rt: HostRuntime) -> Result<(), Fail> {
+    let mut script = Vec::from_slice(rt.alloc(), ONE_PUT)?;
+    script.extend_from_slice(b"take l1 7\n")?;
+    assert!(rt; refuses(rt.alloc(), &script, b"line 13: no message")?);
+    Ok(())
+}
+
+#[test]
+fn a_script_has_256_offers(rt: HostRuntime) -> Result<(), Fail> {
+    let mut script = Vec::from_slice(rt.alloc(), b"nodes 3 1 1\n")?;
+    for _ in 0..257 {
+        script.extend_from_slice(b"offer p0 put a 1\n")?;
+    }
+    assert!(rt; refuses(rt.alloc(), &script, b"line 258: too many commands")?);
+    Ok(())
+}
+
+#[test]
+fn a_script_has_1048576_bytes(rt: HostRuntime) -> Result<(), Fail> {
+    let mut script = Vec::from_slice(rt.alloc(), b"nodes 3 1 1\n#")?;
+    for _ in script.len()..1_048_577 {
+        script.push(b'x')?;
+    }
+    assert!(rt; refuses(rt.alloc(), &script, b"line 2: too long")?);
+    Ok(())
+}

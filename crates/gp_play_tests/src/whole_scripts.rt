@@ -1,0 +1,550 @@
+//! Scripts that are played to their end.
+use crate::stage::plays;
+use std::test::Fail;
+
+// nothing happens
+const NO_RECORDS: &[u8] = b"\
+nodes 3 1 2";
+
+const NO_RECORDS_PRINTS: &[u8] = b"\
+l0 learned 0: -
+l1 learned 0: -
+events 0 messages 0
+";
+
+// one put in a single round, which one learner hears
+pub const ONE_PUT: &[u8] = b"\
+nodes 3 1 2
+offer p0 put a 5
+begin c0 1 single
+take c0 0
+take a0 1
+take a1 1
+take c0 2
+take c0 3
+take a0 4
+take a1 4
+take l0 5
+take l0 6
+";
+
+pub const ONE_PUT_PRINTS: &[u8] = b"\
+l0 learned 1: p0.1
+l1 learned 0: -
+events 11 messages 7
+";
+
+// the last vote comes four times more
+const ONE_PUT_HEARD_AGAIN: &[u8] = b"\
+nodes 3 1 2
+offer p0 put a 5
+begin c0 1 single
+take c0 0
+take a0 1
+take a1 1
+take c0 2
+take c0 3
+take a0 4
+take a1 4
+take l0 5
+take l0 6
+take l0 6
+take l0 6
+take l0 6
+take l0 6
+";
+
+const ONE_PUT_HEARD_AGAIN_PRINTS: &[u8] = b"\
+l0 learned 1: p0.1
+l1 learned 0: -
+events 15 messages 7
+";
+
+// puts of two keys commute, in whatever order acceptors vote for them
+pub const FAST_TWO_KEYS: &[u8] = b"\
+nodes 3 1 2
+begin c0 1 fast
+take a0 0
+take a1 0
+take a2 0
+take c0 1
+take c0 2
+take a0 4
+take a1 4
+take a2 4
+offer p0 put a 1
+offer p1 put b 2
+take a0 8
+take a0 9
+take a1 9
+take a1 8
+take a2 8
+take a2 9
+take l0 11
+take l0 13
+take l0 15
+take l1 15
+take l1 13
+take l1 11
+";
+
+const FAST_TWO_KEYS_PRINTS: &[u8] = b"\
+l0 learned 2: p0.1 p1.1
+l1 learned 2: p0.1 p1.1
+events 23 messages 16
+";
+
+// puts of one key collide in a fast round
+const FAST_ONE_KEY_COLLIDES: &[u8] = b"\
+nodes 3 1 2
+begin c0 1 fast
+take a0 0
+take a1 0
+take a2 0
+take c0 1
+take c0 2
+take a0 4
+take a1 4
+take a2 4
+offer p0 put a 1
+offer p1 put a 2
+take a0 8
+take a0 9
+take a1 9
+take a1 8
+take a2 8
+take a2 9
+take l0 11
+take l0 13
+take l0 15
+take l1 15
+take l1 13
+take l1 11
+";
+
+const FAST_ONE_KEY_COLLIDES_PRINTS: &[u8] = b"\
+l0 learned 0: -
+l1 learned 0: -
+events 23 messages 16
+";
+
+// the single round behind it settles them
+const FAST_COLLISION_THEN_SINGLE: &[u8] = b"\
+nodes 3 1 2
+begin c0 1 fast
+take a0 0
+take a1 0
+take a2 0
+take c0 1
+take c0 2
+take a0 4
+take a1 4
+take a2 4
+offer p0 put a 1
+offer p1 put a 2
+take a0 8
+take a0 9
+take a1 9
+take a1 8
+take a2 8
+take a2 9
+take l0 11
+take l0 13
+take l0 15
+take l1 15
+take l1 13
+take l1 11
+take c0 8
+take c0 9
+begin c0 2 single
+take a0 16
+take a1 16
+take c0 17
+take c0 18
+take a0 19
+take a1 19
+take l0 20
+take l0 21
+take l1 20
+take l1 21
+";
+
+const FAST_COLLISION_THEN_SINGLE_PRINTS: &[u8] = b"\
+l0 learned 2: p0.1 p1.1
+l1 learned 2: p0.1 p1.1
+events 36 messages 22
+";
+
+// a multi round needs two of three coordinators
+const MULTI_ONE_COORDINATOR_UNHEARD: &[u8] = b"\
+nodes 3 3 1
+offer p0 put a 1
+begin c0 1 multi
+take c1 1
+take c0 0
+take c1 0
+take a0 1
+take a1 1
+take c0 2
+take c0 3
+take c1 2
+take c1 3
+take a0 4
+take a0 5
+take a1 4
+take a1 5
+take l0 6
+take l0 7
+";
+
+const MULTI_ONE_COORDINATOR_UNHEARD_PRINTS: &[u8] = b"\
+l0 learned 1: p0.1
+events 17 messages 8
+";
+
+// two coordinators that send conflicting orders have only the empty history in common
+const MULTI_CONFLICTING_ORDERS: &[u8] = b"\
+nodes 3 3 1
+offer p0 put a 1
+offer p1 put a 2
+begin c0 1 multi
+take c1 2
+take c0 0
+take c0 1
+take c1 1
+take c1 0
+take a0 2
+take a1 2
+take c0 3
+take c0 4
+take c1 3
+take c1 4
+take a0 5
+take a0 6
+take a1 5
+take a1 6
+take l0 7
+take l0 8
+";
+
+const MULTI_CONFLICTING_ORDERS_PRINTS: &[u8] = b"\
+l0 learned 0: -
+events 20 messages 9
+";
+
+// what three of four acceptors voted in a fast round is chosen, and a round without one of them keeps it
+const FOUR_ACCEPTORS_CHOSEN_PREFIX: &[u8] = b"\
+nodes 4 1 1
+begin c0 1 fast
+take a0 0
+take a1 0
+take a2 0
+take a3 0
+take c0 1
+take c0 2
+take c0 3
+take a0 5
+take a1 5
+take a2 5
+take a3 5
+offer p0 put a 1
+offer p1 put a 2
+take a0 10
+take a1 10
+take a2 10
+take a3 11
+take a3 10
+take l0 12
+take l0 13
+take l0 14
+show l0
+take c0 11
+begin c0 2 single
+take a1 17
+take a2 17
+take a3 17
+take c0 18
+take c0 19
+take c0 20
+take a1 21
+take a2 21
+take a3 21
+take l0 22
+take l0 23
+take l0 24
+";
+
+const FOUR_ACCEPTORS_CHOSEN_PREFIX_PRINTS: &[u8] = b"\
+l0 learned 1: p0.1
+l0 learned 2: p0.1 p1.1
+events 36 messages 25
+";
+
+// every operation, in one single round
+pub const EIGHT_OPERATIONS: &[u8] = b"\
+nodes 3 1 1
+offer p0 put a 5
+offer p0 add a 18446744073709551615
+offer p0 get a
+offer p0 cas a 4 9
+offer p0 copy a b
+offer p0 del a
+offer p0 get a
+offer p0 copy a c
+begin c0 1 single
+take c0 0
+take c0 1
+take c0 2
+take c0 3
+take c0 4
+take c0 5
+take c0 6
+take c0 7
+take a0 8
+take a1 8
+take c0 9
+take c0 10
+take a0 11
+take a1 11
+take l0 12
+take l0 13
+";
+
+const EIGHT_OPERATIONS_PRINTS: &[u8] = b"\
+l0 learned 8: p0.1 p0.2 p0.3 p0.4 p0.5 p0.6 p0.7 p0.8
+events 25 messages 14
+";
+
+// a checkpoint keeps its place between two puts that commute
+const CHECKPOINT_BETWEEN_PUTS: &[u8] = b"\
+nodes 3 1 1
+offer p0 put a 1
+offer p1 checkpoint
+offer p2 put b 2
+begin c0 1 single
+take c0 2
+take c0 1
+take c0 0
+take a0 3
+take a1 3
+take c0 4
+take c0 5
+take a0 6
+take a1 6
+take l0 7
+take l0 8
+";
+
+const CHECKPOINT_BETWEEN_PUTS_PRINTS: &[u8] = b"\
+l0 learned 3: p2.1 p1.1 p0.1
+events 15 messages 9
+";
+
+// an acceptor crashes behind a durable vote that it never sent, and the vote counts
+pub const KEPT_VOTE_NEVER_SENT: &[u8] = b"\
+nodes 3 1 1
+offer p0 put a 5
+begin c0 1 single
+take c0 0
+take a0 1
+take a1 1
+take c0 2
+take c0 3
+fall a0 take 4
+fall c0
+begin c0 2 single
+take a0 5
+take a1 5
+take c0 6
+take c0 7
+take a0 8
+take a1 8
+take l0 9
+take l0 10
+";
+
+const KEPT_VOTE_NEVER_SENT_PRINTS: &[u8] = b"\
+l0 learned 1: p0.1
+events 18 messages 11
+";
+
+// a coordinator that crashed in its round sends nothing in it any more
+const COORDINATOR_FALLS_IN_ITS_ROUND: &[u8] = b"\
+nodes 3 1 1
+offer p0 put a 5
+begin c0 1 single
+take c0 0
+take a0 1
+take a1 1
+take c0 2
+take c0 3
+fall c0
+take c0 2
+take c0 3
+begin c0 1 single
+";
+
+const COORDINATOR_FALLS_IN_ITS_ROUND_PRINTS: &[u8] = b"\
+l0 learned 0: -
+events 11 messages 5
+";
+
+// a proposer takes a message, and nothing comes of it
+const PROPOSER_TAKES: &[u8] = b"\
+nodes 3 1 2
+offer p0 put a 1
+take p0 0
+";
+
+const PROPOSER_TAKES_PRINTS: &[u8] = b"\
+l0 learned 0: -
+l1 learned 0: -
+events 2 messages 1
+";
+
+#[test]
+fn no_records(rt: HostRuntime) -> Result<(), Fail> {
+    assert!(rt; plays(rt.alloc(), NO_RECORDS, 0, NO_RECORDS_PRINTS)?);
+    Ok(())
+}
+
+#[test]
+fn one_put(rt: HostRuntime) -> Result<(), Fail> {
+    assert!(rt; plays(rt.alloc(), ONE_PUT, 0, ONE_PUT_PRINTS)?);
+    Ok(())
+}
+
+#[test]
+fn one_put_heard_again(rt: HostRuntime) -> Result<(), Fail> {
+    assert!(rt;
+        plays(
+            rt.alloc(),
+            ONE_PUT_HEARD_AGAIN,
+            0,
+            ONE_PUT_HEARD_AGAIN_PRINTS
+        )?
+    );
+    Ok(())
+}
+
+#[test]
+fn fast_two_keys(rt: HostRuntime) -> Result<(), Fail> {
+    assert!(rt; plays(rt.alloc(), FAST_TWO_KEYS, 0, FAST_TWO_KEYS_PRINTS)?);
+    Ok(())
+}
+
+#[test]
+fn fast_one_key_collides(rt: HostRuntime) -> Result<(), Fail> {
+    assert!(rt;
+        plays(
+            rt.alloc(),
+            FAST_ONE_KEY_COLLIDES,
+            0,
+            FAST_ONE_KEY_COLLIDES_PRINTS
+        )?
+    );
+    Ok(())
+}
+
+#[test]
+fn fast_collision_then_single(rt: HostRuntime) -> Result<(), Fail> {
+    assert!(rt;
+        plays(
+            rt.alloc(),
+            FAST_COLLISION_THEN_SINGLE,
+            0,
+            FAST_COLLISION_THEN_SINGLE_PRINTS
+        )?
+    );
+    Ok(())
+}
+
+#[test]
+fn multi_one_coordinator_unheard(rt: HostRuntime) -> Result<(), Fail> {
+    assert!(rt;
+        plays(
+            rt.alloc(),
+            MULTI_ONE_COORDINATOR_UNHEARD,
+            0,
+            MULTI_ONE_COORDINATOR_UNHEARD_PRINTS
+        )?
+    );
+    Ok(())
+}
+
+#[test]
+fn multi_conflicting_orders(rt: HostRuntime) -> Result<(), Fail> {
+    assert!(rt;
+        plays(
+            rt.alloc(),
+            MULTI_CONFLICTING_ORDERS,
+            0,
+            MULTI_CONFLICTING_ORDERS_PRINTS
+        )?
+    );
+    Ok(())
+}
+
+#[test]
+fn four_acceptors_chosen_prefix(rt: HostRuntime) -> Result<(), Fail> {
+    assert!(rt;
+        plays(
+            rt.alloc(),
+            FOUR_ACCEPTORS_CHOSEN_PREFIX,
+            0,
+            FOUR_ACCEPTORS_CHOSEN_PREFIX_PRINTS
+        )?
+    );
+    Ok(())
+}
+
+#[test]
+fn eight_operations(rt: HostRuntime) -> Result<(), Fail> {
+    assert!(rt; plays(rt.alloc(), EIGHT_OPERATIONS, 0, EIGHT_OPERATIONS_PRINTS)?);
+    Ok(())
+}
+
+#[test]
+fn checkpoint_between_puts(rt: HostRuntime) -> Result<(), Fail> {
+    assert!(rt;
+        plays(
+            rt.alloc(),
+            CHECKPOINT_BETWEEN_PUTS,
+            0,
+            CHECKPOINT_BETWEEN_PUTS_PRINTS
+        )?
+    );
+    Ok(())
+}
+
+#[test]
+fn kept_vote_never_sent(rt: HostRuntime) -> Result<(), Fail> {
+    assert!(rt;
+        plays(
+            rt.alloc(),
+            KEPT_VOTE_NEVER_SENT,
+            0,
+            KEPT_VOTE_NEVER_SENT_PRINTS
+        )?
+    );
+    Ok(())
+}
+
+#[test]
+fn coordinator_falls_in_its_round(rt: HostRuntime) -> Result<(), Fail> {
+    assert!(rt;
+        plays(
+            rt.alloc(),
+            COORDINATOR_FALLS_IN_ITS_ROUND,
+            0,
+            COORDINATOR_FALLS_IN_ITS_ROUND_PRINTS
+        )?
+    );
+    Ok(())
+}
+
+#[test]
+fn proposer_takes(rt: HostRuntime) -> Result<(), Fail> {
+    assert!(rt; plays(rt.alloc(), PROPOSER_TAKES, 0, PROPOSER_TAKES_PRINTS)?);
+    Ok(())
+}
