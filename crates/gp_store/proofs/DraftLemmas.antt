@@ -1,50 +1,35 @@
 -- The draft of an operation, and the operation of a draft.
-use Rattle.std.proofs.Common.{◌≡◌, ◌≢◌, ℕ, ◌≤◌, Bool, true, false, cond, List, [], ◌∷◌, length, Some, None, Option, refl, sym, ap, ◌∙◌, arith}
-use Rattle.std.specs.Prelude.{IsTrue, IfSome, Contains}
+use Rattle.std.proofs.Common.{◌≡◌, ℕ, ◌≤◌, Bool, true, false, List, [], ◌∷◌, length, Some, None, Option, refl, sym, ap, ◌∙◌, arith}
+use Rattle.std.specs.Prelude.{IsTrue, IfSome}
 use Rattle.std.specs.Bool.{Decides}
 use Rattle.std.specs.Cmp.{eq_by_cmp_equiv}
-use Rattle.std.specs.FinMap.{slice_cmp-IsAntisymmetric, nat_cmp-IsAntisymmetric}
 use Rattle.std.specs.Cmp.Lexicographic.{pointwise}
 use Rattle.std.specs.List.{AllByRecursion}
-use Rattle.std.specs.Ordering.{eq_by_cmp, is_eq, ordering_reverse}
+use Rattle.std.specs.Ordering.{eq_by_cmp, ordering_reverse}
 use Rattle.std.specs.declared.cmp.Ordering.{Ordering}
 use Rattle.std.specs.declared.cmp.Ordering.TheVariants.{Less, Equal, Greater}
 use Rattle.std.proofs.lemmas.Bool.{le-leb}
 use Rattle.std.proofs.lemmas.Cmp.{tied_itself}
 use Rattle.std.proofs.lemmas.Slice.Eq.{slice_eq-Decides}
-use Rattle.gp_command.specs.declared.touch.Access.TheVariants.{Read, Write}
+use Rattle.gp_command.specs.declared.touch.Access.TheVariants.{Write}
 use Rattle.gp_command.specs.declared.touch.Touch.{Touch}
 use Rattle.gp_command.specs.Footprint.{first_unsorted}
 use Rattle.gp_command.specs.Key.{is_key, key_cmp, key_cmp_total}
-use Rattle.gp_command.specs.Order.{touch_cmp, touch_cmp_total, draft_cmp, draft_cmp_total}
+use Rattle.gp_command.specs.Order.{touch_cmp, touch_cmp_total, draft_cmp_total}
 use Rattle.gp_command.specs.Refusal.{long_body, refusal}
 use Rattle.gp_command.specs.Spelling.{IsDraft}
-use Rattle.gp_command.specs.Views.{DraftView, CommandView}
-use Rattle.gp_command.proofs.Ties.{tied_command}
+use Rattle.gp_command.specs.Views.{DraftView}
 use Rattle.gp_words.specs.Tokens.{tokens_of}
 use Rattle.gp_store.specs.declared.op.Op.{Op}
 use Rattle.gp_store.specs.declared.op.Op.TheVariants.{Put, Add, Get, Del, Cas, Copy, Checkpoint}
 use Rattle.gp_store.specs.Operations.{IsOp, is_checkpoint, op_text, op_foot, touch, copy_foot, draft_for}
 use Rattle.gp_store.specs.Forms.{op_spelled}
-use Rattle.gp_store.specs.Drafts.{same_draft, if_drafted, op_of}
+use Rattle.gp_store.specs.Drafts.{same_draft, op_of}
+use Rattle.gp_store.specs.DraftEquality.{tied, tied_drafts, drafts_equal, drafted}
 use Rattle.gp_store.proofs.SpellingLemmas.{text_short}
 use Rattle.gp_store.proofs.ReadingLemmas.{text_spells, spelled_read}
 
 -- ---- equal drafts
-
-tied : (o : Ordering) → is_eq o ≡ true → o ≡ Equal
-tied Equal e = refl
-tied Less e = absurd cc
-tied Greater e = absurd cc
-
-abbrev command_with : DraftView → CommandView
-command_with draft = record { id = record { proposer = 0; number = 0 }; draft = draft }
-
-tied_drafts : (d e : DraftView) → draft_cmp d e ≡ Equal → d ≡ e
-tied_drafts d e h = ap (λ (c : CommandView). c.draft) (tied_command (command_with d) (command_with e) h)
-
-pub drafts_equal : (d e : DraftView) → same_draft d e ≡ true → d ≡ e
-drafts_equal d e h = tied_drafts d e (tied (draft_cmp d e) h)
 
 pub same_itself : (d : DraftView) → same_draft d d ≡ true
 same_itself d = (eq_by_cmp_equiv draft_cmp_total).refl d
@@ -82,16 +67,6 @@ same_by_foot d e t body mark h =
 pub op_again : (op : Op) → IsOp op → op_of (draft_for op) ≡ Some op
 unfolding op_of
 op_again op r = rw (text_spells op r, same_itself (draft_for op)) refl
-
-if_same : (b : Bool) (op other : Op) → cond b (Some op) None ≡ Some other → (b ≡ true) × (op ≡ other)
-if_same true op other e = (refl, cc)
-if_same false op other e = absurd cc
-
-drafted : (d : DraftView) (o : Option Op) (op : Op) → if_drafted d o ≡ Some op → (o ≡ Some op) × (d ≡ draft_for op)
-drafted d None op e = absurd cc
-drafted d (Some x) op e =
-    let found = if_same (same_draft d (draft_for x)) x op e in
-    (ap (λ (x : Op). Some x) found.1, drafts_equal d (draft_for x) found.0 ∙ ap draft_for found.1)
 
 -- what is found in a draft is the operation whose draft it is
 pub op_found : (d : DraftView) (op : Op) → op_of d ≡ Some op → (d ≡ draft_for op) × IsOp op
@@ -195,25 +170,6 @@ pub answer_only : (d : DraftView) (r : Option Op) → r ≡ op_of d → (op : Op
 answer_only d r e op range is = e ∙ ap op_of is ∙ op_again op range
 
 -- ---- copies
-
-tied_keys : (a b : List ℕ) → key_cmp a b ≡ Equal → a ≡ b
-tied_keys = slice_cmp-IsAntisymmetric nat_cmp-IsAntisymmetric
-
-copy_reads : (o : Ordering) (from into : List ℕ) → key_cmp from into ≡ o → from ≢ into → Contains (copy_foot o from into) (touch from Read)
-copy_reads Less from into e differ = (0, omega arith, refl)
-copy_reads Equal from into e differ = absurd (differ (tied_keys from into e))
-copy_reads Greater from into e differ = (1, omega arith, refl)
-
-pub copy_read : (from into : List ℕ) → from ≢ into → Contains (op_foot (Copy from into)) (touch from Read)
-copy_read from into differ = copy_reads (key_cmp from into) from into refl differ
-
-copy_writes : (o : Ordering) (from into : List ℕ) → Contains (copy_foot o from into) (touch into Write)
-copy_writes Less from into = (1, omega arith, refl)
-copy_writes Equal from into = (0, omega arith, refl)
-copy_writes Greater from into = (0, omega arith, refl)
-
-pub copy_written : (from into : List ℕ) → Contains (op_foot (Copy from into)) (touch into Write)
-copy_written from into = copy_writes (key_cmp from into) from into
 
 pub copy_alone : (key : List ℕ) → op_foot (Copy key key) ≡ touch key Write ∷ []
 copy_alone key = ap (λ (o : Ordering). copy_foot o key key) (tied_itself key_cmp_total key)

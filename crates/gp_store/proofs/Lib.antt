@@ -1,3 +1,5 @@
 pub mod SpellingLemmas
 pub mod ReadingLemmas
 pub mod DraftLemmas
+pub mod StoreLemmas
+pub mod FootprintLemmas

@@ -3,3 +3,8 @@ pub mod Touched
 pub mod Forms
 pub mod FormViews
 pub mod Drafts
+pub mod DraftEquality
+pub mod Pairs
+pub mod Effects
+pub mod Changes
+pub mod Commuting

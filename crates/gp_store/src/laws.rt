@@ -1,17 +1,23 @@
 //! Laws of operations. Each function is there for its contract, which is the law.
 ghost use Rattle.std.specs.Prelude.{◌≡◌, ◌≢◌, ◌≤◌, ◌∷◌, ℕ, List, [], false, Some, Ok, All, Contains, length};
 ghost use Rattle.gp_command.specs.declared.touch.Access.TheVariants.{Read, Write};
+ghost use Rattle.gp_command.specs.declared.touch.Touch.{Touch};
+ghost use Rattle.gp_command.specs.declared.command.Command.{Command};
+ghost use Rattle.gp_command.specs.Conflict.{same, conflict};
 ghost use Rattle.gp_command.specs.Spelling.{IsDraft};
 ghost use Rattle.gp_command.specs.Views.{DraftView};
+ghost use Rattle.gp_replica.specs.declared.reply.Reply.TheVariants.{Absent};
+ghost use Rattle.gp_replica.specs.Machines.{Commute};
 ghost use Rattle.gp_words.specs.Bytes.{Lacks};
 ghost use Rattle.gp_words.specs.Lines.{is_line_feed};
-ghost use Rattle.gp_words.specs.Spacing.{joined};
 ghost use Rattle.gp_words.specs.Tokens.{is_space, tokens_of, has_empty};
 ghost use Rattle.gp_store.specs.declared.op.Op.{Op};
 ghost use Rattle.gp_store.specs.declared.op.Op.TheVariants.{Copy};
 ghost use Rattle.gp_store.specs.Operations.{IsOp, op_words, op_text, op_foot, touch, draft_for};
 ghost use Rattle.gp_store.specs.Forms.{OpForm, form_for, op_form, op_of_form, op_spelled};
 ghost use Rattle.gp_store.specs.Drafts.{op_of};
+ghost use Rattle.gp_store.specs.Pairs.{Pairs, value_at};
+ghost use Rattle.gp_store.specs.Effects.{effect, reply, after_command, reply_to_command, store_rules};
 
 use crate::op::Op;
 
@@ -78,4 +84,23 @@ pub fn a_draft_is_of_one_operation()
     ensures found { (draft : DraftView) (op : Op) → op_of draft ≡ Some op → draft ≡ draft_for op }
     ensures range { (draft : DraftView) (op : Op) → op_of draft ≡ Some op → IsOp op }
     ensures apart { (a b : Op) → IsOp a → IsOp b → draft_for a ≡ draft_for b → a ≡ b }
+{}
+
+/// An operation changes only keys that it adds to or writes, and its reply is of the values of keys that
+/// it touches.
+pub fn an_operation_keeps_to_its_footprint()
+    ensures changes { (pairs : Pairs) (op : Op) (key : List ℕ) → ((t : Touch) → Contains (op_foot op) t → t.access ≢ Read → t.key ≢ key) → value_at (effect pairs op) key ≡ value_at pairs key }
+    ensures reads { (pairs other : Pairs) (op : Op) → ((t : Touch) → Contains (op_foot op) t → value_at pairs t.key ≡ value_at other t.key) → reply pairs op ≡ reply other op }
+{}
+
+/// A command with the draft of an operation does the operation, and every other command does nothing.
+pub fn a_command_does_its_operation()
+    ensures done { (pairs : Pairs) (c : Command) (op : Op) → IsOp op → c.draft ≡ draft_for op → (after_command pairs c ≡ effect pairs op) × (reply_to_command pairs c ≡ reply pairs op) }
+    ensures nothing { (pairs : Pairs) (c : Command) → ((op : Op) → IsOp op → c.draft ≢ draft_for op) → (after_command pairs c ≡ pairs) × (reply_to_command pairs c ≡ Absent) }
+{}
+
+/// Commands that do not conflict give the same pairs in both orders, and the same replies, whatever the
+/// store has.
+pub fn commands_without_conflict_commute()
+    ensures { (pairs : Pairs) (c d : Command) → same c d ≡ false → conflict c d ≡ false → Commute store_rules pairs c d }
 {}

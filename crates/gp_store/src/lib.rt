@@ -1,12 +1,14 @@
-//! The operations of the key store: their spelling, their footprints and their drafts.
+//! The key store, and its operations: their spelling, their footprints, their drafts and their effects.
 #![tactic(auto)]
 
 mod draft;
 mod form;
 pub mod laws;
 mod op;
+mod store;
 mod touches;
 
 pub use draft::{draft_of, op_of};
 pub use form::{OpFault, OpForm, op_form, op_of_form};
 pub use op::{Op, write_op};
+pub use store::KeyStore;

@@ -1,4 +1,5 @@
-use Rattle.gp_store.proofs.DraftLemmas.{copy_read, copy_written, copy_alone}
+use Rattle.gp_store.specs.DraftEquality.{copy_read, copy_written}
+use Rattle.gp_store.proofs.DraftLemmas.{copy_alone}
 use Rattle.gp_store.proofs.laws.a_copy_touches_both_its_keys.Goals as goal
 
 pub returns-clause-read : goal.returns-clause-read
