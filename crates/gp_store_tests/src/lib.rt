@@ -1,0 +1,5 @@
+//! Tests of operations and the key store.
+#![tactic(auto)]
+
+#[cfg(test)]
+mod stores;

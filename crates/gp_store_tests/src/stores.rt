@@ -1,0 +1,111 @@
+//! What operations do to a key store and what they reply.
+use gp_command::{Command, CommandId, Draft, Key};
+use gp_replica::{Machine, Replica, Reply};
+use gp_store::{KeyStore, Op, draft_of};
+use std::alloc::Global;
+use std::test::Fail;
+
+const A: &[u8] = b"a";
+
+const B: &[u8] = b"b";
+
+const C: &[u8] = b"c";
+
+const FIRST: CommandId = CommandId {
+    proposer: 0,
+    number: 1,
+};
+
+// An operation with its keys and values.
+#[derive(Clone, Copy)]
+enum Step {
+    Put(&'static [u8], u64),
+    Add(&'static [u8], u64),
+    Get(&'static [u8]),
+    Del(&'static [u8]),
+    Cas(&'static [u8], u64, u64),
+    Copy(&'static [u8], &'static [u8]),
+}
+
+// Operations one behind another, each with its reply.
+const RUN: [(Step, Reply); 12] = [
+    (Step::Get(A), Reply::Absent),
+    (Step::Put(A, 5), Reply::Done),
+    // modulo 2^64
+    (Step::Add(A, 18446744073709551615), Reply::Done),
+    (Step::Get(A), Reply::Value(4)),
+    (Step::Cas(A, 5, 7), Reply::No),
+    (Step::Cas(A, 4, 9), Reply::Yes),
+    (Step::Copy(A, B), Reply::Done),
+    (Step::Del(A), Reply::Done),
+    (Step::Del(A), Reply::Absent),
+    (Step::Cas(A, 9, 1), Reply::No),
+    (Step::Copy(A, C), Reply::Absent),
+    // an absent key counts as 0
+    (Step::Add(C, 3), Reply::Done),
+];
+
+fn op(step: Step) -> Result<Op, Fail> {
+    Ok(match step {
+        Step::Put(key, value) => Op::Put(Key::new(key)?, value),
+        Step::Add(key, value) => Op::Add(Key::new(key)?, value),
+        Step::Get(key) => Op::Get(Key::new(key)?),
+        Step::Del(key) => Op::Del(Key::new(key)?),
+        Step::Cas(key, old, new) => Op::Cas(Key::new(key)?, old, new),
+        Step::Copy(from, into) => Op::Copy(Key::new(from)?, Key::new(into)?),
+    })
+}
+
+// Whether the store has this reply to the command with this draft.
+fn replies(store: &mut KeyStore, draft: Draft, reply: Reply) -> Result<bool, Fail> {
+    Ok(store.apply(&Command::new(FIRST, draft))? == reply)
+}
+
+// Whether the keys have the values that the run leaves.
+fn is_run(store: &KeyStore) -> Result<bool, Fail> {
+    Ok(
+        store.get(Key::new(A)?) == None
+            && store.get(Key::new(B)?) == Some(9)
+            && store.get(Key::new(C)?) == Some(3)
+            && store.pairs().len() == 2,
+    )
+}
+
+fn run_all(alloc: Global, store: &mut KeyStore) -> Result<bool, Fail> {
+    for (step, reply) in RUN {
+        let draft = draft_of(alloc, op(step)?)?;
+        if !replies(store, draft, reply)? {
+            return Ok(false);
+        }
+    }
+    Ok(true)
+}
+
+#[test]
+fn operations_do_what_they_say(rt: HostRuntime) -> Result<(), Fail> {
+    let alloc = rt.alloc();
+    let mut store = KeyStore::opening(alloc)?;
+    assert!(rt; run_all(alloc, &mut store)?);
+    assert!(rt; is_run(&store)?);
+    Ok(())
+}
+
+#[test]
+fn a_command_that_is_no_operation_changes_nothing(rt: HostRuntime) -> Result<(), Fail> {
+    let alloc = rt.alloc();
+    let mut store = KeyStore::opening(alloc)?;
+    let untouched = Draft::new(alloc, &[], b"put a 5")?;
+    assert!(rt; replies(&mut store, untouched, Reply::Absent)?);
+    let checkpoint = draft_of(alloc, Op::Checkpoint)?;
+    assert!(rt; replies(&mut store, checkpoint, Reply::Done)?);
+    assert!(rt; store.pairs().is_empty());
+    Ok(())
+}
+
+#[test]
+fn a_replica_has_run_nothing_at_first(rt: HostRuntime) -> Result<(), Fail> {
+    let replica = Replica::<KeyStore>::new(rt.alloc())?;
+    assert!(rt; replica.reply(FIRST) == None);
+    assert!(rt; replica.machine().pairs().is_empty());
+    Ok(())
+}
