@@ -1,5 +1,5 @@
 //! Traces: scripts that say what happened.
-ghost use Rattle.std.specs.Prelude.{◌≡◌, ◌++◌, map, OnOk, OnErr, IfOk};
+ghost use Rattle.std.specs.Prelude.{◌≡◌, ◌++◌, OnOk, OnErr, IfOk};
 ghost use Rattle.gp_script.specs.Spelling.{node_word, mode_word, round_words, kept_words, nodes_text};
 ghost use Rattle.gp_text.specs.Traces.{event_line, trace, events_in};
 
