@@ -47,7 +47,7 @@ use Rattle.gp_agreement.proofs.Coordinators as coordinators
 use Rattle.gp_agreement.proofs.Learners as learners
 use Rattle.gp_agreement.proofs.Learners.{votes_taken}
 use Rattle.gp_agreement.proofs.Simulation.{lifted, simulates}
-use Rattle.gp_agreement.proofs.Agreement.{heard_back}
+use Rattle.gp_agreement.proofs.Heard.{heard_back}
 use Rattle.gp_agreement.proofs.Returning.{shown_back, reply_back, proposed_at}
 use Rattle.gp_agreement.proofs.Standing as standing
 use Rattle.gp_agreement.proofs.Standing.{prefix_by}
@@ -278,7 +278,7 @@ module _ (config : Counts) (some : 0 < config.acceptors) (es : List Entry) (lega
       let ns = bundled.messages T D (lifted config es) in
       proposed_at config (slice_get ns i) c (sym (ap (λ (ms : List Message). slice_get ms i) (standing.like config some es legal).sent ∙ get-told config ns i) ∙ e)
 
-  all_proposed_once : AreProposedOnce es
+  pub all_proposed_once : AreProposedOnce es
   all_proposed_once =
       let there = (simulates config es legal).1 in
       record {

@@ -7,9 +7,10 @@ pub mod Coordinators
 pub mod Learners
 pub mod Simulation
 pub mod Moments
-pub mod Agreement
+pub mod Heard
 pub mod Returning
 pub mod VotesHad
 pub mod Chosen
 pub mod Standing
 pub mod Facts
+pub mod Agreement

@@ -29,10 +29,9 @@ use Rattle.gp_cstructs.proofs.OfferedCommands.{run_offers}
 use Rattle.gp_agreement.specs.Values.{Value}
 use Rattle.gp_agreement.specs.Facts.{IsChoosable, IsSafe, HasSent, IsProposed}
 use Rattle.gp_agreement.proofs.Bundle.{tables, offering, tables_lawful, tables_keep_commands}
-use Rattle.gp_agreement.proofs.Told.{told, all_told}
+use Rattle.gp_agreement.proofs.Told.{told, all_told, told_among}
 use Rattle.gp_agreement.proofs.Simulation.{lifted, Simulates}
 use Rattle.gp_agreement.proofs.Moments.{events, like_at, loose, matches_at}
-use Rattle.gp_agreement.proofs.Agreement.{told_among}
 use Rattle.gp_agreement.proofs.Returning.{answered_there, sent_there, voted_there, proposed_there}
 use Rattle.gp_agreement.proofs.VotesHad.{had_there, had_back}
 use Rattle.gp_agreement.proofs.Chosen.{voted_back}

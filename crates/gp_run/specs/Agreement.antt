@@ -39,6 +39,8 @@ pub record Agrees (config : Counts) (es : List Entry) : Type 0 where
   pub alike : (xs ys us vs : List Entry) → xs ++ ys ≡ es → us ++ vs ≡ es → (l i : ℕ) → AreAlike (learned_at config l ys) (learned_at config i vs)
   -- each command that a learner shows was proposed before
   pub proposed : (xs ys : List Entry) → xs ++ ys ≡ es → (l : ℕ) (c : Command) → has (learned_at config l ys) c ≡ true → Contains (messages ys) (Proposed c)
+  -- no two commands that learners show at any two moments have one identity
+  pub identities : (xs ys us vs : List Entry) → xs ++ ys ≡ es → us ++ vs ≡ es → (l i : ℕ) (c d : Command) → has (learned_at config l ys) c ≡ true → has (learned_at config i vs) d ≡ true → c.id ≡ d.id → c ≡ d
   -- what a learner shows grows while it does not fall
   pub grows : (xs ys zs : List Entry) → xs ++ (ys ++ zs) ≡ es → (l : ℕ) → StaysUp l ys → IsPrefix (learned_at config l zs) (learned_at config l (ys ++ zs))
   -- it is a history, above all that the learner heard, and below every history that is above all that it heard

@@ -94,7 +94,8 @@ impl World {
     /// What a learner shows: the history that it learned since it last fell. It takes no memory.
     pub fn learned(&self, learner: u32) -> &SeqHistory
         requires { learner < self.now.config.learners }
-        ensures { history_of result.now ≡ learned_at self.now.config learner (entries_of self.now) }
+        ensures learned { history_of result.now ≡ learned_at self.now.config learner (entries_of self.now) }
+        ensures agrees { Agrees self.now.config (entries_of self.now) }
     {
         self.nodes.learned(learner)
     }
