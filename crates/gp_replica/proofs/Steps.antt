@@ -1,12 +1,12 @@
 -- The least command that is ready may be run next.
-use Rattle.std.proofs.Common.{◌≡◌, ℕ, zero, suc, ◌<◌, ◌≤◌, true, false, not, cond, List, [], ◌∷◌, ◌++◌, length, take, Some, refl, sym, ap, subst, ◌∙◌, ◌⊎◌, inl, inr, arith}
+use Rattle.std.proofs.Common.{◌≡◌, ℕ, zero, suc, ◌+◌, ◌<◌, ◌≤◌, true, false, not, cond, List, [], ◌∷◌, ◌++◌, length, take, Some, refl, sym, ap, subst, ◌∙◌, ◌⊎◌, inl, inr, arith}
 use Rattle.std.specs.Prelude.{slice_get}
 use Rattle.gp_command.specs.declared.command.Command.{Command}
 use Rattle.gp_command.specs.Conflict.{same, conflict}
 use Rattle.gp_command.proofs.ConflictLemmas.{same-true, conflict_symm}
-use Rattle.gp_history.specs.History.{History, IsHistory, IsPrefix, has, before, push}
+use Rattle.gp_history.specs.History.{History, IsHistory, IsPrefix, has, before, size, push}
 use Rattle.gp_history.specs.Sequence.{history_of, no_repeat}
-use Rattle.gp_history.specs.Canonical.{next_least, IsNext}
+use Rattle.gp_history.specs.Canonical.{canonical, next_least, IsNext}
 use Rattle.gp_history.proofs.Tests.{right_of, one_of, not_true, by_cases, never}
 use Rattle.gp_history.proofs.Sets.{has_history_of}
 use Rattle.gp_history.proofs.Push.{has-push, push_old, push_last}
@@ -14,6 +14,10 @@ use Rattle.gp_history.proofs.Joins.{history_of_is, history_of-push}
 use Rattle.gp_history.proofs.Next.{next_is}
 use Rattle.gp_history.proofs.Counts.{no_longer_lists}
 use Rattle.gp_history.proofs.Sequences.{may_push}
+use Rattle.gp_history.proofs.Places.{take_next}
+use Rattle.gp_history.proofs.Size.{size_of_sequence}
+use Rattle.gp_history.proofs.Acyclic.{canonical_is, canonical_no_repeat}
+use Rattle.gp_history.proofs.Walk.{walks}
 use Rattle.gp_replica.specs.Runs.{HasDistinctIds, Continues}
 
 -- a prefix with the next command is a prefix
@@ -147,3 +151,34 @@ pushed_fresh spare now later c d e f g fresh =
     e
     ∙ (λ i. cond (has (history_of (g i)) (f i)) (g i) (g i ++ f i ∷ []))
     ∙ ap (λ b. cond b now (now ++ d ∷ [])) fresh
+
+-- ---- from nothing on
+
+some_at : (xs : List Command) (i : ℕ) → i < length xs → (d : Command) × (slice_get xs i ≡ Some d)
+some_at [] i lt = absurd (omega (arith, lt))
+some_at (x ∷ xs) zero lt = (x, refl)
+some_at (x ∷ xs) (suc i) lt = some_at xs i (omega (arith, lt))
+
+one_more : (xs : List Command) (i : ℕ) (d : Command) → slice_get xs i ≡ Some d → take (suc i) xs ≡ take i xs ++ d ∷ []
+one_more xs i d e = let n : suc i ≡ i + 1 = omega arith in ap (λ k. take k xs) n ∙ take_next xs i d e
+
+module _ (h : History) (xs : List Command) (w : IsHistory h) (n : no_repeat xs ≡ true) (e : history_of xs ≡ h) (k : Continues h [] xs) where
+  as_long : length xs ≡ length (canonical h)
+  as_long = sym (size_of_sequence xs n) ∙ ap size (e ∙ sym (canonical_is h w)) ∙ size_of_sequence (canonical h) (canonical_no_repeat h w)
+
+  alike_to : (i : ℕ) → i ≤ length xs → take i xs ≡ take i (canonical h)
+  alike_to zero le = refl
+  alike_to (suc i) le =
+      let r = alike_to i (omega (arith, le)) in
+      let here : i < length xs = omega (arith, le) in
+      let there : i < length (canonical h) = let m = as_long in omega (arith, here, m) in
+      let d = some_at xs i here in
+      let same_at : slice_get (canonical h) i ≡ Some d.0 = sym (walks h i there) ∙ ap (λ zs. next_least h (history_of zs)) (sym r) ∙ k.least i (omega arith) here ∙ d.1 in
+      one_more xs i d.0 d.1 ∙ ap (λ zs. zs ++ d.0 ∷ []) r ∙ sym (one_more (canonical h) i d.0 same_at)
+
+  pub is_canonical : xs ≡ canonical h
+  is_canonical = sym (take_all xs) ∙ alike_to (length xs) (omega arith) ∙ ap (λ m. take m (canonical h)) as_long ∙ take_all (canonical h)
+
+-- what a replica that had run nothing has run when it ran all
+pub first_run : (before now ys : List Command) → no_repeat now ≡ true → history_of now ≡ history_of ys → Continues (history_of ys) before now → before ≡ [] → now ≡ canonical (history_of ys)
+first_run before now ys n e k none = is_canonical (history_of ys) now (history_of_is ys) n e (subst (λ xs. Continues (history_of ys) xs now) none k)

@@ -4,8 +4,9 @@ ghost use Rattle.std.specs.Map.{lookup};
 ghost use Rattle.gp_command.specs.declared.command.Command.{Command};
 ghost use Rattle.gp_history.specs.History.{has, IsPrefix};
 ghost use Rattle.gp_history.specs.Sequence.{history_of};
-ghost use Rattle.gp_replica.specs.Machines.{is_same_id, state_of, reply_of};
-ghost use Rattle.gp_replica.specs.Runs.{HasDistinctIds, Continues};
+ghost use Rattle.gp_history.specs.Canonical.{canonical};
+ghost use Rattle.gp_replica.specs.Machines.{is_same_id, replies_to, state_of, reply_of};
+ghost use Rattle.gp_replica.specs.Runs.{HasDistinctIds, Continues, by_identity};
 
 use crate::machine::Machine;
 use crate::reply::Reply;
@@ -64,6 +65,14 @@ impl<M: Machine> Replica<M> {
         &self.machine
     }
 
+    /// Each command that was run, by its identity with its reply, in the order in which it was run. It
+    /// takes no memory.
+    pub fn replies(&self) -> &[(CommandId, Reply)]
+        ensures { result.now ≡ by_identity (replies_to M.rules self.now) }
+    {
+        self.replies.as_slice()
+    }
+
     /// The reply to the command with this identity, where it was run. It looks through the replies and
     /// takes no memory.
     pub fn reply(&self, id: CommandId) -> Option<Reply>
@@ -83,6 +92,7 @@ impl<M: Machine> Replica<M> {
         ensures count { IfOk result (λ count. length self.old + count ≡ length self.new) }
         ensures some { IsPrefix (history_of self.new) (history_of learned.now) }
         ensures order { Continues (history_of learned.now) self.old self.new }
+        ensures first { self.old ≡ [] → OnOk result (self.new ≡ canonical (history_of learned.now)) }
     {
         let before = self.ran.len();
         if before == learned.len() {

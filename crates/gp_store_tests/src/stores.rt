@@ -1,31 +1,15 @@
 //! What operations do to a key store and what they reply.
+use crate::steps::{A, B, C, Step, draft};
 use gp_command::{Command, CommandId, Draft, Key};
-use gp_replica::{Machine, Replica, Reply};
+use gp_replica::{Machine, Reply};
 use gp_store::{KeyStore, Op, draft_of};
 use std::alloc::Global;
 use std::test::Fail;
-
-const A: &[u8] = b"a";
-
-const B: &[u8] = b"b";
-
-const C: &[u8] = b"c";
 
 const FIRST: CommandId = CommandId {
     proposer: 0,
     number: 1,
 };
-
-// An operation with its keys and values.
-#[derive(Clone, Copy)]
-enum Step {
-    Put(&'static [u8], u64),
-    Add(&'static [u8], u64),
-    Get(&'static [u8]),
-    Del(&'static [u8]),
-    Cas(&'static [u8], u64, u64),
-    Copy(&'static [u8], &'static [u8]),
-}
 
 // Operations one behind another, each with its reply.
 const RUN: [(Step, Reply); 12] = [
@@ -45,17 +29,6 @@ const RUN: [(Step, Reply); 12] = [
     (Step::Add(C, 3), Reply::Done),
 ];
 
-fn op(step: Step) -> Result<Op, Fail> {
-    Ok(match step {
-        Step::Put(key, value) => Op::Put(Key::new(key)?, value),
-        Step::Add(key, value) => Op::Add(Key::new(key)?, value),
-        Step::Get(key) => Op::Get(Key::new(key)?),
-        Step::Del(key) => Op::Del(Key::new(key)?),
-        Step::Cas(key, old, new) => Op::Cas(Key::new(key)?, old, new),
-        Step::Copy(from, into) => Op::Copy(Key::new(from)?, Key::new(into)?),
-    })
-}
-
 // Whether the store has this reply to the command with this draft.
 fn replies(store: &mut KeyStore, draft: Draft, reply: Reply) -> Result<bool, Fail> {
     Ok(store.apply(&Command::new(FIRST, draft))? == reply)
@@ -73,8 +46,7 @@ fn is_run(store: &KeyStore) -> Result<bool, Fail> {
 
 fn run_all(alloc: Global, store: &mut KeyStore) -> Result<bool, Fail> {
     for (step, reply) in RUN {
-        let draft = draft_of(alloc, op(step)?)?;
-        if !replies(store, draft, reply)? {
+        if !replies(store, draft(alloc, step)?, reply)? {
             return Ok(false);
         }
     }
@@ -99,13 +71,5 @@ fn a_command_that_is_no_operation_changes_nothing(rt: HostRuntime) -> Result<(),
     let checkpoint = draft_of(alloc, Op::Checkpoint)?;
     assert!(rt; replies(&mut store, checkpoint, Reply::Done)?);
     assert!(rt; store.pairs().is_empty());
-    Ok(())
-}
-
-#[test]
-fn a_replica_has_run_nothing_at_first(rt: HostRuntime) -> Result<(), Fail> {
-    let replica = Replica::<KeyStore>::new(rt.alloc())?;
-    assert!(rt; replica.reply(FIRST) == None);
-    assert!(rt; replica.machine().pairs().is_empty());
     Ok(())
 }

@@ -2,7 +2,7 @@ use Rattle.std.proofs.Common.{◌++◌, ◌∷◌, [], refl, ap, subst, sym, ◌
 use Rattle.gp_history.specs.Sequence.{history_of, no_repeat}
 use Rattle.gp_history.proofs.Counts.{same_if_prefix}
 use Rattle.gp_replica.specs.Runs.{HasDistinctIds}
-use Rattle.gp_replica.proofs.Steps.{can_run, next_of, prefix_ids, pushed_fresh, caught_up_more, fewer_left, length_push}
+use Rattle.gp_replica.proofs.Steps.{can_run, next_of, prefix_ids, pushed_fresh, caught_up_more, continues_itself, first_run, fewer_left, length_push}
 use Rattle.gp_replica.proofs.replica.Replica.catch_up.Goals as goal
 
 pub returns-then-before-len-clause-all : goal.returns-then-before-len-clause-all
@@ -12,6 +12,21 @@ returns-then-before-len-clause-all g c =
     let as_long = ap length (sym c.self.view_is) ∙ sym c.len-before.ensures.items ∙ c.if-before-len.true ∙ c.len.ensures.items in
     let distinct = ap no_repeat (sym c.self.view_is) ∙ c.self.invariant.distinct in
     (same_if_prefix xs ys distinct c.len.ensures.distinct).0 (as_long, c.requires.prefix)
+
+pub returns-then-before-len-clause-first : goal.returns-then-before-len-clause-first
+returns-then-before-len-clause-first g c = λ none.
+    let xs = c.args.self.now in
+    let ys = c.args.learned.now in
+    let distinct = ap no_repeat (sym c.self.view_is) ∙ c.self.invariant.distinct in
+    first_run xs xs ys distinct (returns-then-before-len-clause-all g c) (continues_itself (history_of ys) xs) none
+
+pub returns-clause-first : goal.returns-clause-first
+returns-clause-first g c = λ none.
+    let xs = c.loop-c.self in
+    let ys = c.args.learned.now in
+    let distinct = ap no_repeat (sym c.self-in-loop-c.view_is) ∙ c.self-in-loop-c.invariant.distinct in
+    let all = ap history_of (sym c.self-in-loop-c.view_is) ∙ sym (c.in_default.ensures.none.0 refl) in
+    first_run c.args.self.now xs ys distinct all c.loop-c.invariant.order none
 
 pub run-requires-clause-next : goal.run-requires-clause-next
 run-requires-clause-next g c =

@@ -1,0 +1,196 @@
+//! What replicas of the key store run of the histories that they learn, and what they reply.
+ghost use Rattle.std.specs.Prelude.{◌≡◌, ◌≢◌, ◌<◌, ◌≤◌, ℕ, IsTrue, Some, length, slice_get};
+ghost use Rattle.gp_command.specs.declared.command.Command.{Command};
+ghost use Rattle.gp_history.specs.Sequence.{history_of};
+ghost use Rattle.gp_replica.specs.Runs.{HasDistinctIds};
+
+use crate::steps::{A, B, Step, draft};
+use gp_command::{Command, CommandId, Key};
+use gp_history::{Hist, SeqHistory};
+use gp_replica::{Replica, Reply};
+use gp_store::KeyStore;
+use std::alloc::Global;
+use std::process::Abort;
+use std::test::Fail;
+
+// A command: its proposer, the proposer's number of it, and what it does.
+type Row = (u32, u32, Step);
+
+// What was run: the command's proposer and number, and the reply.
+type Run = (u32, u32, Reply);
+
+// Of two proposers. The first command is not the least, and conflicts with no other.
+const LEARNED: [Row; 4] = [
+    (1, 1, Step::Put(B, 5)),
+    (0, 1, Step::Put(A, 1)),
+    (1, 2, Step::Add(A, 2)),
+    (0, 2, Step::Get(A)),
+];
+
+// The same in the canonical order.
+const RAN: [Run; 4] = [
+    (0, 1, Reply::Done),
+    (1, 1, Reply::Done),
+    (1, 2, Reply::Done),
+    (0, 2, Reply::Value(3)),
+];
+
+// A command that is learned later.
+const LATER: Row = (0, 3, Step::Copy(A, B));
+
+// It is run behind those that were run before.
+const RAN_LATER: [Run; 5] = [
+    (0, 1, Reply::Done),
+    (1, 1, Reply::Done),
+    (1, 2, Reply::Done),
+    (0, 2, Reply::Value(3)),
+    (0, 3, Reply::Done),
+];
+
+// What a key service does, one behind another.
+const SERVED: [Row; 8] = [
+    (0, 1, Step::Put(A, 1)),
+    (0, 2, Step::Add(A, 3)),
+    (0, 3, Step::Get(A)),
+    (0, 4, Step::Cas(A, 4, 9)),
+    (0, 5, Step::Copy(A, B)),
+    (0, 6, Step::Del(A)),
+    (0, 7, Step::Get(A)),
+    (0, 8, Step::Copy(A, B)),
+];
+
+const SERVED_RAN: [Run; 8] = [
+    (0, 1, Reply::Done),
+    (0, 2, Reply::Done),
+    (0, 3, Reply::Value(4)),
+    (0, 4, Reply::Yes),
+    (0, 5, Reply::Done),
+    (0, 6, Reply::Done),
+    (0, 7, Reply::Absent),
+    (0, 8, Reply::Absent),
+];
+
+fn id(proposer: u32, number: u32) -> CommandId {
+    CommandId { proposer, number }
+}
+
+fn learn(learned: &mut SeqHistory, alloc: Global, row: Row) -> Result<(), Fail> {
+    let (proposer, number, step) = row;
+    learned.push(Command::new(id(proposer, number), draft(alloc, step)?))?;
+    Ok(())
+}
+
+fn history(alloc: Global, rows: &[Row]) -> Result<SeqHistory, Fail> {
+    let mut learned = SeqHistory::empty(alloc)?;
+    for row in rows {
+        learn(&mut learned, alloc, *row)?;
+    }
+    Ok(learned)
+}
+
+// Whether no command before a place has this identity.
+fn is_new(learned: &SeqHistory, place: usize, id: CommandId) -> bool
+    requires { place ≤ length learned.now }
+    ensures { IsTrue result → (i : ℕ) (c : Command) → i < place → slice_get learned.now i ≡ Some c → c.id ≢ id }
+{
+    for i in 0..place {
+        if learned.at(i).id() == id {
+            return false;
+        }
+    }
+    true
+}
+
+// Whether each command has an identity of its own.
+fn has_distinct_ids(learned: &SeqHistory) -> bool
+    ensures { IsTrue result → HasDistinctIds (history_of learned.now) }
+{
+    for place in 0..learned.len() {
+        if !is_new(learned, place, learned.at(place).id()) {
+            return false;
+        }
+    }
+    true
+}
+
+// Catches up, where the history is one to which a replica may be led.
+fn caught_up(
+    rt: &impl Abort,
+    replica: &mut Replica<KeyStore>,
+    learned: &SeqHistory,
+) -> Result<usize, Fail> {
+    assert!(rt; replica.ran().is_prefix(learned));
+    assert!(rt; has_distinct_ids(learned));
+    Ok(replica.catch_up(learned)?)
+}
+
+// Whether these were run, in this order, with these replies.
+fn has_run(replica: &Replica<KeyStore>, runs: &[Run]) -> bool {
+    replica.ran().len() == runs.len()
+        && replica.replies().len() == runs.len()
+        && runs
+            .iter()
+            .zip(replica.replies())
+            .all(|(run, kept)| *kept == (id(run.0, run.1), run.2))
+}
+
+// Whether the replies are found under the identities.
+fn answers(replica: &Replica<KeyStore>, runs: &[Run]) -> bool {
+    runs.iter()
+        .all(|run| replica.reply(id(run.0, run.1)) == Some(run.2))
+}
+
+fn has_values(replica: &Replica<KeyStore>, a: Option<u64>, b: Option<u64>) -> Result<bool, Fail> {
+    let store = replica.machine();
+    Ok(store.get(Key::new(A)?) == a && store.get(Key::new(B)?) == b)
+}
+
+#[test]
+fn a_replica_has_run_nothing_at_first(rt: HostRuntime) -> Result<(), Fail> {
+    let replica = Replica::<KeyStore>::new(rt.alloc())?;
+    assert!(rt; has_run(&replica, &[]));
+    assert!(rt; replica.reply(id(0, 1)) == None);
+    assert!(rt; replica.machine().pairs().is_empty());
+    Ok(())
+}
+
+#[test]
+fn what_is_learned_is_run_in_the_canonical_order(rt: HostRuntime) -> Result<(), Fail> {
+    let alloc = rt.alloc();
+    let learned = history(alloc, &LEARNED)?;
+    let mut replica = Replica::new(alloc)?;
+    assert_eq!(rt; caught_up(&rt, &mut replica, &learned)?, 4);
+    assert!(rt; has_run(&replica, &RAN));
+    assert!(rt; answers(&replica, &RAN));
+    assert!(rt; replica.reply(id(0, 3)) == None);
+    assert!(rt; has_values(&replica, Some(3), Some(5))?);
+    Ok(())
+}
+
+#[test]
+fn what_was_run_is_not_run_again(rt: HostRuntime) -> Result<(), Fail> {
+    let alloc = rt.alloc();
+    let mut learned = history(alloc, &LEARNED)?;
+    let mut replica = Replica::new(alloc)?;
+    assert_eq!(rt; caught_up(&rt, &mut replica, &learned)?, 4);
+    assert_eq!(rt; caught_up(&rt, &mut replica, &learned)?, 0);
+    assert!(rt; has_run(&replica, &RAN));
+    learn(&mut learned, alloc, LATER)?;
+    assert_eq!(rt; caught_up(&rt, &mut replica, &learned)?, 1);
+    assert!(rt; has_run(&replica, &RAN_LATER));
+    assert!(rt; answers(&replica, &RAN_LATER));
+    assert!(rt; has_values(&replica, Some(3), Some(3))?);
+    Ok(())
+}
+
+#[test]
+fn a_key_is_served(rt: HostRuntime) -> Result<(), Fail> {
+    let alloc = rt.alloc();
+    let learned = history(alloc, &SERVED)?;
+    let mut replica = Replica::new(alloc)?;
+    assert_eq!(rt; caught_up(&rt, &mut replica, &learned)?, 8);
+    assert!(rt; has_run(&replica, &SERVED_RAN));
+    assert!(rt; answers(&replica, &SERVED_RAN));
+    assert!(rt; has_values(&replica, None, Some(9))?);
+    Ok(())
+}
