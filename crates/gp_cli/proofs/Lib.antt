@@ -1,2 +1,3 @@
-pub mod ShortScripts
 pub mod Causes
+pub mod ShortScripts
+pub mod Statuses

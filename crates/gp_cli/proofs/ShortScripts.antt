@@ -1,22 +1,18 @@
 -- A script that is read whole is no longer than a script may be.
-use Rattle.std.proofs.Common.{◌≡◌, ℕ, ◌+◌, ◌≤◌, Bool, true, false, cond, leb, ltb, eqb, List, [], ◌∷◌, length, Option, Some, None, Result, Ok, Err, refl, sym, ap, ◌∙◌, arith, ◌⊎◌, inl, inr}
+use Rattle.std.proofs.Common.{◌≡◌, ℕ, ◌+◌, ◌≤◌, Bool, true, false, cond, leb, ltb, List, [], ◌∷◌, length, Option, Some, None, Result, Ok, Err, refl, ap, arith, ◌⊎◌, inl, inr}
 use Rattle.std.specs.Prelude.{IfSome}
 use Rattle.std.specs.List.{flat_map}
-use Rattle.std.proofs.lemmas.Bool.{and_cases, leb-false, ltb-false, eqb-false}
+use Rattle.std.proofs.lemmas.Bool.{and_cases, leb-false, ltb-false}
 use Rattle.std.proofs.lemmas.List.{length-append, length-take, drop_all}
 use Rattle.gp_round.specs.Counts.{Counts}
-use Rattle.gp_msg.specs.Messages.{Entry}
-use Rattle.gp_run.specs.Runs.{run_of}
 use Rattle.gp_words.specs.Lines.{lines_of}
 use Rattle.gp_words.specs.Lines.{text_of as line_text}
 use Rattle.gp_words.proofs.LineLemmas.{lines_whole}
 use Rattle.gp_script.specs.declared.reason.Reason.{Reason}
 use Rattle.gp_script.specs.declared.reason.Reason.TheVariants.{TooLong}
 use Rattle.gp_edge.specs.Reads.{ReadsUpTo}
-use Rattle.gp_text.specs.Reading.{Reading, Whole, Refused, Sofar, nothing, on_line, holds_limit, is_passed, nodes_line, after_line, follow, opening, reading}
-use Rattle.gp_cli.specs.Endings.{Ending, Misused, Unread, Refuses, Plays, Starved, Seen, HasRead, IsReadCause, status_of, status_at_fault, text_of}
-use Rattle.gp_cli.specs.Serving.{Told, Wholly, AtFault, ForMemory, Ends}
-use Rattle.gp_cli.specs.declared.serving.Ran.{Ran}
+use Rattle.gp_text.specs.Reading.{Reading, Whole, Refused, Script, Sofar, nothing, behind, on_line, holds_limit, is_passed, nodes_line, after_line, follow, opening, reading}
+use Rattle.gp_cli.specs.Endings.{Seen, HasRead}
 
 -- a line that does not hold the limit ends before it
 before_limit : (place : ℕ) (line : List ℕ) → place ≤ 1048576 → holds_limit place line ≡ false → place + length line ≤ 1048576
@@ -27,15 +23,15 @@ before_limit place line near short =
     ]
 
 -- a line behind which a script goes on to its end was read
-goes_on : {X : Type 0} (long : Bool) (said : Result X Reason) (go : X → Reading) (n : ℕ) (why : Reason) (run : List Entry) (own : Counts) (whole : Sofar)
-    → cond long (Refused n why run) (on_line said go (λ reason. Refused n reason run)) ≡ Whole own whole → (long ≡ false) × ((x : X) × (go x ≡ Whole own whole))
-goes_on true said go n why run own whole e = absurd cc
-goes_on false (Ok x) go n why run own whole e = (refl, (x, e))
-goes_on false (Err reason) go n why run own whole e = absurd cc
+goes_on : {X : Type 0} (long : Bool) (said : Result X Reason) (go : X → Reading) (n : ℕ) (why : Reason) (before : Option Script) (own : Counts) (whole : Sofar)
+    → cond long (Refused n why before) (on_line said go (λ reason. Refused n reason before)) ≡ Whole own whole → (long ≡ false) × ((x : X) × (go x ≡ Whole own whole))
+goes_on true said go n why before own whole e = absurd cc
+goes_on false (Ok x) go n why before own whole e = (refl, (x, e))
+goes_on false (Err reason) go n why before own whole e = absurd cc
 
 -- and so was the `nodes` line, or one that is passed over before it
 opens_on : {X : Type 0} (long passed : Bool) (next : Reading) (said : Result X Reason) (go : X → Reading) (n : ℕ) (own : Counts) (whole : Sofar)
-    → cond long (Refused n TooLong []) (cond passed next (on_line said go (λ reason. Refused n reason []))) ≡ Whole own whole
+    → cond long (Refused n TooLong None) (cond passed next (on_line said go (λ reason. Refused n reason None))) ≡ Whole own whole
     → (long ≡ false) × ((next ≡ Whole own whole) ⊎ ((x : X) × (go x ≡ Whole own whole)))
 opens_on true passed next said go n own whole e = absurd cc
 opens_on false true next said go n own whole e = (refl, inl e)
@@ -50,7 +46,7 @@ lines_short : (config own : Counts) (n place : ℕ) (sofar whole : Sofar) (lines
 unfolding follow
 lines_short config own n place sofar whole [] near e = omega arith
 lines_short config own n place sofar whole (line ∷ lines) near e =
-    let g = goes_on (holds_limit place line) (after_line config sofar (line_text line)) (λ more. follow config (n + 1) (place + length line) more lines) n TooLong (run_of config sofar.events) own whole e in
+    let g = goes_on (holds_limit place line) (after_line config sofar (line_text line)) (λ more. follow config (n + 1) (place + length line) more lines) n TooLong (behind config sofar) own whole e in
     line_more place line lines (lines_short config own (n + 1) (place + length line) g.1.0 whole lines (before_limit place line near g.0) g.1.1)
 
 opening_short : (own : Counts) (n place : ℕ) (whole : Sofar) (lines : List (List ℕ)) → place ≤ 1048576 → opening n place lines ≡ Whole own whole
@@ -80,30 +76,6 @@ nothing_left (Some rest) now bytes reads short =
     let count = length-take 1048577 rest in
     rw reads.1 (drop_all 1048577 rest (omega (arith, taken, count, short)))
 
--- a text is told with one of three statuses
-other_status : (before now : Seen) (text : List ℕ) (whole at_fault status n : ℕ) → Told before now text whole at_fault status
-    → eqb whole n ≡ false → eqb at_fault n ≡ false → eqb 1 n ≡ false → status ≡ n → ⊥
-other_status before now text whole at_fault status n (Wholly is written) w f o e = eqb-false whole n w (sym is ∙ e)
-other_status before now text whole at_fault status n (AtFault is rose written) w f o e = eqb-false at_fault n f (sym is ∙ e)
-other_status before now text whole at_fault status n (ForMemory is written) w f o e = eqb-false 1 n o (sym is ∙ e)
-
-whole_left : (rest left : Seen) (config : Counts) (said : Sofar) → HasRead rest left (Whole config said) → IfSome left.bytes (λ bytes. bytes ≡ [])
+-- behind a whole script nothing is left
+pub whole_left : (rest left : Seen) (config : Counts) (said : Sofar) → HasRead rest left (Whole config said) → IfSome left.bytes (λ bytes. bytes ≡ [])
 whole_left rest left config said read = nothing_left rest.bytes left.bytes read.bytes read.taken (script_short read.bytes config said read.says)
-
--- with status 0 or 5 nothing of the source is left
-pub read_to_end : (rest left before now : Seen) (ran : Ran) → Ends (IsReadCause rest left) before now ran → (ran.status ≡ 0) ⊎ (ran.status ≡ 5) → IfSome left.bytes (λ bytes. bytes ≡ [])
-read_to_end rest left before now ran ends done = at ends.ending ends.cause ends.told
-  where
-    other : (ending : Ending) → Told before now (text_of ending) (status_of ending) (status_at_fault ending) ran.status
-        → eqb (status_of ending) 0 ≡ false → eqb (status_at_fault ending) 0 ≡ false → eqb (status_of ending) 5 ≡ false → eqb (status_at_fault ending) 5 ≡ false → ⊥
-    other ending told w f w5 f5 = elim done [
-      | inl none ↦ other_status before now (text_of ending) (status_of ending) (status_at_fault ending) ran.status 0 told w f refl none
-      | inr five ↦ other_status before now (text_of ending) (status_of ending) (status_at_fault ending) ran.status 5 told w5 f5 refl five
-    ]
-
-    at : (ending : Ending) → IsReadCause rest left ending → Told before now (text_of ending) (status_of ending) (status_at_fault ending) ran.status → IfSome left.bytes (λ bytes. bytes ≡ [])
-    at Misused cause told = absurd cause
-    at Unread cause told = absurd (other Unread told refl refl refl refl)
-    at (Refuses line reason run) cause told = absurd (other (Refuses line reason run) told refl refl refl refl)
-    at (Plays config said) cause told = whole_left rest left config said cause
-    at Starved cause told = absurd (other Starved told refl refl refl refl)

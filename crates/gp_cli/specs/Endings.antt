@@ -1,20 +1,20 @@
 -- How a run of the program ends: its cause, its run, its text and its status.
-use Rattle.std.specs.Prelude.{◌≡◌, ℕ, List, [], Option, MatchBool}
+use Rattle.std.specs.Prelude.{◌≡◌, ℕ, List, [], Option, Some, None, MatchBool}
 use Rattle.gp_round.specs.Counts.{Counts}
 use Rattle.gp_msg.specs.Messages.{Entry}
 use Rattle.gp_run.specs.Runs.{run_of}
 use Rattle.gp_script.specs.declared.reason.Reason.{Reason}
 use Rattle.gp_edge.specs.Faults.{Rose}
 use Rattle.gp_edge.specs.Reads.{ReadsUpTo, LosesUpTo}
-use Rattle.gp_text.specs.Reading.{Reading, Whole, Refused, Sofar, reading}
+use Rattle.gp_text.specs.Reading.{Reading, Whole, Refused, Script, Sofar, run_before, reading}
 use Rattle.gp_text.specs.Texts.{output}
 use Rattle.gp_cli.specs.Texts.{is_play, usage, read_fault, refusal_text}
 
--- the words are no command; the source failed; a line of the script is refused, behind this run; the script was played; memory ran out before any of these was known
+-- the words are no command; the source failed; a line of the script is refused, and this is what the lines before it said; the script was played; memory ran out before any of these was known
 pub data Ending : Type 0 where
   Misused : Ending
   Unread : Ending
-  Refuses : ℕ → Reason → List Entry → Ending
+  Refuses : ℕ → Reason → Option Script → Ending
   Plays : Counts → Sofar → Ending
   Starved : Ending
 
@@ -22,7 +22,7 @@ pub data Ending : Type 0 where
 abbrev pub status_of : Ending → ℕ
 status_of Misused = 2
 status_of Unread = 4
-status_of (Refuses line reason run) = 3
+status_of (Refuses line reason before) = 3
 status_of (Plays config said) = 0
 status_of Starved = 1
 
@@ -30,7 +30,7 @@ status_of Starved = 1
 abbrev pub status_at_fault : Ending → ℕ
 status_at_fault Misused = 2
 status_at_fault Unread = 4
-status_at_fault (Refuses line reason run) = 3
+status_at_fault (Refuses line reason before) = 3
 status_at_fault (Plays config said) = 5
 status_at_fault Starved = 1
 
@@ -38,7 +38,7 @@ status_at_fault Starved = 1
 abbrev pub text_of : Ending → List ℕ
 text_of Misused = usage
 text_of Unread = read_fault
-text_of (Refuses line reason run) = refusal_text line reason
+text_of (Refuses line reason before) = refusal_text line reason
 text_of (Plays config said) = output config said
 text_of Starved = []
 
@@ -46,15 +46,20 @@ text_of Starved = []
 abbrev pub run_to : Ending → List Entry
 run_to Misused = []
 run_to Unread = []
-run_to (Refuses line reason run) = run
+run_to (Refuses line reason before) = run_before before
 run_to (Plays config said) = run_of config said.events
 run_to Starved = []
 
--- the configuration, where a script was played, is the script's
+-- the configuration is the one that was said, if one was
+abbrev pub IsConfigIn : Option Script → Counts → Type 0
+IsConfigIn None config = Unit {0}
+IsConfigIn (Some script) config = config ≡ script.config
+
+-- the configuration is the script's, if it has one
 abbrev pub IsConfigOf : Ending → Counts → Type 0
 IsConfigOf Misused config = Unit {0}
 IsConfigOf Unread config = Unit {0}
-IsConfigOf (Refuses line reason run) config = Unit {0}
+IsConfigOf (Refuses line reason before) config = IsConfigIn before config
 IsConfigOf (Plays own said) config = config ≡ own
 IsConfigOf Starved config = Unit {0}
 
@@ -76,7 +81,7 @@ pub record HasRead (before now : Seen) (read : Reading) : Type 0 where
 abbrev pub IsReadCause : Seen → Seen → Ending → Type 0
 IsReadCause before now Misused = ⊥
 IsReadCause before now Unread = Rose before.faults now.faults × LosesUpTo 1048577 before.bytes now.bytes
-IsReadCause before now (Refuses line reason run) = HasRead before now (Refused line reason run)
+IsReadCause before now (Refuses line reason said) = HasRead before now (Refused line reason said)
 IsReadCause before now (Plays config said) = HasRead before now (Whole config said)
 IsReadCause before now Starved = LosesUpTo 1048577 before.bytes now.bytes
 
@@ -88,6 +93,6 @@ IsCause words before now ending = MatchBool (is_play words) (IsReadCause before 
 abbrev pub IsScriptCause : Reading → Ending → Type 0
 IsScriptCause read Misused = ⊥
 IsScriptCause read Unread = ⊥
-IsScriptCause read (Refuses line reason run) = read ≡ Refused line reason run
+IsScriptCause read (Refuses line reason before) = read ≡ Refused line reason before
 IsScriptCause read (Plays config said) = read ≡ Whole config said
 IsScriptCause read Starved = Unit {0}

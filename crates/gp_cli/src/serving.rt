@@ -1,10 +1,13 @@
 //! The top call.
 ghost use Rattle.std.specs.Prelude.{◌≡◌, ◌≤◌, ◌⊎◌, [], false, IfSome};
 ghost use Rattle.gp_edge.specs.Faults.{Rose};
+ghost use Rattle.gp_round.specs.Counts.{Counts};
+ghost use Rattle.gp_run.specs.Runs.{entries_in};
+ghost use Rattle.gp_report.specs.Replicas.{IsInAgreement};
 ghost use Rattle.gp_text.specs.Reading.{reading};
 ghost use Rattle.gp_cli.specs.Texts.{texts_of, is_play, usage, refusal_text};
 ghost use Rattle.gp_cli.specs.Endings.{seen, IsCause, IsReadCause, IsScriptCause};
-ghost use Rattle.gp_cli.specs.Serving.{Told, Ends, IsInAgreement, PlaysWhole, StopsAtLine};
+ghost use Rattle.gp_cli.specs.Serving.{Told, Ends, PlaysWhole, StopsAtLine};
 
 use crate::status::{DONE, MISUSED, NO_MEMORY, REFUSED, UNREAD, UNWRITTEN};
 use crate::telling::{READ_FAULT, USAGE, refusal_text, tell};
@@ -124,8 +127,8 @@ pub fn serve<S: Source, K: Sink>(
         (seen (S.rest source.old) (S.faults source.old)) (seen (S.rest source.new) (S.faults source.new)))
         (seen (K.written sink.old) (K.faults sink.old)) (seen (K.written sink.new) (K.faults sink.new)) result }
 
-    // Whatever status it is, the records are legal, and what learners showed at any moments agrees.
-    ensures agrees { IsInAgreement result.trail }
+    // Whatever status it is, the records are legal, what learners showed at any moments agrees, and so do replicas.
+    ensures agreement { (config : Counts) × IsInAgreement config (entries_in result.trail) }
 
     // What a status says.
     ensures played { result.status ≡ 0 →

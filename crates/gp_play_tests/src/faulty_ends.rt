@@ -1,6 +1,8 @@
 //! Sources and sinks that fail.
 use crate::stage::play_over;
-use crate::whole_scripts::{ONE_PUT, ONE_PUT_PRINTS};
+use crate::whole_scripts::{
+    FOUR_ACCEPTORS_CHOSEN_PREFIX, FOUR_ACCEPTORS_CHOSEN_PREFIX_PRINTS, ONE_PUT, ONE_PUT_PRINTS,
+};
 use gp_edge::{CalmSink, CalmSource, MemSink, MemSource, WriteSink};
 use std::alloc::Global;
 use std::io::Cursor;
@@ -14,12 +16,13 @@ fn read_fails(alloc: Global, n: u64) -> Result<bool, Fail> {
     Ok(status == 4 && sink.written() == b"read fault\n".as_slice())
 }
 
-// Whether a failure of the n-th write, each of 16 bytes, ends in a write fault behind these bytes.
-fn write_fails(alloc: Global, n: u64, written: &[u8]) -> Result<bool, Fail> {
+// Whether a failure of the n-th write, each of 16 bytes, ends in a write fault behind what was written before.
+fn write_fails(alloc: Global, n: u8) -> Result<bool, Fail> {
     let mut source = CalmSource::new(alloc, ONE_PUT)?;
-    let mut sink = MemSink::new(alloc, 16, &[n])?;
+    let mut sink = MemSink::new(alloc, 16, &[u64::from(n)])?;
     let status = play_over(alloc, &mut source, &mut sink)?;
-    Ok(status == 5 && sink.written() == written)
+    let written = ONE_PUT_PRINTS.get(..16 * usize::from(n));
+    Ok(status == 5 && Some(sink.written()) == written)
 }
 
 #[test]
@@ -32,27 +35,31 @@ fn each_read_may_fail(rt: HostRuntime) -> Result<(), Fail> {
 
 #[test]
 fn each_write_may_fail(rt: HostRuntime) -> Result<(), Fail> {
-    let alloc = rt.alloc();
-    assert!(rt; write_fails(alloc, 0, b"")?);
-    assert!(rt; write_fails(alloc, 1, b"l0 learned 1: p0")?);
-    assert!(rt; write_fails(alloc, 2, b"l0 learned 1: p0.1\nl1 learned 0:")?);
-    assert!(rt;
-        write_fails(
-            alloc,
-            3,
-            b"l0 learned 1: p0.1\nl1 learned 0: -\nevents 11 mes"
-        )?
-    );
+    for n in 0..8 {
+        assert!(rt; write_fails(rt.alloc(), n)?);
+    }
     Ok(())
+}
+
+// Whether a script prints this where each read and each write is of one byte.
+fn prints_in_pieces(alloc: Global, script: &[u8], prints: &[u8]) -> Result<bool, Fail> {
+    let mut source = MemSource::new(alloc, script, 1, &[])?;
+    let mut sink = MemSink::new(alloc, 1, &[])?;
+    let status = play_over(alloc, &mut source, &mut sink)?;
+    Ok(status == 0 && sink.written() == prints)
 }
 
 #[test]
 fn pieces_may_be_of_one_byte(rt: HostRuntime) -> Result<(), Fail> {
     let alloc = rt.alloc();
-    let mut source = MemSource::new(alloc, ONE_PUT, 1, &[])?;
-    let mut sink = MemSink::new(alloc, 1, &[])?;
-    assert!(rt; play_over(alloc, &mut source, &mut sink)? == 0);
-    assert!(rt; sink.written() == ONE_PUT_PRINTS);
+    assert!(rt; prints_in_pieces(alloc, ONE_PUT, ONE_PUT_PRINTS)?);
+    assert!(rt;
+        prints_in_pieces(
+            alloc,
+            FOUR_ACCEPTORS_CHOSEN_PREFIX,
+            FOUR_ACCEPTORS_CHOSEN_PREFIX_PRINTS
+        )?
+    );
     Ok(())
 }
 

@@ -12,6 +12,8 @@ mod stage;
 #[cfg(test)]
 mod traces;
 #[cfg(test)]
+mod watches;
+#[cfg(test)]
 mod whole_scripts;
 #[cfg(test)]
 mod words;

@@ -6,7 +6,7 @@ use std::test::Fail;
 // A script, and the line that is printed.
 type Row = (&'static [u8], &'static [u8]);
 
-const ROWS: [Row; 18] = [
+const ROWS: [Row; 19] = [
     // fewer than 3 acceptors
     (b"nodes 2 1 1\n", b"line 1: bad count"),
     // more than 7
@@ -47,7 +47,8 @@ const ROWS: [Row; 18] = [
         b"nodes 3 1 2\nfall a0 begin 1 single\n",
         b"line 2: bad fall",
     ),
-    // a learner that keeps something
+    // a learner that keeps something, whether it is there or not
+    (b"nodes 3 1 2\nfall l0 take 0\n", b"line 2: bad fall"),
     (
         b"nodes 3 1 2\noffer p0 get a\nfall l0 take 0\n",
         b"line 3: bad fall",

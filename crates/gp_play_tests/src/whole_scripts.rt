@@ -8,7 +8,11 @@ nodes 3 1 2";
 
 const NO_RECORDS_PRINTS: &[u8] = b"\
 l0 learned 0: -
+l0 state: -
+l0 replies: -
 l1 learned 0: -
+l1 state: -
+l1 replies: -
 events 0 messages 0
 ";
 
@@ -30,7 +34,11 @@ take l0 6
 
 pub const ONE_PUT_PRINTS: &[u8] = b"\
 l0 learned 1: p0.1
+l0 state: a=5
+l0 replies: p0.1=ok
 l1 learned 0: -
+l1 state: -
+l1 replies: -
 events 11 messages 7
 ";
 
@@ -56,7 +64,11 @@ take l0 6
 
 const ONE_PUT_HEARD_AGAIN_PRINTS: &[u8] = b"\
 l0 learned 1: p0.1
+l0 state: a=5
+l0 replies: p0.1=ok
 l1 learned 0: -
+l1 state: -
+l1 replies: -
 events 15 messages 7
 ";
 
@@ -90,12 +102,16 @@ take l1 11
 
 const FAST_TWO_KEYS_PRINTS: &[u8] = b"\
 l0 learned 2: p0.1 p1.1
+l0 state: a=1 b=2
+l0 replies: p0.1=ok p1.1=ok
 l1 learned 2: p0.1 p1.1
+l1 state: a=1 b=2
+l1 replies: p0.1=ok p1.1=ok
 events 23 messages 16
 ";
 
 // puts of one key collide in a fast round
-const FAST_ONE_KEY_COLLIDES: &[u8] = b"\
+pub const FAST_ONE_KEY_COLLIDES: &[u8] = b"\
 nodes 3 1 2
 begin c0 1 fast
 take a0 0
@@ -124,7 +140,11 @@ take l1 11
 
 const FAST_ONE_KEY_COLLIDES_PRINTS: &[u8] = b"\
 l0 learned 0: -
+l0 state: -
+l0 replies: -
 l1 learned 0: -
+l1 state: -
+l1 replies: -
 events 23 messages 16
 ";
 
@@ -171,7 +191,11 @@ take l1 21
 
 const FAST_COLLISION_THEN_SINGLE_PRINTS: &[u8] = b"\
 l0 learned 2: p0.1 p1.1
+l0 state: a=2
+l0 replies: p0.1=ok p1.1=ok
 l1 learned 2: p0.1 p1.1
+l1 state: a=2
+l1 replies: p0.1=ok p1.1=ok
 events 36 messages 22
 ";
 
@@ -199,6 +223,8 @@ take l0 7
 
 const MULTI_ONE_COORDINATOR_UNHEARD_PRINTS: &[u8] = b"\
 l0 learned 1: p0.1
+l0 state: a=1
+l0 replies: p0.1=ok
 events 17 messages 8
 ";
 
@@ -229,11 +255,13 @@ take l0 8
 
 const MULTI_CONFLICTING_ORDERS_PRINTS: &[u8] = b"\
 l0 learned 0: -
+l0 state: -
+l0 replies: -
 events 20 messages 9
 ";
 
 // what three of four acceptors voted in a fast round is chosen, and a round without one of them keeps it
-const FOUR_ACCEPTORS_CHOSEN_PREFIX: &[u8] = b"\
+pub const FOUR_ACCEPTORS_CHOSEN_PREFIX: &[u8] = b"\
 nodes 4 1 1
 begin c0 1 fast
 take a0 0
@@ -274,9 +302,11 @@ take l0 23
 take l0 24
 ";
 
-const FOUR_ACCEPTORS_CHOSEN_PREFIX_PRINTS: &[u8] = b"\
+pub const FOUR_ACCEPTORS_CHOSEN_PREFIX_PRINTS: &[u8] = b"\
 l0 learned 1: p0.1
 l0 learned 2: p0.1 p1.1
+l0 state: a=2
+l0 replies: p0.1=ok p1.1=ok
 events 36 messages 25
 ";
 
@@ -312,6 +342,8 @@ take l0 13
 
 const EIGHT_OPERATIONS_PRINTS: &[u8] = b"\
 l0 learned 8: p0.1 p0.2 p0.3 p0.4 p0.5 p0.6 p0.7 p0.8
+l0 state: b=9
+l0 replies: p0.1=ok p0.2=ok p0.3=4 p0.4=yes p0.5=ok p0.6=ok p0.7=none p0.8=none
 events 25 messages 14
 ";
 
@@ -337,6 +369,8 @@ take l0 8
 
 const CHECKPOINT_BETWEEN_PUTS_PRINTS: &[u8] = b"\
 l0 learned 3: p2.1 p1.1 p0.1
+l0 state: a=1 b=2
+l0 replies: p2.1=ok p1.1=ok p0.1=ok
 events 15 messages 9
 ";
 
@@ -365,6 +399,8 @@ take l0 10
 
 const KEPT_VOTE_NEVER_SENT_PRINTS: &[u8] = b"\
 l0 learned 1: p0.1
+l0 state: a=5
+l0 replies: p0.1=ok
 events 18 messages 11
 ";
 
@@ -386,6 +422,8 @@ begin c0 1 single
 
 const COORDINATOR_FALLS_IN_ITS_ROUND_PRINTS: &[u8] = b"\
 l0 learned 0: -
+l0 state: -
+l0 replies: -
 events 11 messages 5
 ";
 
@@ -398,7 +436,11 @@ take p0 0
 
 const PROPOSER_TAKES_PRINTS: &[u8] = b"\
 l0 learned 0: -
+l0 state: -
+l0 replies: -
 l1 learned 0: -
+l1 state: -
+l1 replies: -
 events 2 messages 1
 ";
 

@@ -1,5 +1,3 @@
-pub mod CanonicalWalk
-pub mod WrittenWords
 pub mod LineSteps
 pub mod EventSteps
 pub mod TraceLines

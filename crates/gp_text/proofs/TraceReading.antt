@@ -24,7 +24,8 @@ use Rattle.gp_text.specs.declared.played.Played.{Played}
 use Rattle.gp_text.specs.declared.played.Unplayed.{Unplayed}
 use Rattle.gp_text.specs.declared.played.Unplayed.TheVariants as unplayed
 use Rattle.gp_text.specs.Reading.{Whole, Sofar, nothing, messages_after, is_offer, is_passed, holds_limit, after_line, nodes_line, follow, opening, reading}
-use Rattle.gp_text.specs.Texts.{output, report}
+use Rattle.gp_report.specs.Texts.{report}
+use Rattle.gp_text.specs.Texts.{output}
 use Rattle.gp_text.specs.Traces.{event_line, trace}
 use Rattle.gp_text.specs.Playing.{Plays, IsPlayed}
 use Rattle.gp_text.specs.Limits.{IsOfOperation, IsWithinScript, IsLegalScript, SaysLegally, PlayedRun}
@@ -146,8 +147,9 @@ trace_read c run range legal within = fitting_read c (events_of run) range (own_
 -- what a whole script says is read again
 pub script_traced : (bytes : List ℕ) (c : Counts) (said : Sofar) → reading bytes ≡ Whole c said → reading (trace c said.events) ≡ Whole c (record { events = said.events; shown = [] })
 script_traced bytes c said whole =
-    let s : IsLegalScript c said = subst SaysLegally whole (reading_legal bytes) in
-    fitting_read c said.events s.range (run_fits c said.events s.legal) s.within
+    let s : IsLegalScript c said.events = subst SaysLegally whole (reading_legal bytes) in
+    let a = s.agreement in
+    fitting_read c said.events s.range (run_fits c said.events a.legal) s.within
 
 -- ---- playing it
 

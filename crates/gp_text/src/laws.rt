@@ -13,8 +13,8 @@ ghost use Rattle.gp_text.specs.Traces.{trace};
 ghost use Rattle.gp_text.specs.Playing.{Plays};
 ghost use Rattle.gp_text.specs.Limits.{IsWithinScript, SaysLegally, PlayedRun};
 
-/// A script says a legal run of a configuration that is in range, within the limits of a script. One
-/// that is refused says a legal run up to its first refused line.
+/// A script says a legal run of its configuration, which is in range, within the limits of a script and in
+/// agreement. One that is refused says such a run up to its first refused line, if there was a configuration.
 pub fn a_script_says_a_legal_run()
     ensures { (bytes : List ℕ) → SaysLegally (reading bytes) }
 {}

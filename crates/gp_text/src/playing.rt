@@ -9,9 +9,9 @@ ghost use Rattle.gp_text.specs.Reading.{lacks_kept, add_item, item_in, table_lin
 ghost use Rattle.gp_text.specs.Playing.{AddsEvent, Adds, Says};
 
 use crate::opening::is_passed;
-use crate::reports::push_learned_of;
 use crate::unread::Unread;
 use gp_msg::{Event, Kept, Node};
+use gp_report::push_learned_of;
 use gp_round::Config;
 use gp_script::{Item, Reason, form_of, item_of};
 use gp_store::{Op, draft_of};

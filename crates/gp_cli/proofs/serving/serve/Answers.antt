@@ -1,20 +1,26 @@
 use Rattle.std.proofs.Common.{refl, rules}
 use Rattle.gp_cli.specs.Texts.{texts_of}
 use Rattle.gp_cli.specs.Endings.{Misused, IsCause, seen}
-use Rattle.gp_cli.proofs.Causes.{without_run, in_agreement}
-use Rattle.gp_cli.proofs.ShortScripts.{read_to_end}
+use Rattle.gp_cli.proofs.Causes.{without_run}
+use Rattle.gp_cli.proofs.Statuses.{read_to_end, plays_whole, stops_at_line}
 use Rattle.gp_cli.proofs.serving.serve.Goals as goal
 
 pub returns-then-is_play-clause-read_to_end : goal.returns-then-is_play-clause-read_to_end
 returns-then-is_play-clause-read_to_end g c = read_to_end _ _ _ _ _ c.read_and_play.ensures.ends
+
+pub returns-then-is_play-clause-played : goal.returns-then-is_play-clause-played
+returns-then-is_play-clause-played g c = plays_whole _ _ _ _ _ c.read_and_play.ensures.ends
+
+pub returns-then-is_play-clause-refused : goal.returns-then-is_play-clause-refused
+returns-then-is_play-clause-refused g c = stops_at_line _ _ _ _ _ c.read_and_play.ensures.ends
 
 pub returns-else-is_play-clause-ends : goal.returns-else-is_play-clause-ends
 returns-else-is_play-clause-ends g c =
     without_run (IsCause (texts_of c.args.words.now) (seen (g.S.Source.rest c.args.source.now) (g.S.Source.faults c.args.source.now)) (seen (g.S.Source.rest c.args.source.now) (g.S.Source.faults c.args.source.now)))
     Misused _ _ _ (search rules) refl tt c.misuse.ensures.trail c.misuse.ensures.told
 
-pub returns-then-is_play-clause-agrees : goal.returns-then-is_play-clause-agrees
-returns-then-is_play-clause-agrees g c = in_agreement _ _ _ _ c.read_and_play.ensures.ends
+pub returns-then-is_play-clause-agreement : goal.returns-then-is_play-clause-agreement
+returns-then-is_play-clause-agreement g c = let ends = c.read_and_play.ensures.ends in (ends.config, ends.agreement)
 
-pub returns-else-is_play-clause-agrees : goal.returns-else-is_play-clause-agrees
-returns-else-is_play-clause-agrees g c = in_agreement _ _ _ _ (returns-else-is_play-clause-ends g c)
+pub returns-else-is_play-clause-agreement : goal.returns-else-is_play-clause-agreement
+returns-else-is_play-clause-agreement g c = let ends = returns-else-is_play-clause-ends g c in (ends.config, ends.agreement)

@@ -1,0 +1,76 @@
+//! Learned lines: the commands that a learner learned.
+ghost use Rattle.std.specs.Prelude.{◌≡◌, ◌<◌, ◌++◌, map, OnOk, IfOk};
+ghost use Rattle.gp_history.specs.Canonical.{canonical};
+ghost use Rattle.gp_history.specs.Sequence.{history_of};
+ghost use Rattle.gp_words.specs.Spacing.{spaced};
+ghost use Rattle.gp_world.specs.State.{entries_of};
+ghost use Rattle.gp_report.specs.Texts.{identity, commands_line, learned_text};
+
+use gp_command::{CommandId, NoMemory};
+use gp_history::{Hist, SeqHistory};
+use gp_words::{push_dash, push_gap, push_number};
+use gp_world::World;
+use std::alloc::Global;
+
+pub(crate) fn push_identity(id: CommandId, to: &mut Vec<u8>) -> Result<(), NoMemory>
+    ensures { OnOk result (to.new.items ≡ to.old.items ++ identity id) }
+{
+    to.push(b'p')?;
+    push_number(u64::from(id.proposer), to)?;
+    to.push(b'.')?;
+    push_number(u64::from(id.number), to)
+}
+
+// The same history, its commands in canonical order.
+fn in_order<H: Hist>(alloc: Global, h: &H) -> Result<H, NoMemory>
+    ensures { IfOk result (λ ordered. H.sequence ordered ≡ canonical (history_of (H.sequence h.now))) }
+{
+    let mut ordered = H::empty(alloc)?;
+    while let Some(next) = h.next_least(&ordered) {
+        ordered.push(next.copy()?)?;
+    }
+    Ok(ordered)
+}
+
+fn push_identities(commands: &SeqHistory, to: &mut Vec<u8>) -> Result<(), NoMemory>
+    ensures { OnOk result (to.new.items ≡ to.old.items ++ spaced (map (λ c. identity c.id) commands.now)) }
+{
+    for i in 0..commands.len() {
+        push_gap(i, to)?;
+        push_identity(commands.at(i).id(), to)?;
+    }
+    push_dash(commands.len(), to)
+}
+
+// Appends the learned line of a learner who learned these commands, in their order.
+#[tactic(auto, unfolding(crate::specs::Texts::commands_line))]
+pub(crate) fn push_commands(
+    learner: u32,
+    commands: &SeqHistory,
+    to: &mut Vec<u8>,
+) -> Result<(), NoMemory>
+    ensures { OnOk result (to.new.items ≡ to.old.items ++ commands_line learner commands.now) }
+{
+    to.push(b'l')?;
+    push_number(u64::from(learner), to)?;
+    to.extend_from_slice(b" learned ")?;
+    push_number(commands.len() as u64, to)?;
+    to.extend_from_slice(b": ")?;
+    push_identities(commands, to)?;
+    Ok(to.push(b'\n')?)
+}
+
+/// Appends the learned line of a learner of a world: how many commands it learned and who they are, in
+/// canonical order. Where memory runs out a part of the line may stand behind what `to` held.
+pub fn push_learned_of(
+    alloc: Global,
+    world: &World,
+    learner: u32,
+    to: &mut Vec<u8>,
+) -> Result<(), NoMemory>
+    requires { learner < world.now.config.learners }
+    ensures { OnOk result (to.new.items ≡ to.old.items ++ learned_text world.now.config (entries_of world.now) learner) }
+{
+    let ordered = in_order(alloc, world.learned(learner))?;
+    push_commands(learner, &ordered, to)
+}

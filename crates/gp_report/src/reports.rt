@@ -1,0 +1,85 @@
+//! The whole report of a world.
+ghost use Rattle.std.specs.Prelude.{◌≡◌, ◌<◌, ◌++◌, length, OnOk, OnErr, IfOk};
+ghost use Rattle.gp_history.specs.Sequence.{history_of};
+ghost use Rattle.gp_replica.specs.Runs.{HasDistinctIds};
+ghost use Rattle.gp_run.specs.Messages.{messages};
+ghost use Rattle.gp_world.specs.State.{entries_of};
+ghost use Rattle.gp_report.specs.Texts.{history_lines, learner_text, totals_line, report};
+
+use crate::learned::push_commands;
+use crate::replies::push_replies;
+use crate::states::push_state;
+use gp_command::NoMemory;
+use gp_history::SeqHistory;
+use gp_replica::Replica;
+use gp_store::KeyStore;
+use gp_words::push_number;
+use gp_world::World;
+use std::alloc::Global;
+
+// Appends the lines of a learner who learned this history, as a replica runs it.
+fn push_lines(
+    alloc: Global,
+    learner: u32,
+    learned: &SeqHistory,
+    to: &mut Vec<u8>,
+) -> Result<(), NoMemory>
+    requires { HasDistinctIds (history_of learned.now) }
+    ensures { OnOk result (to.new.items ≡ to.old.items ++ history_lines learner (history_of learned.now)) }
+{
+    let mut replica = Replica::<KeyStore>::new(alloc)?;
+    let _count = replica.catch_up(learned)?;
+    push_commands(learner, replica.ran(), to)?;
+    push_state(learner, replica.machine(), to)?;
+    push_replies(learner, replica.replies(), to)
+}
+
+fn push_learner(
+    alloc: Global,
+    world: &World,
+    learner: u32,
+    to: &mut Vec<u8>,
+) -> Result<(), NoMemory>
+    requires { learner < world.now.config.learners }
+    ensures { OnOk result (to.new.items ≡ to.old.items ++ learner_text world.now.config (entries_of world.now) learner) }
+{
+    push_lines(alloc, learner, world.learned(learner), to)
+}
+
+fn push_totals(world: &World, to: &mut Vec<u8>) -> Result<(), NoMemory>
+    ensures { OnOk result (to.new.items ≡ to.old.items ++ totals_line (length (entries_of world.now)) (length (messages (entries_of world.now)))) }
+{
+    to.extend_from_slice(b"events ")?;
+    push_number(world.records().len() as u64, to)?;
+    to.extend_from_slice(b" messages ")?;
+    push_number(world.messages(), to)?;
+    Ok(to.push(b'\n')?)
+}
+
+#[tactic(auto, unfolding(crate::specs::Texts::report))]
+fn report_of(alloc: Global, world: &World) -> Result<Vec<u8>, NoMemory>
+    ensures { IfOk result (λ text. text.items ≡ report world.now.config (entries_of world.now)) }
+{
+    let mut text = Vec::new(alloc);
+    for learner in 0..world.config().learners() {
+        push_learner(alloc, world, learner, &mut text)?;
+    }
+    push_totals(world, &mut text)?;
+    Ok(text)
+}
+
+/// Appends the report of a world: for each learner, in order, three lines, and then the numbers of
+/// events and messages.
+///
+/// The learned line has the number of commands that the learner learned and their identities, in
+/// canonical order. The state line has the pairs that a key store holds that ran these commands, in
+/// ascending order of the keys. The replies line has its reply to each command, in canonical order.
+/// Where memory runs out `to` holds what it held.
+pub fn report(alloc: Global, world: &World, to: &mut Vec<u8>) -> Result<(), NoMemory>
+    ensures written { OnOk result (to.new.items ≡ to.old.items ++ report world.now.config (entries_of world.now)) }
+    ensures unchanged { OnErr result (to.new.items ≡ to.old.items) }
+{
+    let text = report_of(alloc, world)?;
+    to.extend_from_slice(&text)?;
+    Ok(())
+}
