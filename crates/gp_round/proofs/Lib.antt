@@ -2,3 +2,4 @@ pub mod Masks
 pub mod Counting
 pub mod Owners
 pub mod Orders
+pub mod SetMasks

@@ -1,6 +1,5 @@
 pub mod Gathering
 pub mod Choosing
-pub mod Subsets
 pub mod Meetings
 pub mod CountingQuorums
 pub mod Safety

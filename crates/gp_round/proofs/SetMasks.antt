@@ -1,13 +1,16 @@
--- Sets of numbers as masks, and smaller sets within a set.
-use Rattle.std.proofs.Common.{◌≡◌, ℕ, zero, suc, ◌+◌, ◌*◌, ◌/◌, ◌%◌, ◌^◌, ◌<◌, ◌≤◌, Bool, true, false, cond, ◌&&◌, nat_eq, nat_lt, min, refl, sym, ap, ◌∙◌, arith}
+-- Sets of numbers, smaller sets within them, and their masks.
+use Rattle.std.proofs.Common.{◌≡◌, inl, inr, ℕ, zero, suc, ◌+◌, ◌*◌, ◌/◌, ◌%◌, ◌^◌, ◌<◌, ◌≤◌, Bool, true, false, cond, ◌&&◌, nat_eq, nat_lt, min, refl, sym, ap, ◌∙◌, arith}
 use Rattle.std.specs.List.{Contains}
-use Rattle.std.proofs.lemmas.Bool.{ltb-true, ltb-false, eq-eqb, ne_eqb}
+use Rattle.std.proofs.lemmas.Bool.{cases_Bool, ltb-true, ltb-false, eq-eqb, ne_eqb}
 use Rattle.std.proofs.Math.Nat.{div-div-eq-div-mul, div-one, pow-succ'}
 use Rattle.gp_round.specs.Sets.{members, bit, masks}
 use Rattle.gp_round.proofs.Masks.{subset_is}
-use Rattle.gp_history.proofs.Tests.{fst_of, by_cases}
 
 -- ---- a smaller set within a set
+
+left_true : (a b : Bool) → (a && b) ≡ true → a ≡ true
+left_true true b e = refl
+left_true false b e = absurd cc
 
 -- the first k members of p
 abbrev first_members : (ℕ → Bool) → ℕ → ℕ → Bool
@@ -17,11 +20,13 @@ first_members_count : (p : ℕ → Bool) (k n : ℕ) → members (first_members 
 first_members_count p k zero = omega arith
 first_members_count p k (suc n) =
     let r = first_members_count p k n in
-    by_cases (p n)
-    (λ a. by_cases (nat_lt (members p n) k)
-    (λ b. rw (a, b, r) (omega (arith, ltb-true (members p n) k b)))
-    (λ b. rw (a, b, r) (omega (arith, ltb-false (members p n) k b))))
-    (λ a. rw (a, r) (omega arith))
+    elim (cases_Bool (p n)) [
+      | inl a ↦ elim (cases_Bool (nat_lt (members p n) k)) [
+        | inl b ↦ rw (a, b, r) (omega (arith, ltb-true (members p n) k b))
+        | inr b ↦ rw (a, b, r) (omega (arith, ltb-false (members p n) k b))
+      ]
+      | inr a ↦ rw (a, r) (omega arith)
+    ]
 
 pub record Within (p : ℕ → Bool) (n size : ℕ) : Type 0 where
   pub set : ℕ → Bool
@@ -33,7 +38,7 @@ pub a_smaller_set_is_within : (p : ℕ → Bool) (n size : ℕ) → size ≤ mem
 a_smaller_set_is_within p n size h = record {
   set = first_members p size;
   count = let r = first_members_count p size n in omega (arith, h, r);
-  inside = λ i e. fst_of (p i) (nat_lt (members p i) size) e;
+  inside = λ i e. left_true (p i) (nat_lt (members p i) size) e;
 }
 
 -- ---- the mask of a set
@@ -46,9 +51,7 @@ mask_small : (p : ℕ → Bool) (n : ℕ) → mask_of p n < 2 ^ n
 mask_small p zero = omega arith
 mask_small p (suc n) =
     let r = mask_small (λ i. p (suc i)) n in
-    by_cases (p 0)
-    (λ e. rw e (omega (arith, r, pow-succ' 2 n)))
-    (λ e. rw e (omega (arith, r, pow-succ' 2 n)))
+    elim (cases_Bool (p 0)) [ inl e ↦ rw e (omega (arith, r, pow-succ' 2 n)) | inr e ↦ rw e (omega (arith, r, pow-succ' 2 n)) ]
 
 half_of : (b : Bool) (m : ℕ) → (cond b 1 0 + 2 * m) / 2 ≡ m
 half_of true m = omega arith
