@@ -10,12 +10,20 @@ use crate::touch::Touch;
 use std::alloc::Global;
 use std::cmp::Ordering;
 use std::marker::Model;
+use std::sync::Arc;
 
 /// A command without its identity: a mark whether it is a checkpoint, a footprint and a body.
 ///
 /// A checkpoint has no touches. Drafts are ordered by mark (a checkpoint last), footprint and body.
+/// A draft never changes, so its copies share one place in memory.
 #[derive(Drop, Debug)]
 pub struct Draft {
+    parts: Arc<Parts>,
+}
+
+// What copies of a draft share.
+#[derive(Drop, Debug)]
+struct Parts {
     checkpoint: bool,
     foot: Foot,
     body: Body,
@@ -27,9 +35,9 @@ impl Model for Draft {
 
     ghost Value = { DraftView };
 
-    ghost view = { λ d. record { checkpoint = d.checkpoint; foot = d.foot; body = d.body } };
+    ghost view = { λ d. record { checkpoint = d.parts.value.checkpoint; foot = d.parts.value.foot; body = d.parts.value.body } };
 
-    ghost invariant = { λ d. d.checkpoint ≡ true → d.foot ≡ [] };
+    ghost invariant = { λ d. d.parts.value.checkpoint ≡ true → d.parts.value.foot ≡ [] };
 }
 
 /// Why there is no draft. The first cause in this order decides.
@@ -72,11 +80,9 @@ impl Draft {
         if body.len() > MOST_BYTES {
             return Err(DraftRefused::TooLong { given: body.len() });
         }
-        Ok(Draft {
-            checkpoint: false,
-            foot: Foot::new(alloc, foot)?,
-            body: Body::new(alloc, body)?,
-        })
+        let foot = Foot::new(alloc, foot)?;
+        let body = Body::new(alloc, body)?;
+        Ok(Draft::of_parts(alloc, false, foot, body)?)
     }
 
     /// A checkpoint with this body.
@@ -88,35 +94,39 @@ impl Draft {
         if body.len() > MOST_BYTES {
             return Err(DraftRefused::TooLong { given: body.len() });
         }
-        Ok(Draft {
-            checkpoint: true,
-            foot: Foot::new(alloc, &[])?,
-            body: Body::new(alloc, body)?,
-        })
+        let foot = Foot::new(alloc, &[])?;
+        let body = Body::new(alloc, body)?;
+        Ok(Draft::of_parts(alloc, true, foot, body)?)
     }
 
     // The draft of parts that were checked before.
-    pub(crate) fn of_parts(checkpoint: bool, foot: Foot, body: Body) -> Draft
+    pub(crate) fn of_parts(
+        alloc: Global,
+        checkpoint: bool,
+        foot: Foot,
+        body: Body,
+    ) -> Result<Draft, NoMemory>
         requires { checkpoint ≡ true → foot ≡ [] }
-        ensures checkpoint { result.checkpoint ≡ checkpoint }
-        ensures foot { result.foot ≡ foot }
-        ensures body { result.body ≡ body }
+        ensures checkpoint { IfOk result (λ draft. draft.checkpoint ≡ checkpoint) }
+        ensures foot { IfOk result (λ draft. draft.foot ≡ foot) }
+        ensures body { IfOk result (λ draft. draft.body ≡ body) }
     {
-        Draft {
+        let parts = Parts {
             checkpoint,
             foot,
             body,
-        }
+        };
+        Ok(Draft {
+            parts: Arc::new(alloc, parts)?,
+        })
     }
 
-    /// An equal draft.
+    /// An equal draft. It takes no memory, and is refused only where there are too many copies to count.
     pub fn copy(&self) -> Result<Draft, NoMemory>
         ensures { IfOk result (λ copy. copy ≡ self.now) }
     {
         Ok(Draft {
-            checkpoint: self.checkpoint,
-            foot: self.foot.copy()?,
-            body: self.body.copy()?,
+            parts: self.parts.clone()?,
         })
     }
 
@@ -125,7 +135,7 @@ impl Draft {
         ensures value { result ≡ self.now.checkpoint }
         ensures bare { result ≡ true → self.now.foot ≡ [] }
     {
-        self.checkpoint
+        self.parts.checkpoint
     }
 
     /// The touches, at most 8, in ascending order of their keys.
@@ -134,7 +144,7 @@ impl Draft {
         ensures few { length result.now ≤ 8 }
         ensures sorted { first_unsorted result.now ≡ None }
     {
-        self.foot.as_slice()
+        self.parts.foot.as_slice()
     }
 
     /// The body, at most 64 bytes.
@@ -142,7 +152,7 @@ impl Draft {
         ensures value { result.now ≡ self.now.body }
         ensures short { length result.now ≤ 64 }
     {
-        self.body.as_slice()
+        self.parts.body.as_slice()
     }
 }
 
@@ -194,8 +204,8 @@ impl Ord for Draft {
     ghost matches_eq = { λ x y. refl };
 
     fn cmp(&self, other: &Draft) -> Ordering {
-        self.checkpoint
-            .cmp(&other.checkpoint)
+        self.is_checkpoint()
+            .cmp(&other.is_checkpoint())
             .then(self.foot().cmp(other.foot()))
             .then(self.body().cmp(other.body()))
     }

@@ -66,7 +66,7 @@ impl Hist for SeqHistory {
     }
 
     fn copy(&self) -> Result<SeqHistory, NoMemory> {
-        let mut commands = Vec::new(*self.commands.allocator());
+        let mut commands = Vec::with_capacity(*self.commands.allocator(), self.commands.len())?;
         for c in &self.commands {
             commands.push(c.copy()?)?;
         }
