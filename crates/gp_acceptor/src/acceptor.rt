@@ -175,15 +175,14 @@ impl Acceptor {
         ensures unchanged { OnErr result (self.new ≡ self.old) }
     {
         let mut outs = Outs::new(self.alloc);
-        let command = c.copy()?;
         let mut vote = self.vote.copy()?;
         vote.push(c.copy()?)?;
         outs.push(Msg::P2b {
             round: self.round,
             acceptor: self.number,
-            vote,
+            vote: vote.copy()?,
         })?;
-        self.vote.push(command)?;
+        self.vote = vote;
         Ok(outs)
     }
 

@@ -1,8 +1,8 @@
 //! The vote that a value of coordinators makes, and what is told of it.
-ghost use Rattle.std.specs.Prelude.{◌≡◌, IfOk, map, Option, not, ◌&&◌};
+ghost use Rattle.std.specs.Prelude.{◌≡◌, IfOk, map, Option, ◌&&◌};
 ghost use Rattle.std.specs.Option.{option_map, option_to_list, option_copied};
 ghost use Rattle.gp_history.specs.Sequence.{history_of};
-ghost use Rattle.gp_round.specs.Rounds.{same_round, is_fast};
+ghost use Rattle.gp_round.specs.Rounds.{is_fast};
 ghost use Rattle.gp_msg.specs.Messages.{message_of};
 ghost use Rattle.gp_acceptor.specs.QuorumValue.{value_history};
 ghost use Rattle.gp_acceptor.specs.Table.{next_vote, told_vote};

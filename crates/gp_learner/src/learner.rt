@@ -1,18 +1,17 @@
 //! What a learner keeps, and what it does.
 ghost use Rattle.std.specs.Prelude.{◌≡◌, ◌<◌, [], map, Some, IfOk, OnOk, OnErr, unwrap_or};
-ghost use Rattle.std.specs.Option.{option_map, option_copied};
+ghost use Rattle.std.specs.Option.{option_map};
 ghost use Rattle.gp_history.specs.Sequence.{history_of};
 ghost use Rattle.gp_msg.specs.Messages.{message_of, Voted};
 ghost use Rattle.gp_safe.specs.Held.{newer};
 ghost use Rattle.gp_learner.specs.Table.{opening, learner_take, learner_fall, learned_with, heard, vote_of, votes_held};
 
-use crate::votes::{HeldVote, Votes, has_all, held_of, hold};
-use gp_bounds::join;
+use crate::votes::{HeldVote, Votes, held_of, hold};
 use gp_command::NoMemory;
 use gp_history::{Hist, SeqHistory};
 use gp_msg::{Msg, Outs};
 use gp_round::{Config, Round};
-use gp_safe::{Replaced, join_of_meets, newer};
+use gp_safe::{Replaced, join_meets_onto, newer};
 use std::alloc::Global;
 use std::collections::BTreeMap;
 use std::marker::Model;
@@ -149,20 +148,7 @@ impl Learner {
             value: Some(vote),
         };
         let n = self.config.acceptors();
-        let heard = join_of_meets(self.alloc, &held, n, self.config.quorum(round.mode))?;
-        self.with_heard(heard)
-    }
-
-    // What is learned with what was heard, where it is more than before.
-    #[tactic(auto, using(crate::proofs::Learning::join_there))]
-    fn with_heard(&self, heard: Option<SeqHistory>) -> Result<Option<SeqHistory>, NoMemory>
-        ensures { IfOk result (λ l. unwrap_or (option_map history_of l) self.now.learned ≡ learned_with self.now.learned (option_map history_of heard)) }
-    {
-        match heard {
-            Some(heard) if !has_all(&self.learned, &heard) => {
-                Ok(Some(join(self.alloc, &self.learned, &heard)?))
-            }
-            _ => Ok(None),
-        }
+        let size = self.config.quorum(round.mode);
+        join_meets_onto(self.alloc, &self.learned, &held, n, size)
     }
 }

@@ -3,3 +3,4 @@ pub mod Choosing
 pub mod Meetings
 pub mod CountingQuorums
 pub mod Safety
+pub mod Adding

@@ -3,3 +3,4 @@ pub mod Met
 pub mod Choice
 pub mod Held
 pub mod Counting
+pub mod News

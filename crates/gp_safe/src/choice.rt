@@ -1,5 +1,5 @@
 //! The safe choice.
-ghost use Rattle.std.specs.Prelude.{◌≡◌, ◌≤◌, IfOk, Option, cond, not, ◌&&◌};
+ghost use Rattle.std.specs.Prelude.{◌≡◌, ◌≤◌, IfOk, Option};
 ghost use Rattle.std.specs.Option.{option_map, option_copied};
 ghost use Rattle.gp_history.specs.Sequence.{history_of};
 ghost use Rattle.gp_safe.specs.Choice.{reply_of, reply_by, top_round, votes_at, answers_by, lowest, safe_choice};

@@ -5,7 +5,9 @@
 mod choice;
 mod held;
 mod meets;
+mod news;
 
 pub use choice::{Answer, pick};
 pub use held::{Replaced, newer};
 pub use meets::{Values, join_of_meets};
+pub use news::join_meets_onto;

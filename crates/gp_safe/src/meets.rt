@@ -1,7 +1,6 @@
 //! The join of the meets of all quorums of one size.
-ghost use Rattle.std.specs.Prelude.{◌≡◌, ◌≤◌, ◌<◌, ◌&&◌, ℕ, Bool, List, Option, Some, IfOk};
+ghost use Rattle.std.specs.Prelude.{◌≡◌, ◌≤◌, ◌<◌, ◌&&◌, ℕ, Bool, Option, Some, IfOk};
 ghost use Rattle.std.specs.Option.{option_map, option_copied, is_some};
-ghost use Rattle.gp_command.specs.declared.command.Command.{Command};
 ghost use Rattle.gp_history.specs.History.{History};
 ghost use Rattle.gp_history.specs.Sequence.{history_of};
 ghost use Rattle.gp_round.specs.Sets.{masks, bit};
@@ -69,8 +68,8 @@ fn with_meet(
     }
 }
 
-// The meet of the values of one set, if it is whole and not empty.
-fn quorum_meet<V: Values>(
+/// The meet of the values of one set, if it is whole and not empty.
+pub fn quorum_meet<V: Values>(
     alloc: Global,
     values: &V,
     n: u32,
@@ -97,8 +96,8 @@ fn quorum_meet<V: Values>(
     }
 }
 
-// Whether each member of a set that counts has a value.
-fn is_whole<V: Values>(values: &V, n: u32, mask: u8) -> bool
+/// Whether each member of a set that counts has a value.
+pub fn is_whole<V: Values>(values: &V, n: u32, mask: u8) -> bool
     requires { n ≤ 7 }
     ensures { result ≡ is_some (gathered (V.value values.now) (λ i. bit mask i && V.within values.now i) n) }
 {

@@ -1,0 +1,158 @@
+-- A meet has no command that not each member has, and where all of its commands are known it adds nothing.
+use Rattle.std.proofs.Common.{◌≡◌, ℕ, zero, suc, ◌+◌, ◌<◌, Bool, true, false, not, ◌&&◌, ◌||◌, cond, List, [], ◌∷◌, ◌++◌, length, take, Some, None, inl, inr, refl, sym, ap, ◌∙◌, arith}
+use Rattle.std.specs.Prelude.{Option, filter, slice_get}
+use Rattle.std.specs.List.{list_any, list_all}
+use Rattle.std.specs.Option.{is_some}
+use Rattle.std.specs.FinSet as set
+use Rattle.std.proofs.lemmas.Bool.{cases_eq, true≢false}
+use Rattle.gp_command.specs.declared.command.Command.{Command}
+use Rattle.gp_command.specs.Conflict.{same}
+use Rattle.gp_command.proofs.ConflictLemmas.{same-true}
+use Rattle.gp_command.proofs.Ties.{tied_command}
+use Rattle.gp_history.specs.History.{History, has, before, pushes}
+use Rattle.gp_history.specs.Sequence.{history_of, place, place_in}
+use Rattle.gp_history.specs.Canonical.{is_ready, next_least, and_next, least_first, canonical}
+use Rattle.gp_history.specs.Bounds.{sublists, is_shared, in_meet, meet, join, joined}
+use Rattle.gp_history.proofs.Tests.{In, both, fst_of, snd_of, left_of, right_of, one_of, not_true, by_cases, all_gives, any-append}
+use Rattle.gp_history.proofs.Sets.{has_history_of, has-ordered_by}
+use Rattle.gp_history.proofs.Push.{push_there}
+use Rattle.gp_history.proofs.Canonical.{least_in, in_filtered}
+use Rattle.gp_history.proofs.Meet.{in_items}
+use Rattle.gp_history.proofs.Places.{take_next, at_in}
+use Rattle.gp_safe.specs.Meets.{with_one, gathered, if_whole, quorum_meet, add_meet, quorum_meets}
+use Rattle.gp_safe.specs.News.{is_in, all_have, is_new}
+use Rattle.gp_safe.proofs.Gathering.{quorum_meets_last}
+
+pub has_from_place : (xs : List Command) (c : Command) → has (history_of xs) c ≡ is_some (place_in xs c)
+has_from_place xs c = has_history_of xs c ∙ some_if (list_any (same c) xs) where
+  some_if : (b : Bool) → b ≡ is_some (cond b (Some (place xs c)) None)
+  some_if true = refl
+  some_if false = refl
+
+-- ---- what a meet has
+
+any_one : {X : Type 0} (f : X → Bool) (xs : List X) {P : Type 0} → list_any f xs ≡ true → ((x : X) → f x ≡ true → P) → P
+any_one f [] t h = absurd (true≢false (sym t))
+any_one f (x ∷ xs) t h = one_of (f x) (list_any f xs) t (h x) (λ m. any_one f xs m h)
+
+in_second : (h k : History) (c : Command) → in_meet h k c ≡ true → has k c ≡ true
+in_second h k c t = any_one (λ s. is_shared h k s && list_any (same c) s) (sublists (set.items h.commands)) t (λ s e.
+    fst_of (has k c) _ (snd_of (has h c) _ (all_gives (λ d. has h d && (has k d && list_all (λ x. not (before h x d || before k x d) || (list_any (same x) s && (before h x d && before k x d))) (set.items h.commands ++ set.items k.commands))) s c (fst_of (is_shared h k s) _ e) (snd_of (is_shared h k s) (list_any (same c) s) e))))
+
+retained : (h k : History) (c : Command) → set.contains (set.retain h.commands (in_meet h k)) c ≡ (has h c && in_meet h k c)
+unfolding has
+retained h k c = set.contains-retain h.commands (in_meet h k) c (λ x e. ap (in_meet h k) (sym (tied_command c x e)))
+
+has-meet : (h k : History) (c : Command) → has (meet h k) c ≡ (has h c && in_meet h k c)
+unfolding meet
+has-meet h k c = has-ordered_by (set.retain h.commands (in_meet h k)) (before h) c ∙ retained h k c
+
+meet_in_both : (h k : History) (c : Command) → has (meet h k) c ≡ true → (has h c ≡ true) × (has k c ≡ true)
+meet_in_both h k c t =
+    let s = sym (has-meet h k c) ∙ t in
+    (fst_of (has h c) _ s, in_second h k c (snd_of (has h c) _ s))
+
+-- ---- what was gathered of members has only what each of them has
+
+abbrev in_gathered : Option (Option History) → Command → Bool
+in_gathered None c = false
+in_gathered (Some None) c = true
+in_gathered (Some (Some m)) c = has m c
+
+each_has : (f : ℕ → Option History) (p : ℕ → Bool) (n : ℕ) (c : Command) → in_gathered (gathered f p n) c ≡ true → all_have f p n c ≡ true
+each_has f p zero c t = refl
+each_has f p (suc n) c t = step (p n) (f n) (gathered f p n) (all_have f p n c) (each_has f p n c) t where
+  step : (b : Bool) (o : Option History) (g : Option (Option History)) (a : Bool) → (in_gathered g c ≡ true → a ≡ true) → in_gathered (cond b (with_one o g) g) c ≡ true → (a && (not b || is_in o c)) ≡ true
+  step false o g a r t = both (r t) refl
+  step true None g a r t = absurd (true≢false (sym t))
+  step true (Some v) None a r t = absurd (true≢false (sym t))
+  step true (Some v) (Some None) a r t = both (r refl) t
+  step true (Some v) (Some (Some m)) a r t = let s = meet_in_both m v c t in both (r s.0) s.1
+
+pub member_has : (f : ℕ → Option History) (p : ℕ → Bool) (n : ℕ) (c : Command) (i : ℕ) → all_have f p n c ≡ true → i < n → p i ≡ true → is_in (f i) c ≡ true
+member_has f p zero c i t h e = absurd (omega (arith, h))
+member_has f p (suc n) c i t h e = elim (cases_eq i n) [
+  | inl q ↦ one_of (not (p n)) (is_in (f n) c) (snd_of (all_have f p n c) _ t)
+      (λ x. absurd (true≢false (sym x ∙ ap not (ap p (sym q) ∙ e))))
+      (λ y. ap (λ j. is_in (f j) c) q ∙ y)
+  | inr q ↦ member_has f p n c i (fst_of (all_have f p n c) _ t) (omega (arith, h, q)) e
+]
+
+-- ---- a join with what is there
+
+pushes_there : (h : History) (zs : List Command) → ((c : Command) → In zs c → has h c ≡ true) → pushes h zs ≡ h
+pushes_there h [] f = refl
+pushes_there h (z ∷ zs) f =
+    ap (λ u. pushes u zs) (push_there h z (f z (at_in (z ∷ zs) 0 z refl)))
+    ∙ pushes_there h zs (λ c i. f c (right_of (same c z) (list_any (same c) zs) i))
+
+next_in : (h taken : History) (c : Command) → next_least h taken ≡ Some c → has h c ≡ true
+unfolding next_least
+next_in h taken c e = in_items h c ∙ in_filtered (is_ready h taken) (set.items h.commands) c (least_in (filter (is_ready h taken) (set.items h.commands)) c e)
+
+walked_in : (h : History) (n : ℕ) (c : Command) → In (least_first n h) c → has h c ≡ true
+walked_in h zero c i = absurd (true≢false (sym i))
+walked_in h (suc n) c i = last (least_first n h) (next_least h (history_of (least_first n h))) (walked_in h n c) (next_in h (history_of (least_first n h))) i where
+  last : (xs : List Command) (o : Option Command) → (In xs c → has h c ≡ true) → ((d : Command) → o ≡ Some d → has h d ≡ true) → In (and_next xs o) c → has h c ≡ true
+  last xs None r s i = r i
+  last xs (Some d) r s i = one_of (list_any (same c) xs) (list_any (same c) (d ∷ [])) (sym (any-append (same c) xs (d ∷ [])) ∙ i) r
+      (λ t. one_of (same c d) false t (λ u. ap (has h) (same-true c d u) ∙ s d refl) (λ v. absurd (true≢false (sym v))))
+
+join_known : (h u : History) → ((c : Command) → has u c ≡ true → has h c ≡ true) → join h u ≡ h
+unfolding join canonical
+join_known h u r = pushes_there h (canonical u) (λ c i. r c (walked_in u (length (set.items u.commands)) c i))
+
+-- ---- sets that add nothing
+
+pub not_whole_adds_nothing : (known : History) (f : ℕ → Option History) (p : ℕ → Bool) (n : ℕ) → is_some (gathered f p n) ≡ false → joined known (add_meet (if_whole (gathered f p n)) []) ≡ known
+not_whole_adds_nothing known f p n e = by (gathered f p n) e where
+  by : (g : Option (Option History)) → is_some g ≡ false → joined known (add_meet (if_whole g) []) ≡ known
+  by None e = refl
+  by (Some m) e = absurd (true≢false e)
+
+pub nobody_adds_nothing : (known : History) (f : ℕ → Option History) (p : ℕ → Bool) (n : ℕ) → gathered f p n ≡ Some None → joined known (add_meet (if_whole (gathered f p n)) []) ≡ known
+nobody_adds_nothing known f p n e = ap (λ g. joined known (add_meet (if_whole g) [])) e
+
+any_gives : (q : Command → Bool) (xs : List Command) (c : Command) → In xs c → q c ≡ true → list_any q xs ≡ true
+any_gives q [] c i e = absurd (true≢false (sym i))
+any_gives q (x ∷ xs) c i e = one_of (same c x) (list_any (same c) xs) i
+    (λ s. left_of (q x) (list_any q xs) (ap q (sym (same-true c x s)) ∙ e))
+    (λ m. right_of (q x) (list_any q xs) (any_gives q xs c m e))
+
+-- no command of a member's value is new
+pub nothing_new : (known : History) (f : ℕ → Option History) (p : ℕ → Bool) (n i : ℕ) (xs : List Command) (some : Bool) → i < n → p i ≡ true → f i ≡ Some (history_of xs) → some ≡ list_any (is_new known f p n) xs → some ≡ false
+    → joined known (add_meet (if_whole (gathered f p n)) []) ≡ known
+nothing_new known f p n i xs some h e v is none = by (gathered f p n) (each_has f p n) where
+  by : (g : Option (Option History)) → ((c : Command) → in_gathered g c ≡ true → all_have f p n c ≡ true) → joined known (add_meet (if_whole g) []) ≡ known
+  by None each = refl
+  by (Some None) each = refl
+  by (Some (Some m)) each = join_known known m (λ c t. by_cases (has known c) (λ k. k) (λ k.
+      let all = each c t in
+      let there : In xs c = sym (has_history_of xs c) ∙ ap (λ o. is_in o c) (sym v) ∙ member_has f p n c i all h e in
+      absurd (true≢false (sym (any_gives (is_new known f p n) xs c there (both (ap not k) all)) ∙ sym is ∙ none))))
+
+-- ---- loops
+
+pub any_stop : (q : Command → Bool) (xs : List Command) (i : ℕ) (d : Command) → q d ≡ true → slice_get xs i ≡ Some d → list_any q xs ≡ true
+any_stop q xs i d e at = any_gives q xs d (at_in xs i d at) e
+
+pub any_step : (q : Command → Bool) (xs : List Command) (i : ℕ) (d : Command) → list_any q (take i xs) ≡ false → q d ≡ false → slice_get xs i ≡ Some d → list_any q (take (i + 1) xs) ≡ false
+any_step q xs i d none e at = ap (list_any q) (take_next xs i d at) ∙ any-append q (take i xs) (d ∷ []) ∙ (λ k. none k || (e k || false))
+
+pub all_have_stops : (f : ℕ → Option History) (p : ℕ → Bool) (n : ℕ) (c : Command) (i : ℕ) → i < n → p i ≡ true → is_in (f i) c ≡ false → all_have f p n c ≡ false
+all_have_stops f p n c i h e lacks = not_true (all_have f p n c) (λ t. true≢false (sym (member_has f p n c i t h e) ∙ lacks))
+
+pub all_have_step : (f : ℕ → Option History) (p : ℕ → Bool) (c : Command) (i : ℕ) → all_have f p i c ≡ true → (not (p i) || is_in (f i) c) ≡ true → all_have f p (i + 1) c ≡ true
+all_have_step f p c i t e = let s : i + 1 ≡ suc i = omega arith in ap (λ n. all_have f p n c) s ∙ both t e
+
+joined-append : (u : History) (hs ks : List History) → joined u (hs ++ ks) ≡ joined (joined u hs) ks
+joined-append u [] ks = refl
+joined-append u (h ∷ hs) ks = joined-append (join u h) hs ks
+
+-- one mask more
+pub one_more_joined : (f : ℕ → Option History) (w : ℕ → Bool) (n : ℕ) (ms : List ℕ) (m : ℕ) (known now : History) → now ≡ joined known (quorum_meets f w n ms)
+    → joined now (add_meet (quorum_meet f w n m) []) ≡ joined known (quorum_meets f w n (ms ++ m ∷ []))
+one_more_joined f w n ms m known now e =
+    ap (λ u. joined u (add_meet (quorum_meet f w n m) [])) e
+    ∙ sym (joined-append known (quorum_meets f w n ms) (add_meet (quorum_meet f w n m) []))
+    ∙ ap (joined known) (sym (quorum_meets_last f w n ms m))
