@@ -1,5 +1,5 @@
 //! Learned lines: the commands that a learner learned.
-ghost use Rattle.std.specs.Prelude.{◌≡◌, ◌<◌, ◌++◌, map, OnOk, IfOk};
+ghost use Rattle.std.specs.Prelude.{◌≡◌, ◌<◌, ◌++◌, map, OnOk, OnErr, IfOk};
 ghost use Rattle.gp_history.specs.Canonical.{canonical};
 ghost use Rattle.gp_history.specs.Sequence.{history_of};
 ghost use Rattle.gp_words.specs.Spacing.{spaced};
@@ -61,16 +61,20 @@ pub(crate) fn push_commands(
 }
 
 /// Appends the learned line of a learner of a world: how many commands it learned and who they are, in
-/// canonical order. Where memory runs out a part of the line may stand behind what `to` held.
-pub fn push_learned_of(
+/// canonical order. Where memory runs out `to` holds what it held.
+pub fn show_learned(
     alloc: Global,
     world: &World,
     learner: u32,
     to: &mut Vec<u8>,
 ) -> Result<(), NoMemory>
     requires { learner < world.now.config.learners }
-    ensures { OnOk result (to.new.items ≡ to.old.items ++ learned_text world.now.config (entries_of world.now) learner) }
+    ensures written { OnOk result (to.new.items ≡ to.old.items ++ learned_text world.now.config (entries_of world.now) learner) }
+    ensures unchanged { OnErr result (to.new.items ≡ to.old.items) }
 {
     let ordered = in_order(alloc, world.learned(learner))?;
-    push_commands(learner, &ordered, to)
+    let mut line = Vec::new(alloc);
+    push_commands(learner, &ordered, &mut line)?;
+    to.extend_from_slice(&line)?;
+    Ok(())
 }
