@@ -1,5 +1,5 @@
 //! When two commands conflict.
-ghost use Rattle.std.specs.Prelude.{◌≡◌, ◌↔◌, IsTrue};
+ghost use Rattle.std.specs.Prelude.{◌≡◌};
 ghost use Rattle.std.specs.List.{list_any};
 ghost use Rattle.gp_command.specs.Conflict.{conflict, is_clash, touches_clash};
 

@@ -1,5 +1,5 @@
 //! Reading a source to its end, or to a limit.
-ghost use Rattle.std.specs.Prelude.{ℕ, ◌≤◌, length, IfOk, OnErr};
+ghost use Rattle.std.specs.Prelude.{◌≤◌, length, IfOk, OnErr};
 ghost use Rattle.gp_edge.specs.Faults.{Rose, HasFailed};
 ghost use Rattle.gp_edge.specs.Reads.{ReadsUpTo, LosesUpTo};
 

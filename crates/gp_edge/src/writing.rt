@@ -1,5 +1,5 @@
 //! Writing a whole text to a sink.
-ghost use Rattle.std.specs.Prelude.{◌≡◌, ℕ, ◌≤◌, [], IsOk, OnOk, OnErr};
+ghost use Rattle.std.specs.Prelude.{◌≡◌, ◌≤◌, [], IsOk, OnOk, OnErr};
 ghost use Rattle.gp_edge.specs.Faults.{Rose, HasFailed};
 ghost use Rattle.gp_edge.specs.Writes.{AppendsWhole, AppendsPart};
 

@@ -1,5 +1,5 @@
 //! Whole reads and whole writes, in pieces and with failing calls.
-ghost use Rattle.std.specs.Prelude.{ℕ, ◌≤◌};
+ghost use Rattle.std.specs.Prelude.{◌≤◌};
 
 use gp_edge::{
     CalmSink, CalmSource, MemSink, MemSource, ReadSource, Refused, Source, WriteSink, read_up_to,

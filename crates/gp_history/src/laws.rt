@@ -1,9 +1,9 @@
 //! Laws of histories. Each function does nothing, and its contract is the law.
-ghost use Rattle.std.specs.Prelude.{◌≡◌, ◌≤◌, ◌&&◌, ◌||◌, ◌++◌, ◌∷◌, ℕ, List, [], true, false, IsTrue, nat_lt, length, Some, None};
+ghost use Rattle.std.specs.Prelude.{◌≡◌, ◌&&◌, ◌||◌, ◌++◌, ◌∷◌, List, [], true, false, IsTrue, nat_lt, length, Some};
 ghost use Rattle.std.specs.List.{list_any};
 ghost use Rattle.gp_command.specs.declared.command.Command.{Command};
 ghost use Rattle.gp_command.specs.Conflict.{same, conflict};
-ghost use Rattle.gp_history.specs.History.{History, IsHistory, IsPrefix, has, before, size, empty, push};
+ghost use Rattle.gp_history.specs.History.{History, IsHistory, has, before, size, empty, push};
 ghost use Rattle.gp_history.specs.Sequence.{history_of, place, no_repeat};
 ghost use Rattle.gp_history.specs.Canonical.{next_least, IsNext};
 

@@ -1,6 +1,6 @@
 //! The key store, which does the operations of commands.
 ghost use Rattle.std.specs.Prelude.{◌≡◌, IfOk, OnOk, OnErr};
-ghost use Rattle.std.specs.FinMap.{empty, entries, insert, remove};
+ghost use Rattle.std.specs.FinMap.{entries, insert, remove};
 ghost use Rattle.gp_store.specs.declared.op.Op.TheVariants.{Cas, Copy};
 ghost use Rattle.gp_store.specs.Pairs.{value_at};
 ghost use Rattle.gp_store.specs.Effects.{effect, reply, shown, done_if_there, store_rules};
@@ -24,7 +24,6 @@ pub struct KeyStore {
 }
 
 impl Model for KeyStore {
-    ghost use Rattle.std.specs.Prelude.{ℕ};
     ghost use Rattle.std.specs.Coded.{coded_ℕ, coded_list};
     ghost use Rattle.std.specs.FinMap.{code};
     ghost use Rattle.gp_store.specs.Pairs.{Pairs, pairs_of};

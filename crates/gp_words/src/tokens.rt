@@ -1,5 +1,5 @@
 //! Tokens: the parts of a text that single spaces separate.
-ghost use Rattle.std.specs.Prelude.{◌≡◌, ◌==◌, ◌∷◌, [], IfOk, MatchOption, length, map, position};
+ghost use Rattle.std.specs.Prelude.{◌≡◌, ◌==◌, ◌∷◌, [], IfOk, MatchOption, length, position};
 ghost use Rattle.std.specs.List.{list_any};
 ghost use Rattle.gp_words.specs.Tokens.{is_space, tokens_of, texts, has_empty};
 
