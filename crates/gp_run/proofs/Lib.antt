@@ -7,3 +7,4 @@ pub mod RoleRounds
 pub mod GreatestRounds
 pub mod Telling
 pub mod Others
+pub mod Unread

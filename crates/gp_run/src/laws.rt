@@ -1,10 +1,18 @@
 //! Laws of runs. Each function does nothing, and its contract is the law.
-ghost use Rattle.std.specs.Prelude.{◌≡◌, ◌↔◌, ◌++◌, ◌≤◌, ℕ, List, [], ◌∷◌, true, None, length, map};
+ghost use Rattle.std.specs.Prelude.{◌≡◌, ◌↔◌, ◌++◌, ◌≤◌, ℕ, List, [], ◌∷◌, true, false, None, length, map};
 ghost use Rattle.gp_round.specs.Counts.{Counts};
 ghost use Rattle.gp_msg.specs.declared.node.Node.TheVariants as Node;
 ghost use Rattle.gp_msg.specs.declared.event.Event.{Event};
+ghost use Rattle.gp_msg.specs.declared.message.Msg.{Msg};
 ghost use Rattle.gp_msg.specs.declared.record.Record.{Record};
 ghost use Rattle.gp_msg.specs.Messages.{Entry, entry_of, message_of};
+ghost use Rattle.gp_msg.specs.Reads.{kind_of, reads};
+ghost use Rattle.gp_coordinator.specs.State.{CoordinatorState};
+ghost use Rattle.gp_coordinator.specs.Table.{coordinator_take};
+ghost use Rattle.gp_acceptor.specs.State.{AcceptorState};
+ghost use Rattle.gp_acceptor.specs.Table.{acceptor_take};
+ghost use Rattle.gp_learner.specs.State.{LearnerState};
+ghost use Rattle.gp_learner.specs.Table.{learner_take};
 ghost use Rattle.gp_run.specs.Nodes.{node_of};
 ghost use Rattle.gp_run.specs.Messages.{messages, messages_in};
 ghost use Rattle.gp_run.specs.Legal.{fits, Legal, Follows};
@@ -43,6 +51,13 @@ pub fn records_tell_a_run()
 /// Later entries put their messages behind those that stand, so message k stays message k.
 pub fn messages_are_only_added()
     ensures { (later earlier : List Entry) → messages (later ++ earlier) ≡ messages earlier ++ messages later }
+{}
+
+/// A message of a kind that a node does not read changes nothing there, and nothing is sent.
+pub fn what_is_not_read_changes_nothing()
+    ensures coordinators { (s : CoordinatorState) (c : ℕ) (m : Msg) → reads (Node.Coordinator c) (kind_of m) ≡ false → coordinator_take s (message_of m) ≡ (s, None) }
+    ensures acceptors { (s : AcceptorState) (a : ℕ) (m : Msg) → reads (Node.Acceptor a) (kind_of m) ≡ false → acceptor_take s (message_of m) ≡ (s, None) }
+    ensures learners { (s : LearnerState) (l : ℕ) (m : Msg) → reads (Node.Learner l) (kind_of m) ≡ false → learner_take s (message_of m) ≡ s }
 {}
 
 /// The events of other nodes change nothing at a node.
