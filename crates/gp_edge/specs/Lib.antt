@@ -3,3 +3,4 @@ pub mod Reads
 pub mod Writes
 pub mod Calls
 pub mod Memory
+pub mod Outside

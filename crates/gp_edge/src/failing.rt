@@ -2,7 +2,7 @@
 ghost use Rattle.std.specs.Prelude.{◌≡◌, ◌≤◌, IfOk, IfErr, OnOk, Some, false, length, is_ok, is_err};
 ghost use Rattle.gp_edge.specs.Calls.{is_to_fail};
 ghost use Rattle.gp_edge.specs.Memory.{source_of, given, after_read, sink_of, taken, after_write, refusal};
-ghost use Rattle.gp_edge.specs.Faults.{Rose, TakesNothing};
+ghost use Rattle.gp_edge.specs.Faults.{Rose, HasFailed, TakesNothing};
 ghost use Rattle.gp_edge.specs.Reads.{GivesNext, overlaid};
 
 use crate::refusal::{Failed, Refused};
@@ -69,6 +69,7 @@ impl Source for MemSource {
         ensures after { self.new ≡ after_read self.old (length into.old) }
         ensures next { GivesNext (Some self.old.rest) (Some self.new.rest) (length into.old) into.new result }
         ensures never_falls { self.old.calls.faults ≤ self.new.calls.faults }
+        ensures steady { OnOk result (self.new.calls.faults ≡ self.old.calls.faults) }
     {
         if self.schedule.call() {
             return Err(Failed);
@@ -134,6 +135,7 @@ impl Sink for MemSink {
         ensures after { self.new ≡ after_write self.old from.now (is_ok result) }
         ensures never_falls { self.old.calls.faults ≤ self.new.calls.faults }
         ensures stalled { TakesNothing from.now result → Rose self.old.calls.faults self.new.calls.faults }
+        ensures steady { ¬ HasFailed result → self.new.calls.faults ≡ self.old.calls.faults }
     {
         if self.schedule.call() {
             return Err(Refused::Failed);

@@ -1,6 +1,10 @@
-//! A source over any reader and a sink over any writer, as standard input and output. No contract
-//! says which bytes the reader gives, or what the writer does with bytes.
-ghost use Rattle.std.specs.Prelude.{◌≡◌, None};
+//! A source over any reader and a sink over any writer, as standard input and output. A contract says
+//! that they move what the reader gives and what the writer takes, and no more: whether the reader
+//! gives all that there is is its own.
+ghost use Rattle.std.specs.Prelude.{◌≡◌, ◌≤◌, length, None, IfOk, IfErr, OnOk, OnErr};
+ghost use Rattle.std.specs.Io.KnownBytes.{ReadConsumes, WriteAppends};
+ghost use Rattle.gp_edge.specs.declared.refusal.Refused.TheVariants as refused;
+ghost use Rattle.gp_edge.specs.Faults.{Rose, HasFailed, TakesNothing};
 
 use crate::refusal::{Failed, Refused};
 use crate::sink::Sink;
@@ -8,32 +12,33 @@ use crate::source::Source;
 use std::io::{Read, Write};
 use std::marker::Model;
 
-/// A source over a reader. A contract sees how often it has failed.
+/// A source over a reader. A contract sees the bytes that the reader has left, where it tells them, and
+/// how often it has failed.
 #[derive(Drop, Debug)]
-pub struct ReadSource<R> {
+pub struct ReadSource<R: Read> {
     reader: R,
     faults: u64,
 }
 
-impl<R> Model for ReadSource<R> {
-    ghost use Rattle.std.specs.Prelude.{ℕ};
+impl<R: Read> Model for ReadSource<R> {
+    ghost use Rattle.gp_edge.specs.Outside.{OutsideState};
 
-    ghost Value = { ℕ };
+    ghost Value = { OutsideState };
 
-    ghost view = { λ s. s.faults };
+    ghost view = { λ s. record { bytes = R.remaining s.reader; faults = s.faults } };
 }
 
 impl<R: Read> ReadSource<R> {
     /// A source that has not failed.
     pub fn new(reader: R) -> ReadSource<R>
-        ensures { result ≡ 0 }
+        ensures { result ≡ record { bytes = R.remaining reader; faults = 0 } }
     {
         ReadSource { reader, faults: 0 }
     }
 
     /// How often the reader has failed, up to 2^64 - 1.
     pub fn faults(&self) -> u64
-        ensures { result ≡ self.now }
+        ensures { result ≡ self.now.faults }
     {
         self.faults
     }
@@ -42,9 +47,16 @@ impl<R: Read> ReadSource<R> {
 impl<R: Read> Source for ReadSource<R> {
     ghost rest = { λ s. None };
 
-    ghost faults = { λ s. s };
+    ghost faults = { λ s. s.faults };
 
-    fn read(&mut self, into: &mut [u8]) -> Result<usize, Failed> {
+    /// Gives what one read of the reader gives.
+    fn read(&mut self, into: &mut [u8]) -> Result<usize, Failed>
+        ensures within { IfOk result (λ n. n ≤ length into.old) }
+        ensures bytes { ReadConsumes self.old.bytes self.new.bytes result into.new }
+        ensures never_falls { self.old.faults ≤ self.new.faults }
+        ensures failed { OnErr result (Rose self.old.faults self.new.faults) }
+        ensures steady { OnOk result (self.new.faults ≡ self.old.faults) }
+    {
         match self.reader.read(into) {
             Ok(count) => Ok(count),
             Err(_) => {
@@ -56,32 +68,33 @@ impl<R: Read> Source for ReadSource<R> {
 }
 
 /// A sink over a writer, which should keep no bytes back, since the sink never flushes it. A contract
-/// sees how often it has failed or taken nothing.
+/// sees the bytes that the writer holds, where it tells them, and how often it has failed or taken
+/// nothing.
 #[derive(Drop, Debug)]
-pub struct WriteSink<W> {
+pub struct WriteSink<W: Write> {
     writer: W,
     faults: u64,
 }
 
-impl<W> Model for WriteSink<W> {
-    ghost use Rattle.std.specs.Prelude.{ℕ};
+impl<W: Write> Model for WriteSink<W> {
+    ghost use Rattle.gp_edge.specs.Outside.{OutsideState};
 
-    ghost Value = { ℕ };
+    ghost Value = { OutsideState };
 
-    ghost view = { λ s. s.faults };
+    ghost view = { λ s. record { bytes = W.contents s.writer; faults = s.faults } };
 }
 
 impl<W: Write> WriteSink<W> {
     /// A sink that has not failed.
     pub fn new(writer: W) -> WriteSink<W>
-        ensures { result ≡ 0 }
+        ensures { result ≡ record { bytes = W.contents writer; faults = 0 } }
     {
         WriteSink { writer, faults: 0 }
     }
 
     /// How often the writer has failed or taken nothing, up to 2^64 - 1.
     pub fn faults(&self) -> u64
-        ensures { result ≡ self.now }
+        ensures { result ≡ self.now.faults }
     {
         self.faults
     }
@@ -90,9 +103,18 @@ impl<W: Write> WriteSink<W> {
 impl<W: Write> Sink for WriteSink<W> {
     ghost written = { λ s. None };
 
-    ghost faults = { λ s. s };
+    ghost faults = { λ s. s.faults };
 
-    fn write(&mut self, from: &[u8]) -> Result<usize, Refused> {
+    /// Passes on what one write of the writer takes. It is never refused for want of memory.
+    fn write(&mut self, from: &[u8]) -> Result<usize, Refused>
+        ensures within { IfOk result (λ n. n ≤ length from.now) }
+        ensures bytes { WriteAppends self.old.bytes self.new.bytes result from.now }
+        ensures never_falls { self.old.faults ≤ self.new.faults }
+        ensures refused { IfErr result (λ e. e ≡ refused.Failed) }
+        ensures failed { OnErr result (Rose self.old.faults self.new.faults) }
+        ensures stalled { TakesNothing from.now result → Rose self.old.faults self.new.faults }
+        ensures steady { ¬ HasFailed result → ¬ TakesNothing from.now result → self.new.faults ≡ self.old.faults }
+    {
         match self.writer.write(from) {
             Ok(0) if !from.is_empty() => {
                 self.faults = self.faults.saturating_add(1);

@@ -1,5 +1,5 @@
 //! Reading a source to its end, or to a limit.
-ghost use Rattle.std.specs.Prelude.{◌≤◌, length, IfOk, OnErr};
+ghost use Rattle.std.specs.Prelude.{◌≡◌, ◌≤◌, length, IfOk, OnErr};
 ghost use Rattle.gp_edge.specs.Faults.{Rose, HasFailed};
 ghost use Rattle.gp_edge.specs.Reads.{ReadsUpTo, LosesUpTo};
 
@@ -24,6 +24,7 @@ pub fn read_up_to<S: Source>(
     ensures refused { OnErr result (LosesUpTo limit (S.rest source.old) (S.rest source.new)) }
     ensures never_falls { S.faults source.old ≤ S.faults source.new }
     ensures failed { HasFailed result → Rose (S.faults source.old) (S.faults source.new) }
+    ensures steady { ¬ HasFailed result → S.faults source.new ≡ S.faults source.old }
 {
     let mut bytes = Vec::new(alloc);
     let mut piece = [0u8; PIECE];

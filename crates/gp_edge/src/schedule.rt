@@ -1,5 +1,5 @@
 //! Which calls of an object in memory are to fail.
-ghost use Rattle.std.specs.Prelude.{◌≡◌, ◌≤◌, IfOk};
+ghost use Rattle.std.specs.Prelude.{◌≡◌, ◌≤◌, false, IfOk};
 ghost use Rattle.gp_edge.specs.Calls.{scheduled, is_to_fail, called};
 
 use gp_command::NoMemory;
@@ -40,6 +40,7 @@ impl Schedule {
         ensures fails { result ≡ is_to_fail self.old }
         ensures next { self.new ≡ called self.old }
         ensures never_falls { self.old.faults ≤ self.new.faults }
+        ensures steady { result ≡ false → self.new.faults ≡ self.old.faults }
     {
         let fails = self.failing.contains(&self.made);
         if fails {

@@ -1,5 +1,5 @@
 //! Where bytes go.
-ghost use Rattle.std.specs.Prelude.{ℕ, ◌≤◌, List, length, Option, IfOk};
+ghost use Rattle.std.specs.Prelude.{ℕ, ◌≡◌, ◌≤◌, List, length, Option, IfOk};
 ghost use Rattle.gp_edge.specs.Faults.{Rose, HasFailed, TakesNothing};
 ghost use Rattle.gp_edge.specs.Writes.{AppendsFirst};
 
@@ -16,11 +16,13 @@ pub trait Sink {
     /// Appends the first bytes of the piece, and answers how many.
     ///
     /// It fails, or takes nothing of a piece that is not empty, only where the count of faults rises,
-    /// or stands at 2^64 - 1. Where it is refused, nothing was written.
+    /// or stands at 2^64 - 1. At every other call the count stays. Where it is refused, nothing was
+    /// written.
     fn write(&mut self, from: &[u8]) -> Result<usize, Refused>
         ensures within { IfOk result (λ n. n ≤ length from.now) }
         ensures next { AppendsFirst (written self.old) (written self.new) from.now result }
         ensures never_falls { faults self.old ≤ faults self.new }
         ensures failed { HasFailed result → Rose (faults self.old) (faults self.new) }
-        ensures stalled { TakesNothing from.now result → Rose (faults self.old) (faults self.new) };
+        ensures stalled { TakesNothing from.now result → Rose (faults self.old) (faults self.new) }
+        ensures steady { ¬ HasFailed result → ¬ TakesNothing from.now result → faults self.new ≡ faults self.old };
 }

@@ -1,5 +1,5 @@
 //! Where bytes come from.
-ghost use Rattle.std.specs.Prelude.{ℕ, ◌≤◌, List, length, Option, IfOk, OnErr};
+ghost use Rattle.std.specs.Prelude.{ℕ, ◌≡◌, ◌≤◌, List, length, Option, IfOk, OnOk, OnErr};
 ghost use Rattle.gp_edge.specs.Faults.{Rose};
 ghost use Rattle.gp_edge.specs.Reads.{GivesNext};
 
@@ -16,10 +16,12 @@ pub trait Source {
     /// Puts the next bytes at the front of the piece, and answers how many. For a piece that is not
     /// empty, 0 is the end of the input.
     ///
-    /// It fails only where the count of faults rises, or stands at 2^64 - 1. Then the rest stays.
+    /// It fails only where the count of faults rises, or stands at 2^64 - 1. Then the rest stays. Where
+    /// it does not fail the count stays.
     fn read(&mut self, into: &mut [u8]) -> Result<usize, Failed>
         ensures within { IfOk result (λ n. n ≤ length into.old) }
         ensures next { GivesNext (rest self.old) (rest self.new) (length into.old) into.new result }
         ensures never_falls { faults self.old ≤ faults self.new }
-        ensures failed { OnErr result (Rose (faults self.old) (faults self.new)) };
+        ensures failed { OnErr result (Rose (faults self.old) (faults self.new)) }
+        ensures steady { OnOk result (faults self.new ≡ faults self.old) };
 }

@@ -1,5 +1,5 @@
 //! Writing a whole text to a sink.
-ghost use Rattle.std.specs.Prelude.{◌≡◌, ◌≤◌, [], IsOk, OnOk, OnErr};
+ghost use Rattle.std.specs.Prelude.{◌≡◌, ℕ, ◌≤◌, [], IsOk, OnOk, OnErr};
 ghost use Rattle.gp_edge.specs.Faults.{Rose, HasFailed};
 ghost use Rattle.gp_edge.specs.Writes.{AppendsWhole, AppendsPart};
 
@@ -14,6 +14,7 @@ pub fn write_whole<K: Sink>(sink: &mut K, text: &[u8]) -> Result<(), Refused>
     ensures refused { OnErr result (AppendsPart (K.written sink.old) (K.written sink.new) text.now) }
     ensures never_falls { K.faults sink.old ≤ K.faults sink.new }
     ensures failed { HasFailed result → Rose (K.faults sink.old) (K.faults sink.new) }
+    ensures steady { ¬ HasFailed result → K.faults sink.new ≡ K.faults sink.old }
     ensures empty { text.now ≡ [] → IsOk result × (sink.new ≡ sink.old) }
 {
     let mut done = 0;

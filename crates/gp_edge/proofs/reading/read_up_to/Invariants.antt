@@ -1,4 +1,4 @@
-use Rattle.std.proofs.Common.{◌≤◌, ◌-◌, length}
+use Rattle.std.proofs.Common.{◌≡◌, ◌≤◌, ◌-◌, length}
 use Rattle.gp_edge.specs.Reads.{ReadsUpTo}
 use Rattle.gp_edge.proofs.reading.read_up_to.Given as goal
 
@@ -7,7 +7,7 @@ abbrev pub invariant-loop-piece : goal.invariant-loop-piece
 invariant-loop-piece g l = record {
   sofar : ReadsUpTo (length l.bytes.items) (g.S.Source.rest l.fn.source) (g.S.Source.rest l.source) l.bytes.items;
   within : length l.bytes.items ≤ l.limit;
-  never_falls : g.S.Source.faults l.fn.source ≤ g.S.Source.faults l.source;
+  steady : g.S.Source.faults l.source ≡ g.S.Source.faults l.fn.source;
 }
 
 abbrev pub decreases-loop-piece : goal.decreases-loop-piece

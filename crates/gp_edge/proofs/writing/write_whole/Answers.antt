@@ -1,4 +1,4 @@
-use Rattle.std.proofs.Common.{arith}
+use Rattle.std.proofs.Common.{◌∙◌, arith}
 use Rattle.std.proofs.lemmas.List.{length-drop}
 use Rattle.gp_edge.proofs.Pieces.{write_more, rest_piece}
 use Rattle.gp_edge.proofs.writing.write_whole.Goals as goal
@@ -12,6 +12,6 @@ loop-done-preserved g c =
     record {
       sofar = write_more _ _ (g.K.Sink.written c.loop-done.sink) _ _ _ _ c.loop-done.invariant.sofar next;
       within = omega (arith, fits, dropped, c.loop-done-test.true);
-      never_falls = omega (arith, c.in_ok-count.ensures.never_falls, c.loop-done.invariant.never_falls);
+      steady = c.in_ok-count.ensures.steady (λ failed. failed) (λ none. absurd (omega (arith, none.0, c.if-count-eq0.false))) ∙ c.loop-done.invariant.steady;
       untouched = λ none. absurd (omega (arith, none, c.if-count-eq0.false));
     }

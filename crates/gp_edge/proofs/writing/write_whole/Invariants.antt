@@ -8,7 +8,7 @@ abbrev pub invariant-loop-done : goal.invariant-loop-done
 invariant-loop-done g l = record {
   sofar : AppendsFirst {E = Refused} (g.K.Sink.written l.fn.sink) (g.K.Sink.written l.sink) l.text (Ok l.done);
   within : l.done ≤ length l.text;
-  never_falls : g.K.Sink.faults l.fn.sink ≤ g.K.Sink.faults l.sink;
+  steady : g.K.Sink.faults l.sink ≡ g.K.Sink.faults l.fn.sink;
   untouched : l.done ≡ 0 → l.sink ≡ l.fn.sink;
 }
 
