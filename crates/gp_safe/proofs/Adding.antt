@@ -1,10 +1,11 @@
 -- A meet has no command that not each member has, and where all of its commands are known it adds nothing.
-use Rattle.std.proofs.Common.{◌≡◌, ℕ, zero, suc, ◌+◌, ◌<◌, Bool, true, false, not, ◌&&◌, ◌||◌, cond, List, [], ◌∷◌, ◌++◌, length, take, Some, None, inl, inr, refl, sym, ap, ◌∙◌, arith}
-use Rattle.std.specs.Prelude.{Option, filter, slice_get}
+use Rattle.std.proofs.Common.{subst, ◌≡◌, ℕ, zero, suc, ◌+◌, ◌<◌, Bool, true, false, not, ◌&&◌, ◌||◌, cond, List, [], ◌∷◌, ◌++◌, length, take, Some, None, inl, inr, refl, sym, ap, ◌∙◌, arith}
+use Rattle.std.specs.Prelude.{Option, filter, slice_get, unwrap_or, OnSome}
 use Rattle.std.specs.List.{list_any, list_all}
-use Rattle.std.specs.Option.{is_some}
+use Rattle.std.specs.Option.{is_some, option_map}
 use Rattle.std.specs.FinSet as set
 use Rattle.std.proofs.lemmas.Bool.{cases_eq, true≢false}
+use Rattle.std.proofs.lemmas.List.Elements.{Contains-append_left, Contains-append_right}
 use Rattle.gp_command.specs.declared.command.Command.{Command}
 use Rattle.gp_command.specs.Conflict.{same}
 use Rattle.gp_command.proofs.ConflictLemmas.{same-true}
@@ -19,8 +20,9 @@ use Rattle.gp_history.proofs.Push.{push_there}
 use Rattle.gp_history.proofs.Canonical.{least_in, in_filtered}
 use Rattle.gp_history.proofs.Meet.{in_items}
 use Rattle.gp_history.proofs.Places.{take_next, at_in}
+use Rattle.gp_round.specs.Sets.{bit}
 use Rattle.gp_safe.specs.Meets.{with_one, gathered, if_whole, quorum_meet, add_meet, quorum_meets}
-use Rattle.gp_safe.specs.News.{is_in, all_have, is_new}
+use Rattle.gp_safe.specs.News.{is_in, all_have, is_new, Addition, AdditionAmong}
 use Rattle.gp_safe.proofs.Gathering.{quorum_meets_last}
 
 pub has_from_place : (xs : List Command) (c : Command) → has (history_of xs) c ≡ is_some (place_in xs c)
@@ -156,3 +158,22 @@ one_more_joined f w n ms m known now e =
     ap (λ u. joined u (add_meet (quorum_meet f w n m) [])) e
     ∙ sym (joined-append known (quorum_meets f w n ms) (add_meet (quorum_meet f w n m) []))
     ∙ ap (joined known) (sym (quorum_meets_last f w n ms m))
+
+-- ---- sets that add
+
+pub addition_of : (known : History) (f : ℕ → Option History) (p : ℕ → Bool) (n i : ℕ) (xs : List Command) → is_some (gathered f p n) ≡ true → i < n → p i ≡ true → list_any (is_new known f p n) xs ≡ true → Addition known f p n
+addition_of known f p n i xs whole h e any = any_one (is_new known f p n) xs any (λ c new. record { whole = whole; member = i; below = h; counts = e; command = c; new = new })
+
+more_masks : (known : History) (f : ℕ → Option History) (w : ℕ → Bool) (n : ℕ) (ms : List ℕ) (m : ℕ) → AdditionAmong known f w n ms → AdditionAmong known f w n (ms ++ m ∷ [])
+more_masks known f w n ms m a = record { mask = a.mask; among = Contains-append_left ms (m ∷ []) a.mask a.among; addition = a.addition }
+
+at_last : (known : History) (f : ℕ → Option History) (w : ℕ → Bool) (n : ℕ) (ms : List ℕ) (m : ℕ) → Addition known f (λ i. bit m i && w i) n → AdditionAmong known f w n (ms ++ m ∷ [])
+at_last known f w n ms m a = record { mask = m; among = Contains-append_right ms (m ∷ []) m (0, omega arith, refl); addition = a }
+
+-- what was joined by one mask more
+pub one_more_addition : {X : Type 0} (view : X → History) (f : ℕ → Option History) (w : ℕ → Bool) (n : ℕ) (ms : List ℕ) (m : ℕ) (known now : History) (news met next : Option X)
+    → now ≡ unwrap_or (option_map view news) known → OnSome news (AdditionAmong known f w n ms) → OnSome met (Addition now f (λ i. bit m i && w i) n) → is_some next ≡ (is_some news || is_some met) → OnSome next (AdditionAmong known f w n (ms ++ m ∷ []))
+one_more_addition view f w n ms m known now news met None e old new some = tt
+one_more_addition view f w n ms m known now (Some x) met (Some y) e old new some = more_masks known f w n ms m old
+one_more_addition view f w n ms m known now None (Some z) (Some y) e old new some = at_last known f w n ms m (subst (λ (u : History). Addition u f (λ i. bit m i && w i) n) e new)
+one_more_addition view f w n ms m known now None None (Some y) e old new some = absurd (true≢false some)

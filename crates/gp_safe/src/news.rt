@@ -1,14 +1,14 @@
 //! What the meets of quorums add to what is known.
-ghost use Rattle.std.specs.Prelude.{◌≡◌, ◌≤◌, ◌&&◌, not, false, [], List, Option, IfOk, unwrap_or};
+ghost use Rattle.std.specs.Prelude.{◌≡◌, ◌≤◌, ◌&&◌, ◌||◌, not, false, true, [], List, Option, IfOk, OnSome, unwrap_or};
 ghost use Rattle.std.specs.List.{list_any};
-ghost use Rattle.std.specs.Option.{option_map, option_copied};
+ghost use Rattle.std.specs.Option.{option_map, option_copied, is_some};
 ghost use Rattle.gp_command.specs.declared.command.Command.{Command};
 ghost use Rattle.gp_history.specs.History.{has};
 ghost use Rattle.gp_history.specs.Sequence.{history_of};
 ghost use Rattle.gp_history.specs.Bounds.{joined};
 ghost use Rattle.gp_round.specs.Sets.{masks, bit};
 ghost use Rattle.gp_safe.specs.Meets.{quorum_meet, quorum_meets, add_meet};
-ghost use Rattle.gp_safe.specs.News.{is_in, all_have, is_new};
+ghost use Rattle.gp_safe.specs.News.{is_in, all_have, is_new, Addition, AdditionAmong};
 
 use crate::meets::{Values, is_whole, quorum_meet};
 use gp_bounds::{join, join_onto};
@@ -20,7 +20,8 @@ use std::alloc::Global;
 /// What is known, joined with the meets of those sets with `size` of n senders that are whole, in
 /// order of their masks. There is none where nothing was joined to it.
 ///
-/// A meet is formed only where the value of each member has a command that is not known.
+/// A meet is formed only where one command that is not known is in the value of each member. It may
+/// still add nothing, as where the members disagree on what comes before that command.
 #[tactic(auto, using(crate::proofs::Adding::one_more_joined))]
 pub fn join_meets_onto<V: Values>(
     alloc: Global,
@@ -31,7 +32,8 @@ pub fn join_meets_onto<V: Values>(
 ) -> Result<Option<SeqHistory>, NoMemory>
     requires few { n ≤ 7 }
     requires room { size ≤ n }
-    ensures { IfOk result (λ j. unwrap_or (option_map history_of j) (history_of known.now) ≡ joined (history_of known.now) (quorum_meets (V.value values.now) (V.within values.now) n (masks n size))) }
+    ensures joined { IfOk result (λ j. unwrap_or (option_map history_of j) (history_of known.now) ≡ joined (history_of known.now) (quorum_meets (V.value values.now) (V.within values.now) n (masks n size))) }
+    ensures addition { IfOk result (λ j. OnSome j (AdditionAmong (history_of known.now) (V.value values.now) (V.within values.now) n (masks n size))) }
 {
     let mut news = None;
     for mask in Subsets::new(n, size) {
@@ -58,7 +60,8 @@ fn with_new(
     news: Option<SeqHistory>,
     met: Option<SeqHistory>,
 ) -> Result<Option<SeqHistory>, NoMemory>
-    ensures { IfOk result (λ j. unwrap_or (option_map history_of j) (history_of known.now) ≡ joined (unwrap_or (option_map history_of news) (history_of known.now)) (add_meet (option_map history_of met) [])) }
+    ensures joined { IfOk result (λ j. unwrap_or (option_map history_of j) (history_of known.now) ≡ joined (unwrap_or (option_map history_of news) (history_of known.now)) (add_meet (option_map history_of met) [])) }
+    ensures some { IfOk result (λ j. is_some j ≡ (is_some news || is_some met)) }
 {
     match (news, met) {
         (news, None) => Ok(news),
@@ -76,7 +79,8 @@ fn new_meet<V: Values>(
     mask: u8,
 ) -> Result<Option<SeqHistory>, NoMemory>
     requires { n ≤ 7 }
-    ensures { IfOk result (λ m. joined (history_of known.now) (add_meet (option_map history_of m) []) ≡ joined (history_of known.now) (add_meet (quorum_meet (V.value values.now) (V.within values.now) n mask) [])) }
+    ensures joined { IfOk result (λ m. joined (history_of known.now) (add_meet (option_map history_of m) []) ≡ joined (history_of known.now) (add_meet (quorum_meet (V.value values.now) (V.within values.now) n mask) [])) }
+    ensures addition { IfOk result (λ m. OnSome m (Addition (history_of known.now) (V.value values.now) (λ i. bit mask i && V.within values.now i) n)) }
 {
     if has_news(known, values, n, mask) {
         quorum_meet(alloc, values, n, mask)
@@ -88,7 +92,8 @@ fn new_meet<V: Values>(
 // Whether the meet of the values of one set may add a command.
 fn has_news<V: Values>(known: &SeqHistory, values: &V, n: u32, mask: u8) -> bool
     requires { n ≤ 7 }
-    ensures { result ≡ false → joined (history_of known.now) (add_meet (quorum_meet (V.value values.now) (V.within values.now) n mask) []) ≡ history_of known.now }
+    ensures nothing { result ≡ false → joined (history_of known.now) (add_meet (quorum_meet (V.value values.now) (V.within values.now) n mask) []) ≡ history_of known.now }
+    ensures addition { result ≡ true → Addition (history_of known.now) (V.value values.now) (λ i. bit mask i && V.within values.now i) n }
 {
     if !is_whole(values, n, mask) {
         return false;

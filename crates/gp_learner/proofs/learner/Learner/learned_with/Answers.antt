@@ -26,4 +26,4 @@ returns c =
     learned_at_once zs _
     ∙ (λ i. learned_with (known i) (all_joined (quorum_meets (value_with (vote_of (votes i) round) c.args.acceptor vote) everyone (n i) (masks (n i) (size i)))))
     ∙ ap (learned_with s.learned) (heard-votes_held s.config.acceptors s.votes round c.args.acceptor vote) in
-    subst (λ (p : History × History). IfOk c.join_meets_onto.result (λ l. unwrap_or (option_map history_of l) p.0 ≡ p.1)) (λ i. (known i, whole i)) c.join_meets_onto.ensures
+    subst (λ (p : History × History). IfOk c.join_meets_onto.result (λ l. unwrap_or (option_map history_of l) p.0 ≡ p.1)) (λ i. (known i, whole i)) c.join_meets_onto.ensures.joined
