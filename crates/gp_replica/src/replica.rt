@@ -1,5 +1,5 @@
 //! What a replica keeps, and how it catches up.
-ghost use Rattle.std.specs.Prelude.{◌≡◌, ◌↔◌, ◌+◌, ◌≢◌, ◌++◌, ◌∷◌, [], true, false, length, IsNone, IfOk, OnOk, OnErr};
+ghost use Rattle.std.specs.Prelude.{◌≡◌, ◌↔◌, ◌+◌, ◌≤◌, ◌≢◌, ◌++◌, ◌∷◌, [], true, false, length, IsNone, IfOk, OnOk, OnErr};
 ghost use Rattle.std.specs.Map.{lookup};
 ghost use Rattle.gp_command.specs.declared.command.Command.{Command};
 ghost use Rattle.gp_history.specs.History.{has, IsPrefix};
@@ -83,8 +83,8 @@ impl<M: Machine> Replica<M> {
     }
 
     /// Runs what it has not run of a learned history, in the canonical order, and answers how many
-    /// commands these were. Where memory runs out it has run the first of them, each with its reply. A
-    /// replica that has run all takes no memory.
+    /// commands these were. Where memory runs out it has run the first of them, or all, each with its
+    /// reply. A replica that has run all takes no memory.
     pub fn catch_up(&mut self, learned: &SeqHistory) -> Result<usize, NoMemory>
         requires prefix { IsPrefix (history_of self.old) (history_of learned.now) }
         requires identities { HasDistinctIds (history_of learned.now) }
@@ -93,18 +93,33 @@ impl<M: Machine> Replica<M> {
         ensures some { IsPrefix (history_of self.new) (history_of learned.now) }
         ensures order { Continues (history_of learned.now) self.old self.new }
         ensures first { self.old ≡ [] → OnOk result (self.new ≡ canonical (history_of learned.now)) }
+        ensures needed { OnErr result (history_of self.old ≢ history_of learned.now) }
     {
         let before = self.ran.len();
         if before == learned.len() {
             return Ok(0);
         }
+        self.run_rest(learned)?;
+        Ok(self.ran.len() - before)
+    }
+
+    // Runs the least command that is ready, again and again, until none is left.
+    fn run_rest(&mut self, learned: &SeqHistory) -> Result<(), NoMemory>
+        requires prefix { IsPrefix (history_of self.old) (history_of learned.now) }
+        requires identities { HasDistinctIds (history_of learned.now) }
+        ensures all { OnOk result (history_of self.new ≡ history_of learned.now) }
+        ensures some { IsPrefix (history_of self.new) (history_of learned.now) }
+        ensures order { Continues (history_of learned.now) self.old self.new }
+        ensures longer { length self.old ≤ length self.new }
+    {
         let mut next = self.ran.copy()?;
         while let Some(c) = learned.next_least(&self.ran) {
             next.push(c.copy()?)?;
             self.run(c, &mut next)?;
+            // `run` gave back what was run before the command
             next.push(c.copy()?)?;
         }
-        Ok(self.ran.len() - before)
+        Ok(())
     }
 
     // Runs a command. The other sequence is what was run with the command behind it, and in exchange
@@ -120,6 +135,7 @@ impl<M: Machine> Replica<M> {
         self.replies.reserve(1)?;
         let reply = self.machine.apply(c)?;
         std::mem::swap(&mut self.ran, next);
+        // there is room for it
         let _room = self.replies.push((c.id(), reply));
         Ok(())
     }
