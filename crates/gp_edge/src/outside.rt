@@ -4,7 +4,7 @@
 ghost use Rattle.std.specs.Prelude.{◌≡◌, ◌≤◌, length, None, IfOk, IfErr, OnOk, OnErr};
 ghost use Rattle.std.specs.Io.KnownBytes.{ReadConsumes, WriteAppends};
 ghost use Rattle.gp_edge.specs.declared.refusal.Refused.TheVariants as refused;
-ghost use Rattle.gp_edge.specs.Faults.{Rose, HasFailed, TakesNothing};
+ghost use Rattle.gp_edge.specs.Faults.{one_more, Rose, HasFailed, TakesNothing};
 
 use crate::refusal::{Failed, Refused};
 use crate::sink::Sink;
@@ -55,6 +55,7 @@ impl<R: Read> Source for ReadSource<R> {
         ensures bytes { ReadConsumes self.old.bytes self.new.bytes result into.new }
         ensures never_falls { self.old.faults ≤ self.new.faults }
         ensures failed { OnErr result (Rose self.old.faults self.new.faults) }
+        ensures counted { OnErr result (self.new.faults ≡ one_more self.old.faults) }
         ensures steady { OnOk result (self.new.faults ≡ self.old.faults) }
     {
         match self.reader.read(into) {
@@ -113,6 +114,8 @@ impl<W: Write> Sink for WriteSink<W> {
         ensures refused { IfErr result (λ e. e ≡ refused.Failed) }
         ensures failed { OnErr result (Rose self.old.faults self.new.faults) }
         ensures stalled { TakesNothing from.now result → Rose self.old.faults self.new.faults }
+        ensures counted { OnErr result (self.new.faults ≡ one_more self.old.faults) }
+        ensures counted_stall { TakesNothing from.now result → self.new.faults ≡ one_more self.old.faults }
         ensures steady { ¬ HasFailed result → ¬ TakesNothing from.now result → self.new.faults ≡ self.old.faults }
     {
         match self.writer.write(from) {

@@ -1,5 +1,5 @@
 //! Reading a source to its end, or to a limit.
-ghost use Rattle.std.specs.Prelude.{◌≡◌, ◌≤◌, length, IfOk, OnErr};
+ghost use Rattle.std.specs.Prelude.{◌≡◌, ◌≤◌, length, IsOk, IfOk, OnErr};
 ghost use Rattle.gp_edge.specs.Faults.{Rose, HasFailed};
 ghost use Rattle.gp_edge.specs.Reads.{ReadsUpTo, LosesUpTo};
 
@@ -13,7 +13,7 @@ const PIECE: usize = 4096;
 /// Reads the next bytes to the end of the input, but no more than `limit` of them.
 ///
 /// It answers `Failed` where a read fails, and `NoMemory` where there is none for the bytes. What was
-/// read before a refusal is lost.
+/// read before a refusal is lost. Where the limit is 0 nothing is asked for.
 pub fn read_up_to<S: Source>(
     alloc: Global,
     source: &mut S,
@@ -25,6 +25,7 @@ pub fn read_up_to<S: Source>(
     ensures never_falls { S.faults source.old ≤ S.faults source.new }
     ensures failed { HasFailed result → Rose (S.faults source.old) (S.faults source.new) }
     ensures steady { ¬ HasFailed result → S.faults source.new ≡ S.faults source.old }
+    ensures untouched { limit ≡ 0 → IsOk result × (source.new ≡ source.old) }
 {
     let mut bytes = Vec::new(alloc);
     let mut piece = [0u8; PIECE];

@@ -1,4 +1,4 @@
-//! Why a call of a source or a sink did nothing.
+//! Why a call of a source or a sink was refused.
 ghost use Rattle.gp_edge.specs.declared.refusal.Refused.TheVariants as refused;
 
 use std::alloc::AllocError;

@@ -16,6 +16,22 @@ impl Read for Broken {
     }
 }
 
+// A reader that fails at its first read alone, and is at its end.
+#[derive(Drop)]
+struct Hesitant {
+    has_failed: bool,
+}
+
+impl Read for Hesitant {
+    fn read(&mut self, _buf: &mut [u8]) -> io::Result<usize> {
+        if self.has_failed {
+            return Ok(0);
+        }
+        self.has_failed = true;
+        Err(io::Error::from(ErrorKind::Interrupted))
+    }
+}
+
 // Whether a read into three bytes answers so, and then these bytes stand there.
 fn reads<S: Source>(source: &mut S, answer: Result<usize, Failed>, bytes: &[u8; 3]) -> bool {
     let mut piece = *b"---";
@@ -71,6 +87,16 @@ fn a_source_over_a_reader_counts_its_failures(rt: HostRuntime) -> Result<(), Fai
     let mut broken = ReadSource::new(Broken);
     assert!(rt; reads(&mut broken, Err(Failed), b"---"));
     assert!(rt; broken.faults() == 1);
+    Ok(())
+}
+
+#[test]
+fn a_failed_read_is_not_tried_again(rt: HostRuntime) -> Result<(), Fail> {
+    let mut source = ReadSource::new(Hesitant { has_failed: false });
+    assert!(rt; reads(&mut source, Err(Failed), b"---"));
+    assert!(rt; source.faults() == 1);
+    assert!(rt; reads(&mut source, Ok(0), b"---"));
+    assert!(rt; source.faults() == 1);
     Ok(())
 }
 

@@ -19,6 +19,7 @@ loop-piece-preserved g c =
       sofar = rw same (read_more _ (g.S.Source.rest c.args.source.now) (g.S.Source.rest c.loop-piece.source) _ _ c.read.new.into c.loop-piece.bytes.items c.in_ok-count.count c.loop-piece.invariant.sofar c.in_ok-count.ensures.next);
       within = omega (arith, grown, sum, kept, fits, part, c.in_ok-count.ensures.within, c.min-room.ensures);
       steady = c.in_ok-count.ensures.steady ∙ c.loop-piece.invariant.steady;
+      untouched = λ none. absurd (omega (arith, none, c.loop-piece-test.true));
     }
 
 pub returns-clause-whole : goal.returns-clause-whole
