@@ -54,20 +54,20 @@ because P Q before now ran for ends = record {
 }
 
 -- the cause of a script that was read
-script_cause : (before now : Seen) (bytes : List ℕ) → ReadsUpTo 1048577 before.bytes now.bytes bytes → (ending : Ending) → IsScriptCause (reading bytes) ending → IsReadCause before now ending
-script_cause before now bytes taken Misused cause = cause
-script_cause before now bytes taken Unread cause = absurd cause
-script_cause before now bytes taken (Refuses line reason before_it) cause = record { bytes = bytes; taken = taken; says = cause }
-script_cause before now bytes taken (Plays config said) cause = record { bytes = bytes; taken = taken; says = cause }
-script_cause before now bytes taken Starved cause = loses 1048577 before.bytes now.bytes bytes taken
+script_cause : (before now : Seen) (bytes : List ℕ) → ReadsUpTo 1048577 before.bytes now.bytes bytes → now.faults ≡ before.faults → (ending : Ending) → IsScriptCause (reading bytes) ending → IsReadCause before now ending
+script_cause before now bytes taken steady Misused cause = cause
+script_cause before now bytes taken steady Unread cause = absurd cause
+script_cause before now bytes taken steady (Refuses line reason before_it) cause = record { bytes = bytes; taken = taken; steady = steady; says = cause }
+script_cause before now bytes taken steady (Plays config said) cause = record { bytes = bytes; taken = taken; steady = steady; says = cause }
+script_cause before now bytes taken steady Starved cause = (steady, loses 1048577 before.bytes now.bytes bytes taken)
 
 -- a script that was read up to the limit ends as a script
-pub read_ends : (rest left before now : Seen) (ran : Ran) (limit : ℕ) (bytes script : List ℕ) → script ≡ bytes → ReadsUpTo limit rest.bytes left.bytes bytes → limit ≡ 1048577
+pub read_ends : (rest left before now : Seen) (ran : Ran) (limit : ℕ) (bytes script : List ℕ) → script ≡ bytes → ReadsUpTo limit rest.bytes left.bytes bytes → limit ≡ 1048577 → left.faults ≡ rest.faults
     → Ends (IsScriptCause (reading script)) before now ran → Ends (IsReadCause rest left) before now ran
-read_ends rest left before now ran limit bytes script same taken is ends =
+read_ends rest left before now ran limit bytes script same taken is steady ends =
     let P : ℕ → Type 0 = λ n. ReadsUpTo n rest.bytes left.bytes bytes in
     let Q : List ℕ → Type 0 = λ b. Ends (IsScriptCause (reading b)) before now ran in
-    because (IsScriptCause (reading bytes)) (IsReadCause rest left) before now ran (script_cause rest left bytes (subst P is taken)) (subst Q same ends)
+    because (IsScriptCause (reading bytes)) (IsReadCause rest left) before now ran (script_cause rest left bytes (subst P is taken) steady) (subst Q same ends)
 
 -- memory ran out before the end was known, and nothing was written
 pub starved : (Cause : Ending → Type 0) (before : Seen) (ran : Ran) → Cause Starved → ran.status ≡ 1 → ran.trail ≡ [] → Ends Cause before before ran
@@ -78,7 +78,7 @@ starved Cause before ran cause one none = record {
   config = counts 3 1 1;
   own_config = tt;
   agreement = none_agrees ran.trail none;
-  told = Wholly one (nothing_told before.bytes);
+  told = Wholly one refl (nothing_told before.bytes);
 }
 
 -- a run that was not begun ends with a text alone

@@ -71,10 +71,11 @@ pub record Seen : Type 0 where
 abbrev pub seen : Option (List ℕ) → ℕ → Seen
 seen bytes faults = record { bytes = bytes; faults = faults }
 
--- the bytes read, up to one more than a script may have, have this reading
+-- the bytes read, up to one more than a script may have, have this reading, and no fault was counted
 pub record HasRead (before now : Seen) (read : Reading) : Type 0 where
   pub bytes : List ℕ
   pub taken : ReadsUpTo 1048577 before.bytes now.bytes bytes
+  pub steady : now.faults ≡ before.faults
   pub says : reading bytes ≡ read
 
 -- why a run ends so where a script is to be read, by the source before and now
@@ -83,7 +84,7 @@ IsReadCause before now Misused = ⊥
 IsReadCause before now Unread = Rose before.faults now.faults × LosesUpTo 1048577 before.bytes now.bytes
 IsReadCause before now (Refuses line reason said) = HasRead before now (Refused line reason said)
 IsReadCause before now (Plays config said) = HasRead before now (Whole config said)
-IsReadCause before now Starved = LosesUpTo 1048577 before.bytes now.bytes
+IsReadCause before now Starved = (now.faults ≡ before.faults) × LosesUpTo 1048577 before.bytes now.bytes
 
 -- why it ends so, by the words too: `play` reads a script, and other words read nothing
 abbrev pub IsCause : List (List ℕ) → Seen → Seen → Ending → Type 0

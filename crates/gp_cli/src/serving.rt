@@ -1,5 +1,5 @@
 //! The top call.
-ghost use Rattle.std.specs.Prelude.{◌≡◌, ◌≤◌, ◌⊎◌, [], false, IfSome};
+ghost use Rattle.std.specs.Prelude.{◌≡◌, ◌≤◌, ◌⊎◌, [], true, false, IfSome};
 ghost use Rattle.gp_edge.specs.Faults.{Rose};
 ghost use Rattle.gp_round.specs.Counts.{Counts};
 ghost use Rattle.gp_run.specs.Runs.{entries_in};
@@ -7,7 +7,7 @@ ghost use Rattle.gp_report.specs.Replicas.{IsInAgreement};
 ghost use Rattle.gp_text.specs.Reading.{reading};
 ghost use Rattle.gp_cli.specs.Texts.{texts_of, is_play, usage, refusal_text};
 ghost use Rattle.gp_cli.specs.Endings.{seen, IsCause, IsReadCause, IsScriptCause};
-ghost use Rattle.gp_cli.specs.Serving.{Told, Ends, PlaysWhole, StopsAtLine};
+ghost use Rattle.gp_cli.specs.Serving.{Told, Ends, HoldsScript, HoldsBadLine, PlaysWhole, StopsAtLine};
 
 use crate::status::{DONE, MISUSED, NO_MEMORY, REFUSED, UNREAD, UNWRITTEN};
 use crate::telling::{READ_FAULT, USAGE, refusal_text, tell};
@@ -141,8 +141,14 @@ pub fn serve<S: Source, K: Sink>(
         (seen (K.written sink.old) (K.faults sink.old)) (seen (K.written sink.new) (K.faults sink.new)) result }
     ensures read_to_end { (result.status ≡ 0) ⊎ (result.status ≡ 5) → IfSome (S.rest source.new) (λ rest. rest ≡ []) }
     ensures misused { result.status ≡ 2 → is_play (texts_of words.now) ≡ false }
+    ensures faultless { result.status ≡ 0 → (S.faults source.new ≡ S.faults source.old) × (K.faults sink.new ≡ K.faults sink.old) }
     ensures unread { result.status ≡ 4 → Rose (S.faults source.old) (S.faults source.new) }
     ensures unwritten { result.status ≡ 5 → Rose (K.faults sink.old) (K.faults sink.new) }
+
+    // A script that is whole is played and one with a bad line is refused, where nothing fails and there is memory.
+    ensures complete { is_play (texts_of words.now) ≡ true → HoldsScript (S.rest source.old) → ¬ Rose (S.faults source.old) (S.faults source.new) → ¬ Rose (K.faults sink.old) (K.faults sink.new)
+        → (result.status ≡ 0) ⊎ (result.status ≡ 1) }
+    ensures refuses { is_play (texts_of words.now) ≡ true → HoldsBadLine (S.rest source.old) → ¬ Rose (S.faults source.old) (S.faults source.new) → (result.status ≡ 3) ⊎ (result.status ≡ 1) }
 
     // What other words than a command lead to.
     ensures usage { is_play (texts_of words.now) ≡ false → (result.status ≡ 2) ⊎ (result.status ≡ 1) }
