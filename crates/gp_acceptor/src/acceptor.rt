@@ -47,6 +47,7 @@ impl Model for Acceptor {
 
 impl Acceptor {
     /// An acceptor to which nothing has happened: it is in round zero, where it voted the empty history.
+    /// `number` is its number among the acceptors, from 0.
     #[tactic(auto, using(crate::proofs::Holding::all_gone, crate::proofs::Holding::history_of_nothing))]
     pub fn new(alloc: Global, config: &Config, number: u32) -> Result<Acceptor, NoMemory>
         ensures { IfOk result (λ a. a ≡ opening config.now number) }

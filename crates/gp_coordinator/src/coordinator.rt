@@ -96,8 +96,9 @@ impl Coordinator {
     }
 
     /// Takes a message, and gives what it sends: a value, once a quorum of acceptors answered in the
-    /// first phase and with each command that extends it from then on. Messages of the second phase
-    /// change nothing. Where memory runs out nothing changes.
+    /// first phase, and from then on with each command that extends it. In a fast round no command does:
+    /// the acceptors take them from the proposers. Messages of the second phase change nothing. Where
+    /// memory runs out nothing changes.
     pub fn take(&mut self, m: &Msg) -> Result<Outs, NoMemory>
         ensures next { OnOk result (self.new ≡ (coordinator_take self.old (message_of m.now)).0) }
         ensures sent { IfOk result (λ outs. map message_of outs ≡ option_to_list (coordinator_take self.old (message_of m.now)).1) }

@@ -69,9 +69,9 @@ impl Learner {
     /// Takes a message. It sends nothing, and only votes of acceptors of the configuration change it.
     ///
     /// A vote is held where none of its acceptor in its round is held, or one with fewer commands. Of
-    /// the quorums of the round with the least size, those count of which a vote of each member is
-    /// held, and the join of the meets of their votes is joined to what is learned. Where memory runs
-    /// out the learner stays as it was.
+    /// the least quorums of that round, those count of which a vote of each member is held, and the join
+    /// of the meets of their votes is joined to what is learned. Where memory runs out the learner stays
+    /// as it was.
     pub fn take(&mut self, m: &Msg) -> Result<Outs, NoMemory>
         ensures next { OnOk result (self.new ≡ learner_take self.old (message_of m.now)) }
         ensures sent { IfOk result (λ outs. map message_of outs ≡ []) }

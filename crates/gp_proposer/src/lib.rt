@@ -11,7 +11,7 @@ use gp_msg::{Msg, Outs};
 use std::alloc::Global;
 use std::marker::Model;
 
-/// A proposer: its number among the proposers, and how many offers it has had.
+/// A proposer: its number among the proposers, and how many commands it has proposed.
 #[derive(Clone, Copy, Debug, PartialEq, Eq)]
 pub struct Proposer {
     number: u32,
@@ -35,14 +35,17 @@ pub struct Unoffered {
 }
 
 impl Proposer {
-    /// A proposer that has had no offers. It takes no memory.
+    /// A proposer that has proposed nothing. `number` is its number among the proposers, from 0. It takes
+    /// no memory.
     pub fn new(number: u32) -> Proposer
         ensures { result ≡ opening number }
     {
         Proposer { number, offers: 0 }
     }
 
-    /// Gives the command the next number, from 1, and proposes it. A proposer gives no number twice.
+    /// Makes a command of the draft, with the next number, from 1, and proposes it. A proposer gives no
+    /// number twice, so it takes fewer than 2^32 - 1 offers. Where memory runs out the draft comes back, and
+    /// its number is not used up.
     pub fn offer(&mut self, alloc: Global, draft: Draft) -> Result<Outs, Unoffered>
         requires { self.old.offers < 2 ^ 32 - 1 }
         ensures next { OnOk result (self.new ≡ (proposer_offer self.old draft).0) }

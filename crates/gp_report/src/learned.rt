@@ -60,8 +60,8 @@ pub(crate) fn push_commands(
     Ok(to.push(b'\n')?)
 }
 
-/// Appends the learned line of a learner of a world: how many commands it learned and who they are, in
-/// canonical order. Where memory runs out `to` holds what it held.
+/// Appends the learned line of a learner of the world's configuration: how many commands it learned and
+/// who they are, in canonical order. Where memory runs out `to` holds what it held.
 pub fn show_learned(
     alloc: Global,
     world: &World,

@@ -25,7 +25,8 @@ pub struct Answer {
 /// masks, those count whose members among the answering acceptors all answered that round. Where one
 /// counts the choice is the join of the meets of their votes, and otherwise the vote of the lowest
 /// acceptor that answered that round. It is in the manner of the provably safe values of Lamport,
-/// *Generalized Consensus and Paxos*, 2005.
+/// *Generalized Consensus and Paxos*, 2005. Of several answers of one acceptor the first counts, and
+/// those of acceptors that the configuration does not have are passed over.
 ///
 /// Let the acceptors that answered be a quorum of the first phase, and the meets of the quorums that
 /// count compatible in pairs. Then the choice is the least upper bound of these meets, of quorums of

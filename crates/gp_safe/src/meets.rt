@@ -69,7 +69,7 @@ fn with_meet(
 }
 
 /// The meet of the values of one set, if it is whole and not empty.
-pub fn quorum_meet<V: Values>(
+pub(crate) fn quorum_meet<V: Values>(
     alloc: Global,
     values: &V,
     n: u32,
@@ -97,7 +97,7 @@ pub fn quorum_meet<V: Values>(
 }
 
 /// Whether each member of a set that counts has a value.
-pub fn is_whole<V: Values>(values: &V, n: u32, mask: u8) -> bool
+pub(crate) fn is_whole<V: Values>(values: &V, n: u32, mask: u8) -> bool
     requires { n ≤ 7 }
     ensures { result ≡ is_some (gathered (V.value values.now) (λ i. bit mask i && V.within values.now i) n) }
 {

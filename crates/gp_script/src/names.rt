@@ -7,7 +7,7 @@ use gp_msg::Node;
 use gp_round::Config;
 use gp_words::number_of;
 
-/// The proposers of every configuration.
+/// How many proposers every configuration has.
 const PROPOSERS: u64 = 8;
 
 /// The number that a token spells.

@@ -91,7 +91,8 @@ impl World {
         self.log.messages()
     }
 
-    /// What a learner shows: the history that it learned since it last fell. It takes no memory.
+    /// What a learner of the configuration shows: the history that it learned since it last fell. It takes no
+    /// memory.
     pub fn learned(&self, learner: u32) -> &SeqHistory
         requires { learner < self.now.config.learners }
         ensures learned { history_of result.now ≡ learned_at self.now.config learner (entries_of self.now) }
