@@ -65,6 +65,9 @@ const IN_A_FAST_ROUND: [Step; 8] = [
     (Text::P1a(MULTI_2), Text::P1b(MULTI_2, 1, FAST_1, "aXY")),
 ];
 
+// what coordinator 0 sent is held, and is no quorum
+const HELD: [Step; 1] = [(Text::P2a(MULTI_1, 0, "a"), Text::Nothing)];
+
 const BEHIND_A_CRASH: [Step; 3] = [
     // the round stays: an older one is not answered
     (Text::P1a(SINGLE_1), Text::Nothing),
@@ -72,6 +75,8 @@ const BEHIND_A_CRASH: [Step; 3] = [
     (Text::P2a(MULTI_1, 1, "a"), Text::Nothing),
     (Text::P2a(MULTI_1, 0, "a"), Text::P2b(MULTI_1, 1, "a")),
 ];
+
+const WITHOUT_A_CRASH: [Step; 1] = [(Text::P2a(MULTI_1, 1, "a"), Text::P2b(MULTI_1, 1, "a"))];
 
 fn fresh(alloc: Global) -> Result<Acceptor, Fail> {
     Ok(Acceptor::new(alloc, &three()?, 1)?)
@@ -103,14 +108,24 @@ fn keeps(
     })
 }
 
+fn takes_all(
+    rt: &impl Abort,
+    alloc: Global,
+    acceptor: &mut Acceptor,
+    steps: &[Step],
+) -> Result<(), Fail> {
+    for step in steps {
+        takes(rt, alloc, acceptor, *step)?;
+    }
+    Ok(())
+}
+
 #[test]
 fn a_single_round_has_one_coordinator(rt: HostRuntime) -> Result<(), Fail> {
     let alloc = rt.alloc();
     let mut acceptor = fresh(alloc)?;
     assert!(rt; keeps(alloc, &acceptor, ZERO, ZERO, "")?);
-    for step in IN_A_SINGLE_ROUND {
-        takes(&rt, alloc, &mut acceptor, step)?;
-    }
+    takes_all(&rt, alloc, &mut acceptor, &IN_A_SINGLE_ROUND)?;
     assert!(rt; keeps(alloc, &acceptor, SINGLE_2, SINGLE_1, "ab")?);
     Ok(())
 }
@@ -119,9 +134,7 @@ fn a_single_round_has_one_coordinator(rt: HostRuntime) -> Result<(), Fail> {
 fn a_multi_round_has_quorums_of_coordinators(rt: HostRuntime) -> Result<(), Fail> {
     let alloc = rt.alloc();
     let mut acceptor = fresh(alloc)?;
-    for step in IN_A_MULTI_ROUND {
-        takes(&rt, alloc, &mut acceptor, step)?;
-    }
+    takes_all(&rt, alloc, &mut acceptor, &IN_A_MULTI_ROUND)?;
     assert!(rt; keeps(alloc, &acceptor, MULTI_2, MULTI_2, "Xab")?);
     Ok(())
 }
@@ -130,42 +143,41 @@ fn a_multi_round_has_quorums_of_coordinators(rt: HostRuntime) -> Result<(), Fail
 fn a_fast_round_takes_proposals(rt: HostRuntime) -> Result<(), Fail> {
     let alloc = rt.alloc();
     let mut acceptor = fresh(alloc)?;
-    for step in IN_A_FAST_ROUND {
-        takes(&rt, alloc, &mut acceptor, step)?;
-    }
+    takes_all(&rt, alloc, &mut acceptor, &IN_A_FAST_ROUND)?;
     assert!(rt; keeps(alloc, &acceptor, MULTI_2, FAST_1, "aXY")?);
     Ok(())
 }
 
 #[test]
-fn a_crash_keeps_the_round_and_the_vote(rt: HostRuntime) -> Result<(), Fail> {
+fn a_crash_loses_what_is_held(rt: HostRuntime) -> Result<(), Fail> {
     let alloc = rt.alloc();
     let mut acceptor = fresh(alloc)?;
-    takes(
-        &rt,
-        alloc,
-        &mut acceptor,
-        (Text::P2a(MULTI_1, 0, "a"), Text::Nothing),
-    )?;
+    takes_all(&rt, alloc, &mut acceptor, &HELD)?;
+    acceptor.fall(acceptor.durable()?);
+    takes_all(&rt, alloc, &mut acceptor, &BEHIND_A_CRASH)
+}
+
+#[test]
+fn a_copy_does_not_crash(rt: HostRuntime) -> Result<(), Fail> {
+    let alloc = rt.alloc();
+    let mut acceptor = fresh(alloc)?;
+    takes_all(&rt, alloc, &mut acceptor, &HELD)?;
     let mut copy = acceptor.copy()?;
     acceptor.fall(acceptor.durable()?);
-    for step in BEHIND_A_CRASH {
-        takes(&rt, alloc, &mut acceptor, step)?;
-    }
-    // the copy, which did not crash, still holds what coordinator 0 sent
-    takes(
-        &rt,
-        alloc,
-        &mut copy,
-        (Text::P2a(MULTI_1, 1, "a"), Text::P2b(MULTI_1, 1, "a")),
-    )?;
-    // with the part that a later step would have left, the vote is that of the step
+    takes_all(&rt, alloc, &mut copy, &WITHOUT_A_CRASH)
+}
+
+#[test]
+fn a_crash_keeps_the_part_of_a_later_step(rt: HostRuntime) -> Result<(), Fail> {
+    let alloc = rt.alloc();
+    let mut acceptor = fresh(alloc)?;
     acceptor.fall(Durable::Acceptor {
         round: MULTI_2,
         voted: MULTI_2,
         vote: history(alloc, "ab")?,
     });
     assert!(rt; keeps(alloc, &acceptor, MULTI_2, MULTI_2, "ab")?);
+    // that of a coordinator is none of an acceptor's
     acceptor.fall(Durable::Coordinator { round: SINGLE_2 });
     assert!(rt; keeps(alloc, &acceptor, MULTI_2, MULTI_2, "ab")?);
     Ok(())

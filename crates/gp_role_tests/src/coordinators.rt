@@ -45,7 +45,7 @@ const IN_A_SINGLE_ROUND: [Step; 20] = [
     ),
 ];
 
-const IN_A_FAST_ROUND: [Step; 5] = [
+const IN_A_FAST_ROUND: [Step; 7] = [
     (Text::Propose(b'X'), Text::Nothing),
     (Text::P1b(FAST_1, 1, ZERO, ""), Text::Nothing),
     (Text::P1b(FAST_1, 0, ZERO, ""), Text::P2a(FAST_1, 0, "X")),
@@ -53,6 +53,16 @@ const IN_A_FAST_ROUND: [Step; 5] = [
     (Text::Propose(b'Y'), Text::Nothing),
     // and what it kept of them is sent in the next round
     (Text::P1a(MULTI_2), Text::Nothing),
+    (Text::P1b(MULTI_2, 0, ZERO, ""), Text::Nothing),
+    (
+        Text::P1b(MULTI_2, 2, FAST_1, "aX"),
+        Text::P2a(MULTI_2, 0, "aXY"),
+    ),
+];
+
+const BEFORE_A_CRASH: [Step; 2] = [
+    (Text::Propose(b'a'), Text::Nothing),
+    (Text::P1b(SINGLE_1, 0, ZERO, ""), Text::Nothing),
 ];
 
 const BEHIND_A_CRASH: [Step; 6] = [
@@ -65,6 +75,12 @@ const BEHIND_A_CRASH: [Step; 6] = [
     (Text::P1b(MULTI_2, 1, ZERO, ""), Text::Nothing),
     (Text::P1b(MULTI_2, 2, ZERO, ""), Text::P2a(MULTI_2, 0, "")),
 ];
+
+// it still waits for one answer
+const WITHOUT_A_CRASH: [Step; 1] = [(
+    Text::P1b(SINGLE_1, 1, ZERO, ""),
+    Text::P2a(SINGLE_1, 0, "a"),
+)];
 
 // A coordinator that began a round.
 fn begun(rt: &impl Abort, alloc: Global, round: Round) -> Result<Coordinator, Fail> {
@@ -89,17 +105,34 @@ fn takes(
     Ok(())
 }
 
+fn takes_all(
+    rt: &impl Abort,
+    alloc: Global,
+    coordinator: &mut Coordinator,
+    steps: &[Step],
+) -> Result<(), Fail> {
+    for step in steps {
+        takes(rt, alloc, coordinator, *step)?;
+    }
+    Ok(())
+}
+
+#[test]
+fn a_coordinator_opens_at_round_zero(rt: HostRuntime) -> Result<(), Fail> {
+    let coordinator = Coordinator::new(rt.alloc(), &three()?, 0)?;
+    assert_eq!(rt; coordinator.round(), ZERO);
+    Ok(())
+}
+
 #[test]
 fn a_round_is_begun_once(rt: HostRuntime) -> Result<(), Fail> {
     let alloc = rt.alloc();
     let config = three()?;
     let mut coordinator = Coordinator::new(alloc, &config, 0)?;
-    assert_eq!(rt; coordinator.round(), ZERO);
     assert!(rt; config.owns(0, SINGLE_1));
-    let first = coordinator.begin(SINGLE_1)?;
-    let second = coordinator.begin(SINGLE_1)?;
-    assert!(rt; is_sent(alloc, &first, Text::P1a(SINGLE_1))?);
-    assert!(rt; is_sent(alloc, &second, Text::Nothing)?);
+    coordinator.begin(SINGLE_1)?;
+    let again = coordinator.begin(SINGLE_1)?;
+    assert!(rt; is_sent(alloc, &again, Text::Nothing)?);
     assert_eq!(rt; coordinator.round(), SINGLE_1);
     Ok(())
 }
@@ -108,9 +141,7 @@ fn a_round_is_begun_once(rt: HostRuntime) -> Result<(), Fail> {
 fn a_quorum_of_answers_gives_a_value(rt: HostRuntime) -> Result<(), Fail> {
     let alloc = rt.alloc();
     let mut coordinator = begun(&rt, alloc, SINGLE_1)?;
-    for step in IN_A_SINGLE_ROUND {
-        takes(&rt, alloc, &mut coordinator, step)?;
-    }
+    takes_all(&rt, alloc, &mut coordinator, &IN_A_SINGLE_ROUND)?;
     assert_eq!(rt; coordinator.round(), MULTI_2);
     Ok(())
 }
@@ -119,36 +150,25 @@ fn a_quorum_of_answers_gives_a_value(rt: HostRuntime) -> Result<(), Fail> {
 fn a_fast_round_gets_one_value(rt: HostRuntime) -> Result<(), Fail> {
     let alloc = rt.alloc();
     let mut coordinator = begun(&rt, alloc, FAST_1)?;
-    for step in IN_A_FAST_ROUND {
-        takes(&rt, alloc, &mut coordinator, step)?;
-    }
-    let first = (Text::P1b(MULTI_2, 0, ZERO, ""), Text::Nothing);
-    let second = (
-        Text::P1b(MULTI_2, 2, FAST_1, "aX"),
-        Text::P2a(MULTI_2, 0, "aXY"),
-    );
-    takes(&rt, alloc, &mut coordinator, first)?;
-    takes(&rt, alloc, &mut coordinator, second)
+    takes_all(&rt, alloc, &mut coordinator, &IN_A_FAST_ROUND)
 }
 
 #[test]
 fn a_crash_keeps_the_round_alone(rt: HostRuntime) -> Result<(), Fail> {
     let alloc = rt.alloc();
     let mut coordinator = begun(&rt, alloc, SINGLE_1)?;
-    let proposal = (Text::Propose(b'a'), Text::Nothing);
-    let answer = (Text::P1b(SINGLE_1, 0, ZERO, ""), Text::Nothing);
-    takes(&rt, alloc, &mut coordinator, proposal)?;
-    takes(&rt, alloc, &mut coordinator, answer)?;
-    let mut copy = coordinator.copy()?;
+    takes_all(&rt, alloc, &mut coordinator, &BEFORE_A_CRASH)?;
     coordinator.fall(SINGLE_1);
     assert_eq!(rt; coordinator.round(), SINGLE_1);
-    for step in BEHIND_A_CRASH {
-        takes(&rt, alloc, &mut coordinator, step)?;
-    }
-    // the copy, which did not crash, still waits for one answer
-    let last = (
-        Text::P1b(SINGLE_1, 1, ZERO, ""),
-        Text::P2a(SINGLE_1, 0, "a"),
-    );
-    takes(&rt, alloc, &mut copy, last)
+    takes_all(&rt, alloc, &mut coordinator, &BEHIND_A_CRASH)
+}
+
+#[test]
+fn a_copy_does_not_crash(rt: HostRuntime) -> Result<(), Fail> {
+    let alloc = rt.alloc();
+    let mut coordinator = begun(&rt, alloc, SINGLE_1)?;
+    takes_all(&rt, alloc, &mut coordinator, &BEFORE_A_CRASH)?;
+    let mut copy = coordinator.copy()?;
+    coordinator.fall(SINGLE_1);
+    takes_all(&rt, alloc, &mut copy, &WITHOUT_A_CRASH)
 }

@@ -42,6 +42,19 @@ const IN_A_FAST_ROUND: [Step; 4] = [
     (Text::P2b(FAST_1, 0, "bXa"), "Xa"),
 ];
 
+const LEARNED: [Step; 2] = [
+    (Text::P2b(SINGLE_1, 0, "a"), ""),
+    (Text::P2b(SINGLE_1, 1, "a"), "a"),
+];
+
+// the votes that were held are lost too
+const BEHIND_A_CRASH: [Step; 2] = [
+    (Text::P2b(SINGLE_1, 2, "ab"), ""),
+    (Text::P2b(SINGLE_1, 0, "ab"), "ab"),
+];
+
+const WITHOUT_A_CRASH: [Step; 1] = [(Text::P2b(SINGLE_1, 2, "ab"), "a")];
+
 fn takes(rt: &impl Abort, alloc: Global, learner: &mut Learner, step: Step) -> Result<(), Fail> {
     if let Some(m) = message(alloc, step.0)? {
         let outs = learner.take(&m)?;
@@ -51,42 +64,51 @@ fn takes(rt: &impl Abort, alloc: Global, learner: &mut Learner, step: Step) -> R
     Ok(())
 }
 
-#[test]
-fn what_a_quorum_voted_is_learned(rt: HostRuntime) -> Result<(), Fail> {
-    let alloc = rt.alloc();
+// A learner that takes these.
+fn led(rt: &impl Abort, alloc: Global, steps: &[Step]) -> Result<Learner, Fail> {
     let mut learner = Learner::new(alloc, &three()?, 0)?;
-    for step in IN_SINGLE_ROUNDS {
-        takes(&rt, alloc, &mut learner, step)?;
+    takes_all(rt, alloc, &mut learner, steps)?;
+    Ok(learner)
+}
+
+fn takes_all(
+    rt: &impl Abort,
+    alloc: Global,
+    learner: &mut Learner,
+    steps: &[Step],
+) -> Result<(), Fail> {
+    for step in steps {
+        takes(rt, alloc, learner, *step)?;
     }
     Ok(())
 }
 
 #[test]
+fn what_a_quorum_voted_is_learned(rt: HostRuntime) -> Result<(), Fail> {
+    led(&rt, rt.alloc(), &IN_SINGLE_ROUNDS)?;
+    Ok(())
+}
+
+#[test]
 fn a_fast_round_has_fast_quorums(rt: HostRuntime) -> Result<(), Fail> {
-    let alloc = rt.alloc();
-    let mut learner = Learner::new(alloc, &three()?, 1)?;
-    for step in IN_A_FAST_ROUND {
-        takes(&rt, alloc, &mut learner, step)?;
-    }
+    led(&rt, rt.alloc(), &IN_A_FAST_ROUND)?;
     Ok(())
 }
 
 #[test]
 fn a_crash_loses_all(rt: HostRuntime) -> Result<(), Fail> {
     let alloc = rt.alloc();
-    let mut learner = Learner::new(alloc, &three()?, 0)?;
-    takes(&rt, alloc, &mut learner, (Text::P2b(SINGLE_1, 0, "a"), ""))?;
-    takes(&rt, alloc, &mut learner, (Text::P2b(SINGLE_1, 1, "a"), "a"))?;
-    let mut copy = learner.copy()?;
+    let mut learner = led(&rt, alloc, &LEARNED)?;
     learner.fall();
     assert_eq!(rt; learner.learned().len(), 0);
-    takes(&rt, alloc, &mut learner, (Text::P2b(SINGLE_1, 2, "ab"), ""))?;
-    takes(
-        &rt,
-        alloc,
-        &mut learner,
-        (Text::P2b(SINGLE_1, 0, "ab"), "ab"),
-    )?;
-    // the copy, which did not crash, still holds the votes
-    takes(&rt, alloc, &mut copy, (Text::P2b(SINGLE_1, 2, "ab"), "a"))
+    takes_all(&rt, alloc, &mut learner, &BEHIND_A_CRASH)
+}
+
+#[test]
+fn a_copy_does_not_crash(rt: HostRuntime) -> Result<(), Fail> {
+    let alloc = rt.alloc();
+    let mut learner = led(&rt, alloc, &LEARNED)?;
+    let mut copy = learner.copy()?;
+    learner.fall();
+    takes_all(&rt, alloc, &mut copy, &WITHOUT_A_CRASH)
 }

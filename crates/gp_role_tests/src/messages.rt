@@ -69,7 +69,7 @@ fn durable_parts_have_copies(rt: HostRuntime) -> Result<(), Fail> {
 }
 
 #[test]
-fn events_have_copies(rt: HostRuntime) -> Result<(), Fail> {
+fn offers_have_copies(rt: HostRuntime) -> Result<(), Fail> {
     let alloc = rt.alloc();
     let offer = Event::Offer {
         proposer: 5,
@@ -77,67 +77,67 @@ fn events_have_copies(rt: HostRuntime) -> Result<(), Fail> {
     };
     let want = draft(alloc, b'a')?;
     assert!(rt; matches!(offer.copy()?, Event::Offer { proposer: 5, draft } if draft == want));
+    Ok(())
+}
+
+#[test]
+fn beginnings_have_copies(rt: HostRuntime) -> Result<(), Fail> {
     let begin = Event::Begin {
         coordinator: 1,
         round: FAST_1,
     };
     assert!(rt; matches!(begin.copy()?, Event::Begin { coordinator: 1, round } if round == FAST_1));
-    let take = Event::Take {
-        node: Node::Learner(1),
-        message: 7,
-    };
-    assert!(rt;
-        matches!(
-            take.copy()?,
-            Event::Take {
-                node: Node::Learner(1),
-                message: 7
-            }
-        )
-    );
-    let fall = Event::Fall {
-        node: Node::Acceptor(2),
-        kept: Some(Kept::Take(3)),
-    };
-    assert!(rt;
-        matches!(
-            fall.copy()?,
-            Event::Fall {
-                node: Node::Acceptor(2),
-                kept: Some(Kept::Take(3))
-            }
-        )
-    );
     Ok(())
 }
 
 #[test]
-fn records_hold_messages_in_their_order(rt: HostRuntime) -> Result<(), Fail> {
-    let alloc = rt.alloc();
+fn deliveries_have_copies(rt: HostRuntime) -> Result<(), Fail> {
+    let node = Node::Learner(1);
+    let take = Event::Take { node, message: 7 };
+    assert!(rt; matches!(take.copy()?, Event::Take { node: n, message: 7 } if n == node));
+    Ok(())
+}
+
+#[test]
+fn crashes_have_copies(rt: HostRuntime) -> Result<(), Fail> {
+    let node = Node::Acceptor(2);
+    let kept = Some(Kept::Take(3));
+    let fall = Event::Fall { node, kept };
+    assert!(rt; matches!(fall.copy()?, Event::Fall { node: n, kept: k } if n == node && k == kept));
+    Ok(())
+}
+
+// A record of acceptor 2, which sent a message of each kind.
+fn record(alloc: Global) -> Result<Record, Fail> {
+    let node = Node::Acceptor(2);
     let mut out = Outs::new(alloc);
     for (text, _) in KINDS {
         if let Some(m) = message(alloc, text)? {
             out.push(m)?;
         }
     }
-    let record = Record {
-        node: Node::Acceptor(2),
-        event: Event::Take {
-            node: Node::Acceptor(2),
-            message: 0,
-        },
-        out,
-    };
+    let event = Event::Take { node, message: 0 };
+    Ok(Record { node, event, out })
+}
+
+// Whether it is that record, as far as the kinds of its messages tell.
+fn is_that_record(record: &Record) -> bool {
+    let sent = record.out.as_slice();
+    record.node == Node::Acceptor(2)
+        && sent.len() == KINDS.len()
+        && sent
+            .iter()
+            .zip(KINDS)
+            .all(|(m, (_, kind))| m.kind() == kind)
+}
+
+#[test]
+fn records_hold_messages_in_their_order(rt: HostRuntime) -> Result<(), Fail> {
+    let alloc = rt.alloc();
     let mut records = Records::new(alloc);
-    records.push(record.copy()?)?;
-    records.push(record)?;
+    records.push(record(alloc)?.copy()?)?;
+    records.push(record(alloc)?)?;
     assert_eq!(rt; records.as_slice().len(), 2);
-    for record in records.as_slice() {
-        assert_eq!(rt; record.node, Node::Acceptor(2));
-        assert_eq!(rt; record.out.as_slice().len(), KINDS.len());
-        for (m, (_, kind)) in record.out.as_slice().iter().zip(KINDS) {
-            assert_eq!(rt; m.kind(), kind);
-        }
-    }
+    assert!(rt; records.as_slice().iter().all(is_that_record));
     Ok(())
 }

@@ -1,4 +1,6 @@
 //! The offers of a proposer.
+ghost use Rattle.std.specs.Prelude.{◌<◌, ◌≤◌, ◌+◌};
+
 use crate::scene::draft;
 use gp_command::CommandId;
 use gp_msg::{Msg, Outs};
@@ -11,12 +13,23 @@ use std::test::Fail;
 fn offers_are_numbered_from_1(rt: HostRuntime) -> Result<(), Fail> {
     let alloc = rt.alloc();
     let mut proposer = Proposer::new(3);
-    let first = proposer.offer(alloc, draft(alloc, b'a')?)?;
-    assert!(rt; is_offer(alloc, &first, b'a', 1)?);
-    let second = proposer.offer(alloc, draft(alloc, b'X')?)?;
-    assert!(rt; is_offer(alloc, &second, b'X', 2)?);
-    let third = proposer.offer(alloc, draft(alloc, b'a')?)?;
-    assert!(rt; is_offer(alloc, &third, b'a', 3)?);
+    offers(&rt, alloc, &mut proposer, b'a', 1)?;
+    offers(&rt, alloc, &mut proposer, b'X', 2)?;
+    offers(&rt, alloc, &mut proposer, b'a', 3)
+}
+
+fn offers(
+    rt: &impl Abort,
+    alloc: Global,
+    proposer: &mut Proposer,
+    letter: u8,
+    number: u32,
+) -> Result<(), Fail>
+    requires { proposer.old.offers < 3 }
+    ensures { proposer.new.offers ≤ proposer.old.offers + 1 }
+{
+    let outs = proposer.offer(alloc, draft(alloc, letter)?)?;
+    assert!(rt; is_offer(alloc, &outs, letter, number)?);
     Ok(())
 }
 

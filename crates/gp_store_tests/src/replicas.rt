@@ -134,10 +134,12 @@ fn has_run(replica: &Replica<KeyStore>, runs: &[Run]) -> bool {
             .all(|(run, kept)| *kept == (id(run.0, run.1), run.2))
 }
 
-// Whether the replies are found under the identities.
+// Whether the replies are found under the identities, and none under that of a command that nobody offers.
 fn answers(replica: &Replica<KeyStore>, runs: &[Run]) -> bool {
-    runs.iter()
-        .all(|run| replica.reply(id(run.0, run.1)) == Some(run.2))
+    replica.reply(id(7, 9)) == None
+        && runs
+            .iter()
+            .all(|run| replica.reply(id(run.0, run.1)) == Some(run.2))
 }
 
 fn has_values(replica: &Replica<KeyStore>, a: Option<u64>, b: Option<u64>) -> Result<bool, Fail> {
@@ -145,11 +147,20 @@ fn has_values(replica: &Replica<KeyStore>, a: Option<u64>, b: Option<u64>) -> Re
     Ok(store.get(Key::new(A)?) == a && store.get(Key::new(B)?) == b)
 }
 
+// Whether these were run, with these replies, and the two keys have these values then.
+fn shows(
+    replica: &Replica<KeyStore>,
+    runs: &[Run],
+    a: Option<u64>,
+    b: Option<u64>,
+) -> Result<bool, Fail> {
+    Ok(has_run(replica, runs) && answers(replica, runs) && has_values(replica, a, b)?)
+}
+
 #[test]
 fn a_replica_has_run_nothing_at_first(rt: HostRuntime) -> Result<(), Fail> {
     let replica = Replica::<KeyStore>::new(rt.alloc())?;
-    assert!(rt; has_run(&replica, &[]));
-    assert!(rt; replica.reply(id(0, 1)) == None);
+    assert!(rt; shows(&replica, &[], None, None)?);
     assert!(rt; replica.machine().pairs().is_empty());
     Ok(())
 }
@@ -160,26 +171,30 @@ fn what_is_learned_is_run_in_the_canonical_order(rt: HostRuntime) -> Result<(), 
     let learned = history(alloc, &LEARNED)?;
     let mut replica = Replica::new(alloc)?;
     assert_eq!(rt; caught_up(&rt, &mut replica, &learned)?, 4);
-    assert!(rt; has_run(&replica, &RAN));
-    assert!(rt; answers(&replica, &RAN));
-    assert!(rt; replica.reply(id(0, 3)) == None);
-    assert!(rt; has_values(&replica, Some(3), Some(5))?);
+    assert!(rt; shows(&replica, &RAN, Some(3), Some(5))?);
     Ok(())
 }
 
 #[test]
 fn what_was_run_is_not_run_again(rt: HostRuntime) -> Result<(), Fail> {
     let alloc = rt.alloc();
-    let mut learned = history(alloc, &LEARNED)?;
+    let learned = history(alloc, &LEARNED)?;
     let mut replica = Replica::new(alloc)?;
     assert_eq!(rt; caught_up(&rt, &mut replica, &learned)?, 4);
     assert_eq!(rt; caught_up(&rt, &mut replica, &learned)?, 0);
-    assert!(rt; has_run(&replica, &RAN));
+    assert!(rt; shows(&replica, &RAN, Some(3), Some(5))?);
+    Ok(())
+}
+
+#[test]
+fn what_is_learned_later_is_run_behind_the_rest(rt: HostRuntime) -> Result<(), Fail> {
+    let alloc = rt.alloc();
+    let mut learned = history(alloc, &LEARNED)?;
+    let mut replica = Replica::new(alloc)?;
+    assert_eq!(rt; caught_up(&rt, &mut replica, &learned)?, 4);
     learn(&mut learned, alloc, LATER)?;
     assert_eq!(rt; caught_up(&rt, &mut replica, &learned)?, 1);
-    assert!(rt; has_run(&replica, &RAN_LATER));
-    assert!(rt; answers(&replica, &RAN_LATER));
-    assert!(rt; has_values(&replica, Some(3), Some(3))?);
+    assert!(rt; shows(&replica, &RAN_LATER, Some(3), Some(3))?);
     Ok(())
 }
 
@@ -189,8 +204,6 @@ fn a_key_is_served(rt: HostRuntime) -> Result<(), Fail> {
     let learned = history(alloc, &SERVED)?;
     let mut replica = Replica::new(alloc)?;
     assert_eq!(rt; caught_up(&rt, &mut replica, &learned)?, 8);
-    assert!(rt; has_run(&replica, &SERVED_RAN));
-    assert!(rt; answers(&replica, &SERVED_RAN));
-    assert!(rt; has_values(&replica, None, Some(9))?);
+    assert!(rt; shows(&replica, &SERVED_RAN, None, Some(9))?);
     Ok(())
 }
