@@ -3,7 +3,7 @@ use gp_edge::{
     CalmSink, CalmSource, Failed, MemSink, MemSource, ReadSource, Refused, Sink, Source, WriteSink,
 };
 use std::io;
-use std::io::{Cursor, ErrorKind, Read};
+use std::io::{Cursor, ErrorKind, Read, Write};
 use std::test::Fail;
 
 // A reader that fails.
@@ -16,7 +16,7 @@ impl Read for Broken {
     }
 }
 
-// A reader that fails at its first read alone, and is at its end.
+// A reader and writer that fails at its first call alone. It is at its end, and takes all.
 #[derive(Drop)]
 struct Hesitant {
     has_failed: bool,
@@ -29,6 +29,20 @@ impl Read for Hesitant {
         }
         self.has_failed = true;
         Err(io::Error::from(ErrorKind::Interrupted))
+    }
+}
+
+impl Write for Hesitant {
+    fn write(&mut self, buf: &[u8]) -> io::Result<usize> {
+        if self.has_failed {
+            return Ok(buf.len());
+        }
+        self.has_failed = true;
+        Err(io::Error::from(ErrorKind::Interrupted))
+    }
+
+    fn flush(&mut self) -> io::Result<()> {
+        Ok(())
     }
 }
 
@@ -97,6 +111,16 @@ fn a_failed_read_is_not_tried_again(rt: HostRuntime) -> Result<(), Fail> {
     assert!(rt; source.faults() == 1);
     assert!(rt; reads(&mut source, Ok(0), b"---"));
     assert!(rt; source.faults() == 1);
+    Ok(())
+}
+
+#[test]
+fn a_failed_write_is_not_tried_again(rt: HostRuntime) -> Result<(), Fail> {
+    let mut sink = WriteSink::new(Hesitant { has_failed: false });
+    assert!(rt; sink.write(b"ab") == Err(Refused::Failed));
+    assert!(rt; sink.faults() == 1);
+    assert!(rt; sink.write(b"ab") == Ok(2));
+    assert!(rt; sink.faults() == 1);
     Ok(())
 }
 
