@@ -1,30 +1,71 @@
-//! The vote that a value of coordinators makes, and what is told of it.
-ghost use Rattle.std.specs.Prelude.{◌≡◌, IfOk, map, Option, ◌&&◌};
+//! The vote that values of coordinators make, and the message that sends it.
+ghost use Rattle.std.specs.Prelude.{◌≡◌, ◌<◌, IfOk, map, Option, ◌&&◌};
 ghost use Rattle.std.specs.Option.{option_map, option_to_list, option_copied};
 ghost use Rattle.gp_history.specs.Sequence.{history_of};
 ghost use Rattle.gp_round.specs.Rounds.{is_fast};
-ghost use Rattle.gp_msg.specs.Messages.{message_of};
+ghost use Rattle.gp_msg.specs.Messages.{message_of, maybe_stamped};
 ghost use Rattle.gp_acceptor.specs.QuorumValue.{value_history};
-ghost use Rattle.gp_acceptor.specs.Table.{next_vote, told_vote};
+ghost use Rattle.gp_safe.specs.Held.{value_with};
+ghost use Rattle.gp_acceptor.specs.State.{histories};
+ghost use Rattle.gp_acceptor.specs.Revotes.{Settles, HasAgreed};
+ghost use Rattle.gp_acceptor.specs.Table.{next_vote, told_vote, agreed, value_at};
 
-use crate::held::QuorumValue;
-use gp_bounds::join_onto;
+use crate::held::{Held, QuorumValue, agreed};
 use gp_command::NoMemory;
-use gp_history::{Hist, SeqHistory};
+use gp_history::Hist;
+use gp_index::History;
 use gp_msg::{Msg, Outs};
-use gp_round::{Mode, Round};
+use gp_round::{Config, Mode, Round};
+use gp_safe::{Replaced, join, join_news};
 use std::alloc::Global;
 
-/// The vote that takes the place of the old one, where one does.
+/// The vote that the held values make, if they make one. A multi round in which it has voted gives one
+/// only if it has more commands than the last vote.
 ///
-/// The first vote of a round is what was agreed on. In a round that is not fast, later ones join it
-/// to the vote before.
-pub fn next_vote(
+/// What was agreed on before is in the vote, so only what the new value adds is looked for.
+pub fn revote(
+    alloc: Global,
+    config: &Config,
     voted: Round,
     round: Round,
-    vote: &SeqHistory,
+    vote: &History,
+    values: &[Option<History>],
+    sender: u32,
+    newer: Option<&History>,
+) -> Result<Option<History>, NoMemory>
+    requires sender { sender < config.now.coordinators }
+    requires agreed { HasAgreed config.now.coordinators voted round (history_of vote.now) (value_at (histories values.now)) }
+    ensures { IfOk result (λ w. Settles voted round (history_of vote.now) (agreed config.now.coordinators round (value_with (value_at (histories values.now)) sender (option_map history_of (option_copied newer.entry)))) (option_map history_of w)) }
+{
+    let values = Held { values };
+    if voted == round && round.mode == Mode::Multi {
+        let Some(newer) = newer else {
+            return Ok(None);
+        };
+        let n = config.coordinators();
+        let size = config.coordinator_quorum(Mode::Multi);
+        return join_news(alloc, vote, &values, sender, newer, n, size);
+    }
+    let held = Replaced {
+        values: &values,
+        sender,
+        value: newer,
+    };
+    let agreed = agreed(alloc, config, round, &held)?;
+    next_vote(alloc, voted, round, vote, agreed)
+}
+
+/// The vote that replaces the old one, if one does.
+///
+/// The first vote of a round is what a quorum of coordinators agreed on. In a round that is not fast,
+/// each later vote is the join of the vote before with that.
+pub fn next_vote(
+    alloc: Global,
+    voted: Round,
+    round: Round,
+    vote: &History,
     agreed: Option<QuorumValue<'_>>,
-) -> Result<Option<SeqHistory>, NoMemory>
+) -> Result<Option<History>, NoMemory>
     ensures { IfOk result (λ v. option_map history_of v ≡ next_vote voted round (history_of vote.now) (option_map value_history agreed.entry)) }
 {
     let Some(agreed) = agreed else {
@@ -34,27 +75,29 @@ pub fn next_vote(
         return Ok(Some(agreed.into_history()?));
     }
     if voted == round && !is_fast(round.mode) {
-        return Ok(Some(join_onto(vote.copy()?, agreed.history())?));
+        return Ok(Some(join(alloc, vote, agreed.history())?));
     }
     Ok(None)
 }
 
-/// What is told of the next vote: it, where it is the first of its round or has more commands than
-/// the vote before.
+/// The message that sends the next vote, if that is the first of its round or has more commands than the
+/// vote before.
 pub fn told_vote(
     alloc: Global,
+    epoch: u32,
     acceptor: u32,
     voted: Round,
     round: Round,
-    vote: &SeqHistory,
-    next: Option<&SeqHistory>,
+    vote: &History,
+    next: Option<&History>,
 ) -> Result<Outs, NoMemory>
-    ensures { IfOk result (λ outs. map message_of outs ≡ option_to_list (told_vote acceptor voted round (history_of vote.now) (option_map history_of (option_copied next.entry)))) }
+    ensures { IfOk result (λ outs. map message_of outs ≡ option_to_list (maybe_stamped epoch (told_vote acceptor voted round (history_of vote.now) (option_map history_of (option_copied next.entry))))) }
 {
     let mut outs = Outs::new(alloc);
     if let Some(next) = next {
         if voted < round || vote.len() < next.len() {
             outs.push(Msg::P2b {
+                epoch,
                 round,
                 acceptor,
                 vote: next.copy()?,

@@ -1,8 +1,8 @@
 -- The facts hold of each legal run.
-use Rattle.std.proofs.Common.{◌≡◌, ◌⊎◌, inl, inr, ℕ, ◌<◌, ◌≤◌, Bool, true, false, List, [], ◌∷◌, Option, Some, None, slice_get, refl, sym, subst, ap, ◌∙◌}
+use Rattle.std.proofs.Common.{◌≡◌, ◌⊎◌, inl, inr, ℕ, ◌<◌, ◌≤◌, Bool, true, false, List, [], ◌∷◌, ◌++◌, Option, Some, None, refl, sym, subst, ap, ◌∙◌, arith}
 use Rattle.std.specs.List.{Contains}
 use Rattle.gp_command.specs.declared.command.Command.{Command}
-use Rattle.gp_history.specs.History.{History, IsPrefix}
+use Rattle.gp_history.specs.History.{History, IsHistory, IsPrefix}
 use Rattle.gp_history.specs.Bounds.{IsCompatible}
 use Rattle.gp_round.specs.declared.round.Mode.{Mode}
 use Rattle.gp_round.specs.declared.round.Mode.TheVariants.{Single, Multi, Fast}
@@ -11,48 +11,61 @@ use Rattle.gp_round.specs.Counts.{Counts}
 use Rattle.gp_round.specs.Quorums.{coordinator_quorum_of}
 use Rattle.gp_round.specs.Rounds.{earlier, round_zero, is_fast}
 use Rattle.gp_safe.specs.Choice.{Reply}
-use Rattle.gp_msg.specs.Messages.{Message, Proposed, Answered, Voted, Entry}
+use Rattle.gp_msg.specs.Messages.{Answered, Voted}
 use Rattle.gp_coordinator.specs.State.{CoordinatorState}
 use Rattle.gp_coordinator.specs.Replies.{reply_at}
 use Rattle.gp_acceptor.specs.State.{AcceptorState}
 use Rattle.gp_acceptor.specs.Table.{value_at}
-use Rattle.gp_learner.specs.State.{LearnerState, Votes}
+use Rattle.gp_learner.specs.State.{LearnerState}
 use Rattle.gp_learner.specs.Table.{vote_of}
-use Rattle.gp_run.specs.Legal.{Legal}
-use Rattle.gp_run.specs.Messages.{messages}
-use Rattle.gp_run.specs.States.{coordinator_at, acceptor_at, learner_at}
-use Rattle.gp_run.specs.Learned.{Vote, taken_at, IsHeard}
-use Rattle.gp_run.specs.Chosen as chosen
+use Rattle.gp_run.specs.Learned.{Vote, IsHeard}
 use Rattle.gp_cstructs.specs.CStructs.{Among}
-use Rattle.gp_cstructs.specs.Tables.{Tables, Propose, P1b, P2b}
+use Rattle.gp_cstructs.specs.Tables.{P1b, P2a, P2b}
 use Rattle.gp_cstructs.specs.Acceptor.{Acceptor}
 use Rattle.gp_cstructs.specs.Coordinator.{Coordinator}
 use Rattle.gp_cstructs.specs.Learner.{Learner}
+use Rattle.gp_cstructs.specs.Loose.{Event, Loose, run}
+use Rattle.gp_cstructs.specs.LooseAgreement.{shown}
 use Rattle.gp_cstructs.specs.Facts as core
 use Rattle.gp_cstructs.specs.Protocol.{leads_by, Leads}
-use Rattle.gp_cstructs.specs.Legal as bundled
-use Rattle.gp_cstructs.specs.Legal.{Clients}
 use Rattle.gp_cstructs.proofs.Lists.{among_contains, contains_among}
 use Rattle.gp_cstructs.proofs.Growth as growth
-use Rattle.gp_cstructs.proofs.Chosen.{heard_chosen}
-use Rattle.gp_cstructs.proofs.Identities.{numbered, proposed_once}
+use Rattle.gp_cstructs.proofs.Moves.{learner_on}
+use Rattle.gp_cstructs.proofs.Runs.{run_keeps, loose_rest, cast_since}
+use Rattle.gp_cstructs.proofs.Chosen.{heard_chosen, chosen_agree}
 use Rattle.gp_agreement.specs.Values.{Value}
-use Rattle.gp_agreement.specs.Facts.{HasSent, IsBacked, IsJoined, AnswerFacts, CoordinatorFacts, AcceptorFacts, LearnerFacts, AreProposed, AreProposedOnce, Facts}
 use Rattle.gp_agreement.proofs.ValueLaws.{test_of}
-use Rattle.gp_agreement.proofs.Bundle.{tables, offering, tables_lawful}
-use Rattle.gp_agreement.proofs.Shown.{shown, histories, reply}
-use Rattle.gp_agreement.proofs.Told.{get-told}
+use Rattle.gp_agreement.proofs.Bundle.{tables_lawful}
+use Rattle.gp_agreement.proofs.Shown.{shown as shown_value, histories}
 use Rattle.gp_agreement.proofs.Acceptors as acceptors
 use Rattle.gp_agreement.proofs.Coordinators as coordinators
 use Rattle.gp_agreement.proofs.Learners as learners
 use Rattle.gp_agreement.proofs.Learners.{votes_taken}
-use Rattle.gp_agreement.proofs.Simulation.{lifted, simulates}
 use Rattle.gp_agreement.proofs.Heard.{heard_back}
-use Rattle.gp_agreement.proofs.Returning.{shown_back, reply_back, proposed_at}
-use Rattle.gp_agreement.proofs.Standing as standing
+use Rattle.gp_agreement.proofs.Returning.{shown_back, reply_back}
 use Rattle.gp_agreement.proofs.Standing.{prefix_by}
+use Rattle.gp_msg.specs.Messages.{Offered, InEpoch, Final, Entry}
+use Rattle.gp_coordinator.specs.Epochs.{CoordinatorInEpoch}
+use Rattle.gp_acceptor.specs.Epochs.{AcceptorInEpoch}
+use Rattle.gp_learner.specs.Epochs.{LearnerInEpoch}
+use Rattle.gp_run.specs.Messages.{messages}
+use Rattle.gp_run.specs.States.{coordinator_at, acceptor_at, learner_at}
+use Rattle.gp_run.specs.Legal.{Legal}
+use Rattle.gp_run.specs.Learned.{taken_at}
+use Rattle.gp_run.specs.Chosen as chosen
+use Rattle.gp_agreement.specs.Facts.{IsReached, HasSent, IsBacked, IsJoined, AnswerFacts, CoordinatorFacts, AcceptorFacts, IsBoundOfChosen, LearnerFacts, AreClosed, IsCutOfChosen, EpochFacts, AreProposed, AreProposedOnce, Facts}
+use Rattle.gp_agreement.proofs.FinalsBelow as finals
+use Rattle.gp_agreement.proofs.Projection.{T}
+use Rattle.gp_agreement.proofs.Projected.{projection}
+use Rattle.gp_agreement.proofs.Pending.{pending_stands}
+use Rattle.gp_agreement.proofs.Moments.{list, one_final}
+use Rattle.gp_agreement.proofs.Growing.{by_order, acceptor_epochs_grow}
+use Rattle.gp_agreement.proofs.Proposed.{final_proposed, part_proposed, learned_proposed}
+use Rattle.gp_agreement.proofs.Identities.{proposed_once}
+use Rattle.gp_agreement.proofs.Agreement.{no_mark}
+use Rattle.gp_agreement.proofs.Standing as standing
 
-shown_none : (o : Option Value) → shown o ≡ None → o ≡ None
+shown_none : (o : Option Value) → shown_value o ≡ None → o ≡ None
 shown_none None e = refl
 shown_none (Some v) e = absurd (cc)
 
@@ -72,223 +85,305 @@ quorum_by n Single lead R q = q.1
 quorum_by n Multi lead R q = q
 quorum_by n Fast lead R q = q.1
 
+-- of two values one is a prefix of the other
+chain_by : (u v : Value) (x y : History) → u.history ≡ x → v.history ≡ y → IsPrefix u.history v.history ⊎ IsPrefix v.history u.history → IsPrefix x y ⊎ IsPrefix y x
+chain_by u v x y e f p = elim p [
+  | inl q ↦ inl (prefix_by u.history v.history x y e f q)
+  | inr q ↦ inr (prefix_by v.history u.history y x f e q)
+]
+
 module _ (config : Counts) (some : 0 < config.acceptors) (es : List Entry) (legal : Legal config es) where
-  abbrev T : Tables
-  T = tables config
-
-  abbrev D : Clients (tables config)
-  D = offering config
-
-  abbrev G : core.Ledger (tables config)
-  G = standing.G config some es legal
-
-  ledger : core.LedgerFacts T (Leads config.coordinators) G
-  ledger = (standing.facts config some es legal).ledger
-
-  -- ---- what the facts share
-
-  sent_value : (c : ℕ) (r : Round) (x : History) → HasSent es c r x → (v : Value) × G.values c r v × (v.history ≡ x)
-  sent_value = standing.sent_value config some es legal
-
-  sent_by : (c : ℕ) (r : Round) (v : Value) (x : History) → v.history ≡ x → G.values c r v → HasSent es c r x
-  sent_by = standing.sent_by config some es legal
-
-  vote_value : (a : ℕ) (r : Round) (x : History) → chosen.HadVote config es a r x → (v : Value) × G.votes a r v × (v.history ≡ x)
-  vote_value = standing.vote_value config some es legal
-
-  vote_by : (a : ℕ) (r : Round) (v : Value) (x : History) → v.history ≡ x → G.votes a r v → chosen.HadVote config es a r x
-  vote_by = standing.vote_by config some es legal
-
-  -- of two values one is a prefix of the other
-  chain_by : (u v : Value) (x y : History) → u.history ≡ x → v.history ≡ y → T.prefix u v ⊎ T.prefix v u → IsPrefix x y ⊎ IsPrefix y x
-  chain_by u v x y e f p = elim p [
-    | inl q ↦ inl (prefix_by u.history v.history x y e f q)
-    | inr q ↦ inr (prefix_by v.history u.history y x f e q)
-  ]
+  ledger : (e : ℕ) → core.LedgerFacts (T config e) (Leads config.coordinators) (standing.G config some es legal e)
+  ledger e = (standing.facts config some es legal e).ledger
 
   -- ---- coordinators
 
-  coordinator_seen : (c : ℕ) (t : Coordinator T) (rs : List (Option Reply)) (cs : List Command) → ◌≡◌ {A = ℕ → Option Reply} (reply_at rs) (λ i. reply (t.answers i)) → core.CoordinatorFacts T G c t → CoordinatorFacts config es c (coordinators.seen config c t rs cs)
-  coordinator_seen c t rs cs all f = record {
-    values_chain = λ r x y p q. let u = sent_value c r x p in let v = sent_value c r y q in chain_by u.0 v.0 x y u.2 v.2 (ledger.values_chain c r u.0 v.0 u.1 v.1);
-    values_safe = λ r x p. let u = sent_value c r x p in standing.safe_by config some es legal u.0 x u.2 r (ledger.values_safe c r u.0 u.1);
-    values_late = λ r x p. let u = sent_value c r x p in ledger.values_late c r u.0 u.1;
-    value_sent = λ v e. let b = shown_back t.value v e in sent_by c t.round b.0 v b.2 (f.value_sent b.0 b.1);
-    value_last = λ v e x p.
-        let b = shown_back t.value v e in
-        let u = sent_value c t.round x p in
-        prefix_by u.0.history b.0.history x v u.2 b.2 (f.value_last b.0 b.1 u.0 u.1);
-    none_sent = λ a n x p. let u = sent_value c t.round x p in f.none_sent a (shown_none t.value n) u.0 u.1;
-    awake_late = f.awake_late;
-    sent_reached = λ r x p h. let u = sent_value c r x p in f.sent_reached r u.0 u.1 h;
-    answers_given = λ a rep e.
-        let b = reply_back (t.answers a) rep (sym (ap (λ g. g a) all) ∙ e) in
-        subst (λ (h : History). Contains (messages es) (Answered t.round a rep.round h)) b.2
-        (standing.tells config some es legal (P1b t.round a rep.round b.0) (f.answers_given a rep.round b.0 b.1));
-  }
+  values_late : (c e : ℕ) (r : Round) (x : History) → HasSent es c e r x → earlier round_zero r ≡ true
+  values_late c e r x p = let u = standing.sent_value config some es legal e c r x p in (ledger e).values_late c r u.0 u.1
 
-  coordinator_facts : (c : ℕ) → CoordinatorFacts config es c (coordinator_at config c es)
-  coordinator_facts c =
-      let l = (standing.like config some es legal).coordinators c in
-      let f = subst (λ (t : Coordinator T). core.CoordinatorFacts T G c t) ((standing.matches config some es legal).coordinators c) ((standing.facts config some es legal).coordinators c) in
-      subst (λ (s : CoordinatorState). CoordinatorFacts config es c s) (sym l.is)
-      (coordinator_seen c (bundled.coordinator_at T D c (lifted config es)).core l.answers (bundled.coordinator_at T D c (lifted config es)).pending l.all f)
+  module _ (c : ℕ) where
+    abbrev s : CoordinatorInEpoch
+    s = coordinator_at config c es
+
+    abbrev t : Coordinator (T config (coordinator_at config c es).epoch)
+    t = (standing.w config some es legal s.epoch).coordinators c
+
+    abbrev pending : List Command
+    pending = (((standing.pr config some es legal s.epoch).coordinators c).0 refl).pending
+
+    like : coordinators.IsLike config c s.state (record { core = t; pending = pending })
+    like = (((standing.pr config some es legal s.epoch).coordinators c).0 refl).like
+
+    f : core.CoordinatorFacts (T config s.epoch) (standing.G config some es legal s.epoch) c t
+    f = (standing.facts config some es legal s.epoch).coordinators c
+
+    same_round : s.state.round ≡ t.round
+    same_round = ap (λ (k : CoordinatorState). k.round) like.is
+
+    value_back : (v : History) → s.state.value ≡ Some v → (u : Value) × (t.value ≡ Some u) × (u.history ≡ v)
+    value_back v h = shown_back t.value v (sym (ap (λ (k : CoordinatorState). k.value) like.is) ∙ h)
+
+    sent_now : (x : History) → HasSent es c s.epoch s.state.round x → (u : Value) × (standing.G config some es legal s.epoch).values c t.round u × (u.history ≡ x)
+    sent_now x p = standing.sent_value config some es legal s.epoch c t.round x (subst (λ (k : Round). HasSent es c s.epoch k x) same_round p)
+
+    now_sent : (u : Value) (x : History) → u.history ≡ x → (standing.G config some es legal s.epoch).values c t.round u → HasSent es c s.epoch s.state.round x
+    now_sent u x q p = subst (λ (k : Round). HasSent es c s.epoch k x) (sym same_round) (standing.sent_by config some es legal s.epoch c t.round u x q p)
+
+    -- it reached the round of each value that it sent
+    sent_reached : (e : ℕ) (r : Round) (x : History) → HasSent es c e r x → IsReached s.epoch s.state.round e r
+    sent_reached e r x p =
+        let u = standing.sent_value config some es legal e c r x p in
+        let g = (standing.facts config some es legal e).coordinators c in
+        elim (by_order e s.epoch) [
+          | inl less ↦ inl less
+          | inr h ↦ elim h [
+            | inl q ↦ inr (q, λ b. g.sent_reached r u.0 u.1 (subst (λ (k : Round). earlier k r ≡ true) (ap (λ (k : CoordinatorState). k.round) (((standing.pr config some es legal e).coordinators c).0 (sym q)).like.is) b))
+            | inr more ↦ absurd (g.sent_reached r u.0 u.1 (subst (λ (k : Round). earlier k r ≡ true) (sym (ap (λ (k : Coordinator (T config e)). k.round) (((standing.pr config some es legal e).coordinators c).1 more))) (values_late c e r x p)))
+          ]
+        ]
+
+    coordinator_facts : CoordinatorFacts config es c s
+    coordinator_facts = record {
+      values_chain = λ e r x y p q.
+          let u = standing.sent_value config some es legal e c r x p in
+          let v = standing.sent_value config some es legal e c r y q in
+          chain_by u.0 v.0 x y u.2 v.2 ((ledger e).values_chain c r u.0 v.0 u.1 v.1);
+      values_safe = λ e r x p. let u = standing.sent_value config some es legal e c r x p in standing.safe_by config some es legal e u.0 x u.2 r ((ledger e).values_safe c r u.0 u.1);
+      values_late = values_late c;
+      value_sent = λ v h. let b = value_back v h in now_sent b.0 v b.2 (f.value_sent b.0 b.1);
+      value_last = λ v h x p. let b = value_back v h in let u = sent_now x p in prefix_by u.0.history b.0.history x v u.2 b.2 (f.value_last b.0 b.1 u.0 u.1);
+      none_sent = λ a n x p.
+          let u = sent_now x p in
+          f.none_sent (sym (ap (λ (k : CoordinatorState). k.awake) like.is) ∙ a) (shown_none t.value (sym (ap (λ (k : CoordinatorState). k.value) like.is) ∙ n)) u.0 u.1;
+      awake_late = λ a. subst (λ (k : Round). earlier round_zero k ≡ true) (sym same_round) (f.awake_late (sym (ap (λ (k : CoordinatorState). k.awake) like.is) ∙ a));
+      sent_reached = sent_reached;
+      answers_given = λ a rep h.
+          let b = reply_back (t.answers a) rep (sym (ap (λ (k : CoordinatorState). reply_at k.answers a) like.is ∙ ap (λ (g : ℕ → Option Reply). g a) like.all) ∙ h) in
+          subst (λ (k : Round). Contains (messages es) (InEpoch s.epoch (Answered k a rep.round rep.vote))) (sym same_round)
+          (subst (λ (k : History). Contains (messages es) (InEpoch s.epoch (Answered t.round a rep.round k))) b.2 (standing.tells config some es legal s.epoch (P1b t.round a rep.round b.0) (f.answers_given a rep.round b.0 b.1)));
+    }
 
   -- ---- acceptors
 
-  backed_there : (r : Round) (v : Value) → core.IsBacked T (Leads config.coordinators) G r v → IsBacked config es r v.history
-  backed_there r v b = record {
-    history = v.valid;
-    quorum = b.quorum;
-    is_quorum = quorum_by config.coordinators r.mode r.lead b.quorum b.is_quorum;
-    each = λ c l q. let x = b.each c l q in (x.0.history, sent_by c r x.0 x.0.history refl x.1, x.2);
+  module _ (e : ℕ) where
+    backed_there : (r : Round) (v : Value) → core.IsBacked (T config e) (Leads config.coordinators) (standing.G config some es legal e) r v → IsBacked config es e r v.history
+    backed_there r v b = record {
+      history = v.valid;
+      quorum = b.quorum;
+      is_quorum = quorum_by config.coordinators r.mode r.lead b.quorum b.is_quorum;
+      each = λ c l q. let x = b.each c l q in (x.0.history, standing.sent_by config some es legal e c r x.0 x.0.history refl x.1, x.2);
+    }
+
+    joined_there : (r : Round) (v : Value) → core.IsJoined (T config e) (Leads config.coordinators) (standing.G config some es legal e) r v → IsJoined config es e r v.history
+    joined_there r v j = record {
+      parts = histories j.parts;
+      backed = λ u m. let b = history_back j.parts u (contains_among (histories j.parts) u m) in subst (λ (h : History). IsBacked config es e r h) b.2 (backed_there r b.0 (j.backed b.0 b.1));
+      above = λ u m. let b = history_back j.parts u (contains_among (histories j.parts) u m) in subst (λ (h : History). IsPrefix h v.history) b.2 (j.above b.0 b.1);
+      least = λ z is g. j.least (record { history = z; valid = is }) (λ u m. g u.history (among_contains (histories j.parts) u.history (history_there j.parts u m)));
+    }
+
+    answer_there : (r : Round) (a : ℕ) (q : Round) (v : Value) (x : History) → v.history ≡ x → core.AnswerFacts (T config e) (standing.G config some es legal e) r a q v → AnswerFacts config es e r a q x
+    answer_there r a q v x h g = record {
+      below = g.below;
+      reached = standing.reached_there config some es legal e a r (growth.le_lt (tables_lawful config some) round_zero q r ((tables_lawful config some).zero_least q) g.below) g.reached;
+      cast = standing.vote_by config some es legal e a q v x h g.cast;
+      last = λ y p. let u = standing.vote_value config some es legal e a q y p in prefix_by u.0.history v.history y x u.2 h (g.last u.0 u.1);
+      none = λ j b d y p. let u = standing.vote_value config some es legal e a j y p in g.none j b d u.0 u.1;
+    }
+
+  module _ (a : ℕ) where
+    abbrev z : AcceptorInEpoch
+    z = acceptor_at config a es
+
+    abbrev y : Acceptor (T config (acceptor_at config a es).epoch)
+    y = (standing.w config some es legal z.epoch).acceptors a
+
+    alike : acceptors.IsLike config a z.state y
+    alike = ((standing.pr config some es legal z.epoch).acceptors a).0 refl
+
+    own : core.AcceptorFacts (T config z.epoch) (standing.G config some es legal z.epoch) a y
+    own = (standing.facts config some es legal z.epoch).acceptors a
+
+    now_voted : z.state.voted ≡ y.voted
+    now_voted = ap (λ (k : AcceptorState). k.voted) alike.is
+
+    now_vote : z.state.vote ≡ y.vote.history
+    now_vote = ap (λ (k : AcceptorState). k.vote) alike.is
+
+    now_round : z.state.round ≡ y.round
+    now_round = ap (λ (k : AcceptorState). k.round) alike.is
+
+    -- it reached the round of each vote that it had
+    votes_reached : (e : ℕ) (r : Round) (x : History) → chosen.HadVote config es a e r x → IsReached z.epoch z.state.round e r
+    votes_reached e r x p = elim (by_order e z.epoch) [
+      | inl less ↦ inl less
+      | inr h ↦ elim h [
+        | inl q ↦
+            let u = standing.vote_value config some es legal e a r x (inl p) in
+            inr (q, λ b. (ledger e).votes_reached a r u.0 u.1 (subst (λ (k : Round). earlier k r ≡ true) (ap (λ (k : AcceptorState). k.round) (((standing.pr config some es legal e).acceptors a).0 (sym q)).is) b))
+        | inr more ↦
+            let grown : e ≤ z.epoch = subst (λ (run : List Entry). e ≤ (acceptor_at config a run).epoch) p.parts (subst (λ (n : ℕ). n ≤ (acceptor_at config a (p.later ++ p.earlier)).epoch) p.epoch_is (acceptor_epochs_grow config a p.later p.earlier)) in
+            absurd (omega (arith, more, grown))
+      ]
+    ]
+
+    vote_now : (x : History) → chosen.IsVote config es a z.epoch z.state.voted x → (u : Value) × (standing.G config some es legal z.epoch).votes a y.voted u × (u.history ≡ x)
+    vote_now x p = standing.vote_value config some es legal z.epoch a y.voted x (subst (λ (k : Round). chosen.IsVote config es a z.epoch k x) now_voted p)
+
+    acceptor_facts : AcceptorFacts config es a z
+    acceptor_facts = record {
+      votes_chain = λ e r x v p q.
+          let u = standing.vote_value config some es legal e a r x p in
+          let k = standing.vote_value config some es legal e a r v q in
+          chain_by u.0 k.0 x v u.2 k.2 ((ledger e).votes_chain a r u.0 k.0 u.1 k.1);
+      votes_safe = λ e r x p. let u = standing.vote_value config some es legal e a r x p in standing.safe_by config some es legal e u.0 x u.2 r ((ledger e).votes_safe a r u.0 u.1);
+      votes_reached = votes_reached;
+      votes_joined = λ e r x p late slow.
+          let u = standing.vote_value config some es legal e a r x p in
+          elim ((ledger e).votes_joined a r u.0 u.1 slow) [
+            | inl h ↦ absurd ((tables_lawful config some).order.irreflexive round_zero (subst (λ (k : Round). earlier round_zero k ≡ true) h.0 late))
+            | inr j ↦ subst (λ (h : History). IsJoined config es e r h) u.2 (joined_there e r u.0 j)
+          ];
+      vote_last = λ x p. let u = vote_now x p in prefix_by u.0.history y.vote.history x z.state.vote u.2 (sym now_vote) (own.vote_last u.0 u.1);
+      voted_reached = λ b. own.voted_reached (subst (λ (k : Round). earlier k y.voted ≡ true) now_round (subst (λ (k : Round). earlier z.state.round k ≡ true) now_voted b));
+      none_above = λ r x b p. let u = standing.vote_value config some es legal z.epoch a r x p in own.none_above r u.0 (subst (λ (k : Round). earlier k r ≡ true) now_voted b) u.1;
+      held_sent = λ c v h.
+          let b = shown_back (y.held c) v (sym (ap (λ (k : AcceptorState). value_at k.held c) alike.is ∙ ap (λ (g : ℕ → Option History). g c) alike.all) ∙ h) in
+          subst (λ (k : Round). HasSent es c z.epoch k v) (sym now_round) (standing.sent_by config some es legal z.epoch c y.round b.0 v b.2 (own.held_sent c b.0 b.1));
+      sent_cast = λ e r v p. let u = standing.voted_value config some es legal e r a v p in standing.vote_by config some es legal e a r u.0 v u.2 ((standing.facts config some es legal e).sent_cast r a u.0 u.1);
+      answers_true = λ e r q v p. let u = standing.answer_value config some es legal e r a q v p in answer_there e r a q u.0 v u.2 ((ledger e).answers_true r a q u.0 u.1);
+    }
+
+  -- ---- learners, and what they learned in an epoch
+
+  -- what a learner learned in the list of an epoch is the least upper bound of what is chosen there
+  bound_there : (e i : ℕ) (t : Learner (T config e)) → core.LearnerFacts (T config e) (standing.G config some es legal e) t → IsBoundOfChosen config es e t.learned.history
+  bound_there e i t g = record {
+    history = t.learned.valid;
+    parts = histories g.parts;
+    chosen = λ u m.
+        let b = history_back g.parts u (contains_among (histories g.parts) u m) in
+        let h = g.heard b.0 b.1 in
+        (h.round, subst (λ (k : History). chosen.IsChosen config es k e h.round) b.2 (standing.chosen_there config some es legal e b.0 h.round (heard_chosen (tables_lawful config some) (standing.G config some es legal e) t.taken g.taken_cast b.0 h)));
+    above = λ u m. let b = history_back g.parts u (contains_among (histories g.parts) u m) in subst (λ (k : History). IsPrefix k t.learned.history) b.2 (g.above b.0 b.1);
+    least = λ z is k. g.least (record { history = z; valid = is }) (λ u m. k u.history (among_contains (histories g.parts) u.history (history_there g.parts u m)));
   }
 
-  joined_there : (r : Round) (v : Value) → core.IsJoined T (Leads config.coordinators) G r v → IsJoined config es r v.history
-  joined_there r v j = record {
-    parts = histories j.parts;
-    backed = λ u m. let b = history_back j.parts u (contains_among (histories j.parts) u m) in subst (λ (h : History). IsBacked config es r h) b.2 (backed_there r b.0 (j.backed b.0 b.1));
-    above = λ u m. let b = history_back j.parts u (contains_among (histories j.parts) u m) in subst (λ (h : History). IsPrefix h v.history) b.2 (j.above b.0 b.1);
-    least = λ z is f. j.least (record { history = z; valid = is }) (λ u m. f u.history (among_contains (histories j.parts) u.history (history_there j.parts u m)));
-  }
+  module _ (l : ℕ) where
+    abbrev q : LearnerInEpoch
+    q = learner_at config l es
 
-  answer_there : (r : Round) (a : ℕ) (q : Round) (v : Value) (x : History) → v.history ≡ x → core.AnswerFacts T G r a q v → AnswerFacts config es r a q x
-  answer_there r a q v x e f = record {
-    below = f.below;
-    reached = λ h. f.reached (subst (λ (k : Round). earlier k r ≡ true) (standing.round_is config some es legal a) h);
-    had = vote_by a q v x e f.cast;
-    last = λ y p. let u = vote_value a q y p in prefix_by u.0.history v.history y x u.2 e (f.last u.0 u.1);
-    none = λ j b d y p. let u = vote_value a j y p in f.none j b d u.0 u.1;
-  }
+    abbrev u : Learner (T config (learner_at config l es).epoch)
+    u = (standing.w config some es legal q.epoch).learners l
 
-  acceptor_seen : (a : ℕ) (t : Acceptor T) (hs : List (Option History)) → ◌≡◌ {A = ℕ → Option History} (value_at hs) (λ i. shown (t.held i)) → G.round a ≡ t.round → core.AcceptorFacts T G a t → AcceptorFacts config es a (acceptors.seen config a t hs)
-  acceptor_seen a t hs all now f = record {
-    votes_chain = λ r x y p q. let u = vote_value a r x p in let v = vote_value a r y q in chain_by u.0 v.0 x y u.2 v.2 (ledger.votes_chain a r u.0 v.0 u.1 v.1);
-    votes_safe = λ r x p. let u = vote_value a r x p in standing.safe_by config some es legal u.0 x u.2 r (ledger.votes_safe a r u.0 u.1);
-    votes_reached = λ r x p h. let u = vote_value a r x p in ledger.votes_reached a r u.0 u.1 (subst (λ (k : Round). earlier k r ≡ true) (sym now) h);
-    votes_joined = λ r x p late slow.
-        let u = vote_value a r x p in
-        elim (ledger.votes_joined a r u.0 u.1 slow) [
-          | inl z ↦ absurd ((tables_lawful config some).order.irreflexive round_zero (subst (λ (k : Round). earlier round_zero k ≡ true) z.0 late))
-          | inr j ↦ subst (λ (h : History). IsJoined config es r h) u.2 (joined_there r u.0 j)
-        ];
-    vote_last = λ x p. let u = vote_value a t.voted x p in subst (λ (h : History). IsPrefix h t.vote.history) u.2 (f.vote_last u.0 u.1);
-    voted_reached = f.voted_reached;
-    none_above = λ r x b p. let u = vote_value a r x p in f.none_above r u.0 b u.1;
-    held_sent = λ c v e. let b = shown_back (t.held c) v (sym (ap (λ g. g c) all) ∙ e) in sent_by c t.round b.0 v b.2 (f.held_sent c b.0 b.1);
-    told_had = λ r v p. let u = standing.voted_value config some es legal r a v p in vote_by a r u.0 v u.2 ((standing.facts config some es legal).votes_told r a u.0 u.1);
-    answers_true = λ r q v p. let u = standing.answer_value config some es legal r a q v p in answer_there r a q u.0 v u.2 (ledger.answers_true r a q u.0 u.1);
-  }
+    here : learners.IsLike config l q.state u
+    here = (((standing.pr config some es legal q.epoch).learners l).0 refl).like
 
-  acceptor_facts : (a : ℕ) → AcceptorFacts config es a (acceptor_at config a es)
-  acceptor_facts a =
-      let l = (standing.like config some es legal).acceptors a in
-      let m = (standing.matches config some es legal).acceptors a in
-      let f = subst (λ (t : Acceptor T). core.AcceptorFacts T G a t) m ((standing.facts config some es legal).acceptors a) in
-      subst (λ (s : AcceptorState). AcceptorFacts config es a s) (sym l.is)
-      (acceptor_seen a (bundled.acceptor_at T D a (lifted config es)) l.held l.all (ap (λ (t : Acceptor T). t.round) m) f)
+    learner_core : core.LearnerFacts (T config q.epoch) (standing.G config some es legal q.epoch) u
+    learner_core = (standing.facts config some es legal q.epoch).learners l
 
-  -- ---- learners
+    taken_is : taken_at config l es ≡ votes_taken u.taken
+    taken_is = (((standing.pr config some es legal q.epoch).learners l).0 refl).taken
 
-  chosen_there : (v : Value) (r : Round) → core.IsChosen T G v r → chosen.IsChosen config es v.history r
-  chosen_there v r c = record {
-    quorum = c.quorum;
-    enough = c.enough;
-    voted = λ a l q. let x = c.covered a l q in record { vote = x.vote.history; cast = vote_by a r x.vote x.vote.history refl x.cast; below = x.above };
-  }
+    heard_is_chosen : (x : History) (h : IsHeard config (votes_taken u.taken) x) → chosen.IsChosen config es x q.epoch h.round
+    heard_is_chosen x h =
+        let v : Value = record { history = x; valid = h.history } in
+        standing.chosen_there config some es legal q.epoch v h.round (heard_chosen (tables_lawful config some) (standing.G config some es legal q.epoch) u.taken learner_core.taken_cast v (heard_back config u.taken x h))
 
-  heard_there : (taken : List (Round × ℕ × Value)) → ((r : Round) (a : ℕ) (v : Value) → Among taken (r, a, v) → G.votes a r v) → (u : History) (h : IsHeard config (votes_taken taken) u) → chosen.IsChosen config es u h.round
-  heard_there taken on u h =
-      let v : Value = record { history = u; valid = h.history } in
-      chosen_there v h.round (heard_chosen (tables_lawful config some) G taken on v (heard_back config taken u h))
+    learner_facts : LearnerFacts config es l q
+    learner_facts = record {
+      votes_sent = λ r a v h.
+          let b = shown_back (u.votes r a) v (sym (ap (λ (k : LearnerState). vote_of k.votes r a) here.is ∙ ap (λ (g : Round → ℕ → Option History). g r a) here.all) ∙ h) in
+          subst (λ (k : History). Contains (messages es) (InEpoch q.epoch (Voted r a k))) b.2
+          (standing.tells config some es legal q.epoch (P2b r a b.0) ((standing.facts config some es legal q.epoch).taken_sent l r a b.0 (learner_core.held_taken r a b.0 b.1)));
+      heard_chosen = subst (λ (vs : List Vote). (x : History) (h : IsHeard config vs x) → chosen.IsChosen config es x q.epoch h.round) (sym taken_is) heard_is_chosen;
+      part = subst (λ (k : History). IsBoundOfChosen config es q.epoch k) (sym (ap (λ (k : LearnerState). k.learned) here.is)) (bound_there q.epoch l u learner_core);
+      unmarked = no_mark config some es legal l;
+    }
 
-  learner_seen : (i : ℕ) (t : Learner T) (vs : Votes) → ◌≡◌ {A = Round → ℕ → Option History} (vote_of vs) (λ r a. shown (t.votes r a)) → taken_at config i es ≡ votes_taken t.taken
-      → ((r : Round) (a : ℕ) (v : Value) → Among t.taken (r, a, v) → Among (standing.w config some es legal).sent (P2b r a v)) → core.LearnerFacts T G t → LearnerFacts config es i (learners.seen config i t vs)
-  learner_seen i t vs all taken told f = record {
-    votes_told = λ r a v e.
-        let b = shown_back (t.votes r a) v (sym (ap (λ g. g r a) all) ∙ e) in
-        subst (λ (h : History). Contains (messages es) (Voted r a h)) b.2 (standing.tells config some es legal (P2b r a b.0) (told r a b.0 (f.held_taken r a b.0 b.1)));
-    heard_chosen = subst (λ (xs : List Vote). (u : History) (h : IsHeard config xs u) → chosen.IsChosen config es u h.round) (sym taken) (heard_there t.taken f.taken_cast);
-    parts = histories f.parts;
-    parts_chosen = λ u m.
-        let b = history_back f.parts u (contains_among (histories f.parts) u m) in
-        let h = f.heard b.0 b.1 in
-        (h.round, subst (λ (k : History). chosen.IsChosen config es k h.round) b.2 (chosen_there b.0 h.round (heard_chosen (tables_lawful config some) G t.taken f.taken_cast b.0 h)));
-    above = λ u m. let b = history_back f.parts u (contains_among (histories f.parts) u m) in subst (λ (k : History). IsPrefix k t.learned.history) b.2 (f.above b.0 b.1);
-    least = λ z is g. f.least (record { history = z; valid = is }) (λ u m. g u.history (among_contains (histories f.parts) u.history (history_there f.parts u m)));
-  }
+  -- ---- epochs
 
-  learner_facts : (i : ℕ) → LearnerFacts config es i (learner_at config i es)
-  learner_facts i =
-      let k = standing.like config some es legal in
-      let l = k.learners i in
-      let m = (standing.matches config some es legal).learners i in
-      let f = subst (λ (t : Learner T). core.LearnerFacts T G t) m ((standing.facts config some es legal).learners i) in
-      let told = subst (λ (t : Learner T). (r : Round) (a : ℕ) (v : Value) → Among t.taken (r, a, v) → Among (standing.w config some es legal).sent (P2b r a v)) m ((standing.facts config some es legal).taken_told i) in
-      subst (λ (s : LearnerState). LearnerFacts config es i s) (sym l.is) (learner_seen i (bundled.learner_at T D i (lifted config es)) l.votes l.all (k.taken i) told f)
+  -- a learner of an earlier moment of the list, seen from its end
+  learner_since : (e : ℕ) (later before : List (Event (T config e))) → later ++ before ≡ list config e es legal → (i : ℕ) → core.LearnerFacts (T config e) (standing.G config some es legal e) ((run (T config e) before).learners i)
+  learner_since e later before parts i =
+      let fs : List (Event (T config e)) = list config e es legal in
+      learner_on (core.ledger_of (T config e) (run (T config e) before)) (standing.G config some es legal e) ((run (T config e) before).learners i)
+      (λ a r x p. elim p [
+        | inl n ↦ inl (subst (λ (gs : List (Event (T config e))). Among (run (T config e) gs).cast (a, r, x)) parts (cast_since later before (a, r, x) n))
+        | inr h ↦ inr h
+      ])
+      ((run_keeps (tables_lawful config some) before (loose_rest later before (subst (λ (gs : List (Event (T config e))). Loose (T config e) gs) (sym parts) (projection config e es legal).loose_list))).learners i)
+
+  final_cut : (e l : ℕ) (v : History) → Contains (messages es) (Final e l v) → IsCutOfChosen config es e v
+  final_cut e l v p =
+      let k = (projection config e es legal).finals l v (contains_among (messages es) (Final e l v) p) in
+      record {
+        part = (shown (T config e) k.before k.learner).history;
+        bound = bound_there e k.learner ((run (T config e) k.before).learners k.learner) (learner_since e k.later k.before k.parts k.learner);
+        marked = k.closed;
+        is_cut = k.value;
+      }
+
+  closed_there : (n : ℕ) → finals.Below (messages es) n → AreClosed es n
+  closed_there n h e less = let k = h e less in (k.0, k.1, among_contains (messages es) (Final e k.0 k.1) k.2)
+
+  epoch_facts : EpochFacts config es
+  epoch_facts =
+      let b = finals.finals_below config es legal in
+      record {
+        coordinators_entered = λ c. closed_there (coordinator_at config c es).epoch (b.coordinators c);
+        acceptors_entered = λ a. closed_there (acceptor_at config a es).epoch (b.acceptors a);
+        learners_entered = λ l. closed_there (learner_at config l es).epoch (b.learners l);
+        messages_entered = λ e m p. closed_there e (b.all_messages (InEpoch e m) (contains_among (messages es) (InEpoch e m) p));
+        finals_entered = λ e l v p. closed_there e (b.all_messages (Final e l v) (contains_among (messages es) (Final e l v) p));
+        finals_cut = final_cut;
+        one_final = λ e l i v x p h. one_final config e some es legal l i v x (contains_among (messages es) (Final e l v) p) (contains_among (messages es) (Final e i x) h);
+      }
 
   -- ---- votes of a round
 
-  votes_agree : (r : Round) → is_fast r.mode ≡ false → (a b : ℕ) (x y : History) → chosen.HadVote config es a r x → chosen.HadVote config es b r y → IsCompatible x y
-  votes_agree r slow a b x y p q =
-      let u = vote_value a r x p in
-      let v = vote_value b r y q in
-      subst (λ (h : History). IsCompatible h y) u.2 (subst (λ (h : History). IsCompatible u.0.history h) v.2
-      (test_of u.0 v.0 (growth.votes_agree (tables_lawful config some) G ledger r slow a b u.0 v.0 u.1 v.1)))
+  votes_agree : (e : ℕ) (r : Round) → is_fast r.mode ≡ false → (a b : ℕ) (x v : History) → chosen.IsVote config es a e r x → chosen.IsVote config es b e r v → IsCompatible x v
+  votes_agree e r slow a b x v p h =
+      let m = standing.vote_value config some es legal e a r x p in
+      let n = standing.vote_value config some es legal e b r v h in
+      subst (λ (k : History). IsCompatible k v) m.2 (subst (λ (k : History). IsCompatible m.0.history k) n.2
+      (test_of m.0 n.0 (growth.votes_agree (tables_lawful config some) (standing.G config some es legal e) (ledger e) r slow a b m.0 n.0 m.1 n.1)))
+
+  -- two histories that are chosen in one epoch are compatible
+  pub chosen_are_compatible : (e : ℕ) (x v : History) → IsHistory x → IsHistory v → (r j : Round) → chosen.IsChosen config es x e r → chosen.IsChosen config es v e j → IsCompatible x v
+  chosen_are_compatible e x v wx wv r j c d =
+      let m : Value = record { history = x; valid = wx } in
+      let n : Value = record { history = v; valid = wv } in
+      test_of m n (chosen_agree (tables_lawful config some) (standing.G config some es legal e) (ledger e) m n r j (standing.chosen_back config some es legal e x wx r c) (standing.chosen_back config some es legal e v wv j d))
 
   -- ---- commands
 
   all_proposed : AreProposed config es
-  all_proposed =
-      let o = standing.offered config some es legal in
-      let k = standing.like config some es legal in
-      let m = standing.matches config some es legal in
-      let by = standing.proposed_by config some es legal in
-      record {
-        answered = λ r a q v p. let u = standing.answer_value config some es legal r a q v p in by u.0 v u.2 (o.sent (P1b r a q u.0) u.1);
-        sent = λ r c v p. let u = sent_value c r v p in by u.0 v u.2 (o.sent _ u.1);
-        voted = λ r a v p. let u = standing.voted_value config some es legal r a v p in by u.0 v u.2 (o.sent (P2b r a u.0) u.1);
-        coordinator_value = λ c v e.
-            let t : Coordinator T = (bundled.coordinator_at T D c (lifted config es)).core in
-            let b = shown_back t.value v (sym (ap (λ s. s.value) (k.coordinators c).is) ∙ e) in
-            by b.0 v b.2 (o.values c b.0 (ap (λ (s : Coordinator T). s.value) (m.coordinators c) ∙ b.1));
-        coordinator_answer = λ c a rep e.
-            let t : Coordinator T = (bundled.coordinator_at T D c (lifted config es)).core in
-            let b = reply_back (t.answers a) rep (sym (ap (λ s. reply_at s.answers a) (k.coordinators c).is ∙ ap (λ g. g a) (k.coordinators c).all) ∙ e) in
-            by b.0 rep.vote b.2 (o.answers c a rep.round b.0 (ap (λ (s : Coordinator T). s.answers a) (m.coordinators c) ∙ b.1));
-        coordinator_pending = λ c d p.
-            let cs : List Command = (bundled.coordinator_at T D c (lifted config es)).pending in
-            standing.tells config some es legal (Propose d) (m.pending c d (contains_among cs d (subst (λ (xs : List Command). Contains xs d) (ap (λ s. s.pending) (k.coordinators c).is) p)));
-        acceptor_vote = λ a. by (bundled.acceptor_at T D a (lifted config es)).vote (acceptor_at config a es).vote (sym (ap (λ s. s.vote) (k.acceptors a).is))
-            (subst (λ (t : Acceptor T). (d : Command) → T.has t.vote d ≡ true → Among (standing.w config some es legal).sent (Propose d)) (m.acceptors a) (o.votes a));
-        acceptor_held = λ a c v e.
-            let t : Acceptor T = bundled.acceptor_at T D a (lifted config es) in
-            let b = shown_back (t.held c) v (sym (ap (λ s. value_at s.held c) (k.acceptors a).is ∙ ap (λ g. g c) (k.acceptors a).all) ∙ e) in
-            by b.0 v b.2 (o.holds a c b.0 (ap (λ (s : Acceptor T). s.held c) (m.acceptors a) ∙ b.1));
-        learner_vote = λ i r a v e.
-            let t : Learner T = bundled.learner_at T D i (lifted config es) in
-            let b = shown_back (t.votes r a) v (sym (ap (λ s. vote_of s.votes r a) (k.learners i).is ∙ ap (λ g. g r a) (k.learners i).all) ∙ e) in
-            by b.0 v b.2 (o.taken i r a b.0 (ap (λ (s : Learner T). s.votes r a) (m.learners i) ∙ b.1));
-        learner_learned = λ i. by (bundled.learner_at T D i (lifted config es)).learned (learner_at config i es).learned (sym (ap (λ s. s.learned) (k.learners i).is))
-            (subst (λ (t : Learner T). (d : Command) → T.has t.learned d ≡ true → Among (standing.w config some es legal).sent (Propose d)) (m.learners i) (o.learned i));
-      }
+  all_proposed = record {
+    answered = λ e r a h v p. let m = standing.answer_value config some es legal e r a h v p in standing.proposed_by config some es legal e m.0 v m.2 ((standing.offered config some es legal e).sent (P1b r a h m.0) m.1);
+    sent = λ e r c v p. let m = standing.sent_value config some es legal e c r v p in standing.proposed_by config some es legal e m.0 v m.2 ((standing.offered config some es legal e).sent (P2a r c m.0) m.1);
+    voted = λ e r a v p. let m = standing.voted_value config some es legal e r a v p in standing.proposed_by config some es legal e m.0 v m.2 ((standing.offered config some es legal e).sent (P2b r a m.0) m.1);
+    finals = λ e l v p d h. among_contains (messages es) (Offered d) (final_proposed config es legal e l v (contains_among (messages es) (Final e l v) p) d h);
+    coordinator_value = λ c v h. let b = value_back c v h in standing.proposed_by config some es legal (s c).epoch b.0 v b.2 ((standing.offered config some es legal (s c).epoch).values c b.0 b.1);
+    coordinator_answer = λ c a rep h.
+        let b = reply_back ((t c).answers a) rep (sym (ap (λ (k : CoordinatorState). reply_at k.answers a) (like c).is ∙ ap (λ (g : ℕ → Option Reply). g a) (like c).all) ∙ h) in
+        standing.proposed_by config some es legal (s c).epoch b.0 rep.vote b.2 ((standing.offered config some es legal (s c).epoch).answers c a rep.round b.0 b.1);
+    coordinator_pending = λ c d p. among_contains (messages es) (Offered d) (pending_stands config es legal c d (contains_among (coordinator_at config c es).state.pending d p));
+    acceptor_vote = λ a. standing.proposed_by config some es legal (z a).epoch (y a).vote (z a).state.vote (sym (now_vote a)) ((standing.offered config some es legal (z a).epoch).votes a);
+    acceptor_held = λ a c v h.
+        let b = shown_back ((y a).held c) v (sym (ap (λ (k : AcceptorState). value_at k.held c) (alike a).is ∙ ap (λ (g : ℕ → Option History). g c) (alike a).all) ∙ h) in
+        standing.proposed_by config some es legal (z a).epoch b.0 v b.2 ((standing.offered config some es legal (z a).epoch).holds a c b.0 b.1);
+    learner_vote = λ l r a v h.
+        let b = shown_back ((u l).votes r a) v (sym (ap (λ (k : LearnerState). vote_of k.votes r a) (here l).is ∙ ap (λ (g : Round → ℕ → Option History). g r a) (here l).all) ∙ h) in
+        standing.proposed_by config some es legal (q l).epoch b.0 v b.2 ((standing.offered config some es legal (q l).epoch).taken l r a b.0 b.1);
+    learner_part = λ l d h. among_contains (messages es) (Offered d) (part_proposed config es legal l d h);
+    learner_learned = λ l d h. among_contains (messages es) (Offered d) (learned_proposed config es legal some l d h);
+  }
 
-  proposed_get : (i : ℕ) (c : Command) → slice_get (messages es) i ≡ Some (Proposed c) → slice_get (bundled.messages T D (lifted config es)) i ≡ Some (Propose c)
-  proposed_get i c e =
-      let ns = bundled.messages T D (lifted config es) in
-      proposed_at config (slice_get ns i) c (sym (ap (λ (ms : List Message). slice_get ms i) (standing.like config some es legal).sent ∙ get-told config ns i) ∙ e)
-
-  pub all_proposed_once : AreProposedOnce es
-  all_proposed_once =
-      let there = (simulates config es legal).1 in
-      record {
-        once = λ i j c d p q same.
-            proposed_once T D (λ x. x.id.proposer) (λ x. x.id.number) (λ p n d. refl) (λ p n d. refl) (lifted config es) there i j c d (proposed_get i c p) (proposed_get j d q)
-            (ap (λ x. x.proposer) same) (ap (λ x. x.number) same);
-        numbered = λ c p.
-            subst (λ (n : ℕ). c.id.number ≤ n) (sym (ap (λ s. s.offers) ((standing.like config some es legal).offers c.id.proposer)))
-            (numbered T D (λ x. x.id.proposer) (λ x. x.id.number) (λ p n d. refl) (λ p n d. refl) (lifted config es) there c (standing.proposed_value config some es legal c p));
-      }
+  all_once : AreProposedOnce es
+  all_once =
+      let k = proposed_once config es legal in
+      record { once = k.once; numbered = λ c p. k.numbered_there c (contains_among (messages es) (Offered c) p) }
 
   -- ---- all of them
 
@@ -297,7 +392,8 @@ module _ (config : Counts) (some : 0 < config.acceptors) (es : List Entry) (lega
     coordinators = coordinator_facts;
     acceptors = acceptor_facts;
     learners = learner_facts;
+    epochs = epoch_facts;
     votes_agree = votes_agree;
     proposed = all_proposed;
-    proposed_once = all_proposed_once;
+    proposed_once = all_once;
   }

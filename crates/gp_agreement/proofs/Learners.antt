@@ -16,7 +16,7 @@ use Rattle.gp_msg.specs.Messages.{Voted}
 use Rattle.gp_learner.specs.State.{LearnerState, Votes}
 use Rattle.gp_learner.specs.Table.{opening, voter_cmp, vote_of, votes_held, votes_with, heard, learned_with, learner_take, learner_fall}
 use Rattle.gp_learner.proofs.Lookups.{lookup-insert_entry, voter_cmp_total}
-use Rattle.gp_run.specs.Learned.{Vote, votes_after}
+use Rattle.gp_run.specs.Learned.{Vote, votes_heard}
 use Rattle.gp_cstructs.specs.Tables as any
 use Rattle.gp_cstructs.specs.Tables.{Tables, Propose, P1a, P1b, P2a, P2b}
 use Rattle.gp_cstructs.specs.Learner as core
@@ -65,7 +65,7 @@ module _ (config : Counts) (number : ℕ) where
   abbrev pub seen : core.Learner T → Votes → LearnerState
   seen t vs = record { config = config; number = number; votes = vs; learned = t.learned.history }
 
-  -- the two are one state, but that votes stand in a list
+  -- the two are one state, but the first keeps votes in a list
   pub record IsLike (s : LearnerState) (t : core.Learner T) : Type 0 where
     pub votes : Votes
     pub is : s ≡ seen t votes
@@ -135,7 +135,7 @@ module _ (config : Counts) (number : ℕ) where
   pub fall_like : (s : LearnerState) (t : core.Learner T) → IsLike s t → IsLike (learner_fall s) (core.learner_opening T)
   fall_like s t l = record { votes = []; is = λ k. learner_fall (l.is k); all = refl }
 
-  pub taken_same : (t : core.Learner T) (m : any.Message T) → votes_after config (votes_taken t.taken) (told config m) ≡ votes_taken (core.learner_take T t m).taken
+  pub taken_same : (t : core.Learner T) (m : any.Message T) → votes_heard config (votes_taken t.taken) (told config m) ≡ votes_taken (core.learner_take T t m).taken
   taken_same t (Propose c) = refl
   taken_same t (P1a r) = refl
   taken_same t (P1b r a q v) = refl

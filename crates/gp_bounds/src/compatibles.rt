@@ -10,8 +10,7 @@ use gp_history::Hist;
 use gp_history::walks::{common_start, is_behind};
 
 /// Whether two histories are compatible: some history has both as prefixes.
-///
-/// It takes no memory, and of two histories of n commands at most about n² tests of a conflict.
+/// It takes no memory.
 pub fn compatible<H: Hist>(a: &H, b: &H) -> bool
     ensures { IsTrue result ↔ IsCompatible (history_of (H.sequence a.now)) (history_of (H.sequence b.now)) }
 {

@@ -10,8 +10,7 @@ use std::alloc::Global;
 
 /// The first history, and then what the second has more, in the canonical order of the second.
 ///
-/// It is defined for every pair. Where the two are compatible it is their least upper bound. It takes
-/// no copy that the join does not keep.
+/// It is defined for every pair. If the two are compatible it is their least upper bound.
 pub fn join<H: Hist>(_alloc: Global, a: &H, b: &H) -> Result<H, NoMemory>
     ensures { IfOk result (λ j. history_of (H.sequence j) ≡ join (history_of (H.sequence a.now)) (history_of (H.sequence b.now))) }
 {

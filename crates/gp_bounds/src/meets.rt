@@ -13,9 +13,6 @@ use gp_history::walks::{common_start, is_behind};
 use std::alloc::Global;
 
 /// The greatest history that is a prefix of both.
-///
-/// Of two histories of n commands it takes at most about n² tests of a conflict, and no copy that the
-/// meet does not keep.
 pub fn meet<H: Hist>(alloc: Global, a: &H, b: &H) -> Result<H, NoMemory>
     ensures { IfOk result (λ m. history_of (H.sequence m) ≡ meet (history_of (H.sequence a.now)) (history_of (H.sequence b.now))) }
 {

@@ -1,10 +1,11 @@
 //! Rounds, and messages with their values as words.
 //!
-//! A letter stands for a command that writes one key: `a` to `z` the key of that letter, and `A` to
-//! `Z` all the key `x`. So two capitals conflict, and two small letters do not. A word stands for the
-//! history in which its letters were pushed in their order.
+//! A letter stands for a command that writes one key: `a` to `z` write the key of that letter, and `A`
+//! to `Z` all write the key `x`. So two capitals conflict, and two small letters do not. A word stands
+//! for the history in which its letters were pushed in their order.
 use gp_command::{Access, Command, CommandId, Draft, Key, Touch};
-use gp_history::{Hist, SeqHistory};
+use gp_history::Hist;
+use gp_index::History;
 use gp_msg::Msg;
 use gp_round::{Mode, Round};
 use std::alloc::Global;
@@ -39,6 +40,7 @@ pub enum Text {
     P1b(Round, u32, &'static str),
     P2a(Round, u32, &'static str),
     P2b(Round, u32, &'static str),
+    Final(u32, &'static str),
 }
 
 fn command(alloc: Global, letter: u8) -> Result<Command, Fail> {
@@ -56,36 +58,44 @@ fn command(alloc: Global, letter: u8) -> Result<Command, Fail> {
     Ok(Command::new(id, draft))
 }
 
-fn history(alloc: Global, word: &str) -> Result<SeqHistory, Fail> {
-    let mut history = SeqHistory::empty(alloc)?;
+fn history(alloc: Global, word: &str) -> Result<History, Fail> {
+    let mut history = History::empty(alloc)?;
     for letter in word.as_bytes() {
         history.push(command(alloc, *letter)?)?;
     }
     Ok(history)
 }
 
-/// The message of a text.
-pub fn message(alloc: Global, text: Text) -> Result<Msg, Fail> {
+/// The message of a text in an epoch.
+pub fn message(alloc: Global, epoch: u32, text: Text) -> Result<Msg, Fail> {
     Ok(match text {
         Text::Propose(letter) => Msg::Propose {
             command: command(alloc, letter)?,
         },
-        Text::P1a(round) => Msg::P1a { round },
+        Text::P1a(round) => Msg::P1a { epoch, round },
         Text::P1b(round, acceptor, word) => Msg::P1b {
+            epoch,
             round,
             acceptor,
             voted: round,
             vote: history(alloc, word)?,
         },
         Text::P2a(round, coordinator, word) => Msg::P2a {
+            epoch,
             round,
             coordinator,
             value: history(alloc, word)?,
         },
         Text::P2b(round, acceptor, word) => Msg::P2b {
+            epoch,
             round,
             acceptor,
             vote: history(alloc, word)?,
+        },
+        Text::Final(learner, word) => Msg::Final {
+            epoch,
+            learner,
+            value: history(alloc, word)?,
         },
     })
 }

@@ -1,4 +1,4 @@
-//! Watches, as tables: a message that is seen, and whether the watch has clashed behind it.
+//! Watches, as tables: a message that is seen, and whether the watch has clashed after it.
 use crate::scene::{FAST_1, MULTI_1, SINGLE_2, Text, message};
 use gp_collide::Watch;
 use gp_round::{Mode, Round};
@@ -6,14 +6,34 @@ use std::alloc::Global;
 use std::process::Abort;
 use std::test::Fail;
 
+// The epoch that is watched.
+const EPOCH: u32 = 2;
+
+// A message of the watched epoch, and whether the watch has clashed after it.
 type Step = (Text, bool);
 
+// The same with the epoch of the message.
+type EpochStep = (u32, Text, bool);
+
 fn sees(rt: &impl Abort, alloc: Global, round: Round, steps: &[Step]) -> Result<(), Fail> {
-    let mut watch = Watch::new(alloc, round)?;
+    let mut watch = Watch::new(alloc, EPOCH, round)?;
     assert!(rt; !watch.clashed());
     for (text, clashed) in steps {
-        watch.see(&message(alloc, *text)?)?;
-        assert_eq!(rt; watch.clashed(), *clashed, "behind {text:?}");
+        watch.see(&message(alloc, EPOCH, *text)?)?;
+        assert_eq!(rt; watch.clashed(), *clashed, "after {text:?}");
+    }
+    Ok(())
+}
+
+fn sees_epochs(rt: &impl Abort, alloc: Global, steps: &[EpochStep]) -> Result<(), Fail> {
+    let mut watch = Watch::new(alloc, EPOCH, FAST_1)?;
+    for (epoch, text, clashed) in steps {
+        watch.see(&message(alloc, *epoch, *text)?)?;
+        assert_eq!(rt;
+            watch.clashed(),
+            *clashed,
+            "after {text:?} of epoch {epoch}"
+        );
     }
     Ok(())
 }
@@ -93,6 +113,36 @@ fn other_rounds_and_other_messages_change_nothing(rt: HostRuntime) -> Result<(),
 }
 
 #[test]
+fn the_round_of_another_epoch_changes_nothing(rt: HostRuntime) -> Result<(), Fail> {
+    const STEPS: [EpochStep; 8] = [
+        // X is not kept, so Y does not clash
+        (1, Text::P2b(FAST_1, 0, "X"), false),
+        (EPOCH, Text::P2b(FAST_1, 1, "Y"), false),
+        (0, Text::P2b(FAST_1, 0, "X"), false),
+        (1, Text::P2a(FAST_1, 0, "X"), false),
+        (3, Text::P2b(FAST_1, 0, "X"), false),
+        (3, Text::P2a(FAST_1, 0, "X"), false),
+        // more commands, which go with X, and are not kept either
+        (1, Text::P2b(FAST_1, 1, "XY"), false),
+        (EPOCH, Text::P2b(FAST_1, 0, "X"), true),
+    ];
+    sees_epochs(&rt, rt.alloc(), &STEPS)
+}
+
+#[test]
+fn the_close_of_an_epoch_changes_nothing(rt: HostRuntime) -> Result<(), Fail> {
+    const STEPS: [EpochStep; 5] = [
+        (EPOCH, Text::P2b(FAST_1, 0, "X"), false),
+        // of a learner with the number of the acceptor, and of another
+        (EPOCH, Text::Final(0, "YX"), false),
+        (EPOCH, Text::Final(1, "Y"), false),
+        (1, Text::Final(1, "Y"), false),
+        (EPOCH, Text::P2b(FAST_1, 1, "Y"), true),
+    ];
+    sees_epochs(&rt, rt.alloc(), &STEPS)
+}
+
+#[test]
 fn a_value_gives_way_to_more_commands_alone(rt: HostRuntime) -> Result<(), Fail> {
     const STEPS: [Step; 7] = [
         (Text::P2b(FAST_1, 0, "aX"), false),
@@ -100,7 +150,7 @@ fn a_value_gives_way_to_more_commands_alone(rt: HostRuntime) -> Result<(), Fail>
         (Text::P2b(FAST_1, 0, "Y"), false),
         (Text::P2b(FAST_1, 0, "Yb"), false),
         (Text::P2b(FAST_1, 1, "X"), false),
-        // more commands, at first behind what was kept
+        // more commands, at first after what was kept
         (Text::P2b(FAST_1, 0, "aXY"), false),
         (Text::P2b(FAST_1, 0, "YXab"), true),
         // and then a value with which those of the others go again

@@ -1,9 +1,11 @@
 pub mod KeyOrder
 pub mod Unsorted
 pub mod Ties
+pub mod Marks
 pub mod ConflictLemmas
 pub mod Fields
 pub mod Touches
 pub mod TouchLoop
 pub mod Commands
 pub mod Extension
+pub mod Codes

@@ -32,7 +32,7 @@ tied_mark false false h = refl
 tied_mark true false h = cc
 tied_mark false true h = cc
 
-tied_key : IsAntisymmetric key_cmp
+pub tied_key : IsAntisymmetric key_cmp
 tied_key = slice_cmp-IsAntisymmetric nat_cmp-IsAntisymmetric
 
 tied_touch : IsAntisymmetric touch_cmp
@@ -42,7 +42,7 @@ tied_touch s t h =
     let access = tied_access s.access t.access both.1 in
     λ i. record { key = key i; access = access i }
 
-tied_draft : IsAntisymmetric draft_cmp
+pub tied_draft : IsAntisymmetric draft_cmp
 tied_draft d e h =
     let both = both_tie _ _ h in
     let rest = both_tie _ _ both.1 in

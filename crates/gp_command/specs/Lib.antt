@@ -7,3 +7,5 @@ pub mod Order
 pub mod Conflict
 pub mod Spelling
 pub mod Reading
+pub mod Mark
+pub mod Code

@@ -1,5 +1,5 @@
 //! When two commands conflict.
-ghost use Rattle.std.specs.Prelude.{◌≡◌};
+ghost use Rattle.std.specs.Prelude.{◌≡◌, ◌≢◌, ◌↔◌, IsTrue};
 ghost use Rattle.std.specs.List.{list_any};
 ghost use Rattle.gp_command.specs.Conflict.{conflict, is_clash, touches_clash};
 
@@ -11,14 +11,32 @@ use crate::touch::{Access, Touch};
 ///
 /// The relation is symmetric, and no command conflicts with itself. Generalized consensus leaves it
 /// open (Lamport, *Generalized Consensus and Paxos*, 2005). It takes no memory.
-#[tactic(auto, unfolding(crate::specs::Conflict::conflict))]
+#[inline(always)]
 pub fn conflicts(a: &Command, b: &Command) -> bool
+    ensures { result ≡ conflict a.now b.now }
+{
+    if are_apart(a.draft().mark(), b.draft().mark()) {
+        return false;
+    }
+    are_in_conflict(a, b)
+}
+
+// The test by its definition.
+#[tactic(auto, unfolding(crate::specs::Conflict::conflict))]
+fn are_in_conflict(a: &Command, b: &Command) -> bool
     ensures { result ≡ conflict a.now b.now }
 {
     a != b
         && (a.draft().is_checkpoint()
             || b.draft().is_checkpoint()
             || foots_clash(a.draft().foot(), b.draft().foot()))
+}
+
+// Whether two marks show that the footprints do not clash.
+fn are_apart(a: u64, b: u64) -> bool
+    ensures { IsTrue result ↔ ((a ≢ 0) × (b ≢ 0) × (a ≢ b)) }
+{
+    a != 0 && b != 0 && a != b
 }
 
 fn foots_clash(a: &[Touch], b: &[Touch]) -> bool

@@ -1,9 +1,12 @@
 //! Drafts: commands without their identity.
-ghost use Rattle.std.specs.Prelude.{◌≡◌, ◌≤◌, true, [], None, IfOk, IfErr, OnOk, length};
+ghost use Rattle.std.specs.Prelude.{◌≡◌, ◌≢◌, ◌≤◌, true, false, [], None, IfOk, IfErr, OnOk, length};
 ghost use Rattle.gp_command.specs.Footprint.{first_unsorted};
+ghost use Rattle.gp_command.specs.Code.{draft_code};
+ghost use Rattle.gp_command.specs.Mark.{foot_mark};
 ghost use Rattle.gp_command.specs.Refusal.{touching, checkpoint_of, refusal, long_body, IsRefusal};
 
 use crate::body::{Body, MOST_BYTES};
+use crate::code::code_of;
 use crate::foot::{Foot, MOST_TOUCHES, first_unsorted};
 use crate::memory::NoMemory;
 use crate::touch::Touch;
@@ -25,19 +28,25 @@ pub struct Draft {
 #[derive(Drop, Debug)]
 struct Parts {
     checkpoint: bool,
+    // drafts whose marks differ, with neither mark 0, do not conflict
+    mark: u64,
     foot: Foot,
     body: Body,
+    // drafts are equal exactly if their codes are
+    code: Vec<u8>,
 }
 
 impl Model for Draft {
     ghost use Rattle.std.specs.Prelude.{◌≡◌, true, []};
+    ghost use Rattle.gp_command.specs.Mark.{foot_mark};
+    ghost use Rattle.gp_command.specs.Code.{draft_code};
     ghost use Rattle.gp_command.specs.Views.{DraftView};
 
     ghost Value = { DraftView };
 
     ghost view = { λ d. record { checkpoint = d.parts.value.checkpoint; foot = d.parts.value.foot; body = d.parts.value.body } };
 
-    ghost invariant = { λ d. d.parts.value.checkpoint ≡ true → d.parts.value.foot ≡ [] };
+    ghost invariant = { λ d. (d.parts.value.checkpoint ≡ true → d.parts.value.foot ≡ []) × (d.parts.value.mark ≡ foot_mark d.parts.value.foot) × (d.parts.value.code.items ≡ draft_code d.parts.value.checkpoint d.parts.value.foot d.parts.value.body) };
 }
 
 /// Why there is no draft. The first cause in this order decides.
@@ -111,17 +120,21 @@ impl Draft {
         ensures foot { IfOk result (λ draft. draft.foot ≡ foot) }
         ensures body { IfOk result (λ draft. draft.body ≡ body) }
     {
+        let mark = mark_of(foot.as_slice());
+        let code = code_of(alloc, checkpoint, foot.as_slice(), body.as_slice())?;
         let parts = Parts {
             checkpoint,
+            mark,
             foot,
             body,
+            code,
         };
         Ok(Draft {
             parts: Arc::new(alloc, parts)?,
         })
     }
 
-    /// An equal draft. It takes no memory, and is refused only where there are too many copies to count.
+    /// An equal draft.
     pub fn copy(&self) -> Result<Draft, NoMemory>
         ensures { IfOk result (λ copy. copy ≡ self.now) }
     {
@@ -136,6 +149,22 @@ impl Draft {
         ensures bare { result ≡ true → self.now.foot ≡ [] }
     {
         self.parts.checkpoint
+    }
+
+    // Its code, which no other draft has.
+    fn code(&self) -> &[u8]
+        ensures { result.now ≡ draft_code self.now.checkpoint self.now.foot self.now.body }
+    {
+        self.parts.code.as_slice()
+    }
+
+    // The mark of its footprint: 0 unless there is exactly one touch.
+    #[tactic(auto, using(crate::proofs::Marks::marked_is_plain))]
+    pub(crate) fn mark(&self) -> u64
+        ensures value { result ≡ foot_mark self.now.foot }
+        ensures plain { result ≢ 0 → self.now.checkpoint ≡ false }
+    {
+        self.parts.mark
     }
 
     /// The touches, at most 8, in ascending order of their keys.
@@ -166,7 +195,7 @@ impl PartialEq for Draft {
     ghost laws = { partial_equiv_from_equiv (eq_by_cmp_equiv draft_cmp_total) };
 
     fn eq(&self, other: &Draft) -> bool {
-        self.cmp(other).is_eq()
+        self.code() == other.code()
     }
 }
 
@@ -208,5 +237,15 @@ impl Ord for Draft {
             .cmp(&other.is_checkpoint())
             .then(self.foot().cmp(other.foot()))
             .then(self.body().cmp(other.body()))
+    }
+}
+
+// The mark of a footprint.
+fn mark_of(foot: &[Touch]) -> u64
+    ensures { result ≡ foot_mark foot.now }
+{
+    match foot {
+        [touch] => touch.key.mark() + 1,
+        _ => 0,
     }
 }

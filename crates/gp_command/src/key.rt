@@ -1,7 +1,8 @@
 //! Keys.
-ghost use Rattle.std.specs.Prelude.{◌≡◌, ◌↔◌, ◌≤◌, ◌-◌, ◌++◌, IsTrue, IsOk, IfOk, length, replicate};
+ghost use Rattle.std.specs.Prelude.{◌≡◌, ◌↔◌, ◌≤◌, ◌<◌, ◌-◌, ◌++◌, IsTrue, IsOk, IfOk, length, replicate};
 ghost use Rattle.std.specs.List.{list_all};
 ghost use Rattle.gp_command.specs.Key.{is_key_byte, is_key};
+ghost use Rattle.gp_command.specs.Mark.{mark_from};
 
 use std::cmp::Ordering;
 use std::marker::Model;
@@ -57,6 +58,18 @@ impl Key {
         &self.bytes[..self.len as usize]
     }
 
+    // A number that depends on the key alone, so keys with different marks differ.
+    pub(crate) fn mark(&self) -> u64
+        ensures value { result ≡ mark_from 0 self.now }
+        ensures small { result < 1000003 }
+    {
+        let mut mark = 0;
+        for b in self.as_bytes() {
+            mark = (mark * 31 + u64::from(*b)) % 1_000_003;
+        }
+        mark
+    }
+
     // The key `_`, for places of an array that hold no key yet.
     pub(crate) fn blank() -> Key {
         let mut bytes = [0; 16];
@@ -75,7 +88,7 @@ impl PartialEq for Key {
     ghost laws = { partial_equiv_from_equiv (eq_by_cmp_equiv key_cmp_total) };
 
     fn eq(&self, other: &Key) -> bool {
-        self.cmp(other).is_eq()
+        self.as_bytes() == other.as_bytes()
     }
 }
 

@@ -1,8 +1,9 @@
-//! The coordinator: it asks acceptors to join a round, chooses a safe value from what they answer,
-//! and sends it, extended by the commands that are proposed.
+//! The coordinator: it asks acceptors to join a round, picks a safe value from their answers, and
+//! sends it, extended by the commands that are proposed.
 #![tactic(auto)]
 
 mod answers;
 mod coordinator;
+mod part;
 
 pub use coordinator::Coordinator;

@@ -77,8 +77,8 @@ module _ {T : Tables} {leads : T.Round → (ℕ → Bool) → Type 0} (l : IsLaw
         (λ r x p. elim (values_back m t g b r x p) [ inl o ↦ o | inr y ↦ absurd (n y.1) ])
         (λ r a q v p. sent_before m w.sent (P1b r a q v) p) (k.coordinators b));
     learners = λ i. learner_on G (K m t) (w.learners i) (λ a r x p. p) (k.learners i);
-    taken_told = λ i r a v p. sent_before m w.sent (P2b r a v) (k.taken_told i r a v p);
-    votes_told = λ r a v p. elim (sent_now m w.sent (P2b r a v) p) [ inl e ↦ absurd (no_vote m g r a v e) | inr o ↦ k.votes_told r a v o ];
+    taken_sent = λ i r a v p. sent_before m w.sent (P2b r a v) (k.taken_sent i r a v p);
+    sent_cast = λ r a v p. elim (sent_now m w.sent (P2b r a v) p) [ inl e ↦ absurd (no_vote m g r a v e) | inr o ↦ k.sent_cast r a v o ];
   }
 
   -- moves that send no value

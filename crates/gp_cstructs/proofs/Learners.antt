@@ -85,8 +85,8 @@ module _ {T : Tables} {leads : T.Round → (ℕ → Bool) → Type 0} (l : IsLaw
     acceptors = k.acceptors;
     coordinators = k.coordinators;
     learners = set_cases (λ (j : ℕ) (u : Learner T). LearnerFacts T G u) w.learners i t kt (λ j n. k.learners j);
-    taken_told = set_cases (λ (j : ℕ) (u : Learner T). (r : T.Round) (a : ℕ) (v : T.Value) → Among u.taken (r, a, v) → Among w.sent (P2b r a v)) w.learners i t told (λ j n. k.taken_told j);
-    votes_told = k.votes_told;
+    taken_sent = set_cases (λ (j : ℕ) (u : Learner T). (r : T.Round) (a : ℕ) (v : T.Value) → Among u.taken (r, a, v) → Among w.sent (P2b r a v)) w.learners i t told (λ j n. k.taken_sent j);
+    sent_cast = k.sent_cast;
   }
 
   pub falls_after : Facts T leads (learner_now T w i (learner_opening T))
@@ -100,7 +100,7 @@ module _ {T : Tables} {leads : T.Round → (ℕ → Bool) → Type 0} (l : IsLaw
     taken = (r, a, v) ∷ s.taken
 
     voted : G.votes a r v
-    voted = k.votes_told r a v sent
+    voted = k.sent_cast r a v sent
 
     taken_cast : (j : T.Round) (b : ℕ) (x : T.Value) → Among taken (j, b, x) → G.votes b j x
     taken_cast j b x p = elim p [
@@ -108,10 +108,10 @@ module _ {T : Tables} {leads : T.Round → (ℕ → Bool) → Type 0} (l : IsLaw
       | inr n ↦ ks.taken_cast j b x n
     ]
 
-    taken_told : (j : T.Round) (b : ℕ) (x : T.Value) → Among taken (j, b, x) → Among w.sent (P2b j b x)
-    taken_told j b x p = elim p [
+    taken_sent : (j : T.Round) (b : ℕ) (x : T.Value) → Among taken (j, b, x) → Among w.sent (P2b j b x)
+    taken_sent j b x p = elim p [
       | inl e ↦ subst (λ (y : T.Round × ℕ × T.Value). Among w.sent (P2b y.0 y.1 y.2)) e sent
-      | inr n ↦ k.taken_told i j b x n
+      | inr n ↦ k.taken_sent i j b x n
     ]
 
     newer_is : (o : Option T.Value) → (newer T o v ≡ v) ⊎ (o ≡ Some (newer T o v))
@@ -238,9 +238,9 @@ module _ {T : Tables} {leads : T.Round → (ℕ → Bool) → Type 0} (l : IsLaw
             (ks.whole_learned j u (subst (λ (g : ℕ → Option T.Value). Among (T.acceptor_meets j g) u) (other_round j n) m)) left
 
   pub takes_after : (m : Message T) → Among w.sent m → Facts T leads (learner_now T w i (learner_take T s m))
-  takes_after (Propose d) p = moves s ks (k.taken_told i)
-  takes_after (P1a r) p = moves s ks (k.taken_told i)
-  takes_after (P1b r b q v) p = moves s ks (k.taken_told i)
-  takes_after (P2a r c v) p = moves s ks (k.taken_told i)
+  takes_after (Propose d) p = moves s ks (k.taken_sent i)
+  takes_after (P1a r) p = moves s ks (k.taken_sent i)
+  takes_after (P1b r b q v) p = moves s ks (k.taken_sent i)
+  takes_after (P2a r c v) p = moves s ks (k.taken_sent i)
   takes_after (P2b r b v) p = cond_cases (λ (t : Learner T). Facts T leads (learner_now T w i t)) (nat_lt b T.acceptors) _ _
-      (λ e. moves (next r b v p) (next_keeps r b v p) (taken_told r b v p)) (λ e. moves s ks (k.taken_told i))
+      (λ e. moves (next r b v p) (next_keeps r b v p) (taken_sent r b v p)) (λ e. moves s ks (k.taken_sent i))

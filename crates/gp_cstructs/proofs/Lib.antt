@@ -16,7 +16,4 @@ pub mod Chosen
 pub mod Learners
 pub mod Runs
 pub mod OfferedCommands
-pub mod Identities
-pub mod LegalRuns
 pub mod Votes
-pub mod LegalAgreement

@@ -191,9 +191,9 @@ module _ {T : Tables} {leads : T.Round → (ℕ → Bool) → Type 0} (l : IsLaw
       acceptors = set_cases (λ (b : ℕ) (s : Acceptor T). AcceptorFacts T K b s) w.acceptors a t own others;
       coordinators = λ c. coordinator_on G K c (w.coordinators c) (λ r x. values_on c r x) (λ r x. values_back c r x) (λ r b q v p. sent_before m w.sent (P1b r b q v) p) (k.coordinators c);
       learners = λ i. learner_on G K (w.learners i) votes_on (k.learners i);
-      taken_told = λ i r b v p. sent_before m w.sent (P2b r b v) (k.taken_told i r b v p);
-      votes_told = λ r b v p. elim (sent_now m w.sent (P2b r b v) p) [
+      taken_sent = λ i r b v p. sent_before m w.sent (P2b r b v) (k.taken_sent i r b v p);
+      sent_cast = λ r b v p. elim (sent_now m w.sent (P2b r b v) p) [
         | inl e ↦ tells r b v m turn.says e
-        | inr o ↦ votes_on b r v (k.votes_told r b v o)
+        | inr o ↦ votes_on b r v (k.sent_cast r b v o)
       ];
     }

@@ -66,8 +66,8 @@ module _ {T : Tables} {leads : T.Round → (ℕ → Bool) → Type 0} (l : IsLaw
       awake_late = λ a. absurd (cc);
     };
     learners = λ i. learners.opens l (ledger_of T (start T));
-    taken_told = λ i r a v p. elim p [ ];
-    votes_told = λ r a v p. elim p [ ];
+    taken_sent = λ i r a v p. elim p [ ];
+    sent_cast = λ r a v p. elim p [ ];
   }
 
   module _ (w : System T) (k : Facts T leads w) where
@@ -87,8 +87,8 @@ module _ {T : Tables} {leads : T.Round → (ℕ → Bool) → Type 0} (l : IsLaw
           acceptors = λ a. acceptor_on G K a (w.acceptors a) (λ r x p. p) (λ r x p. p) (λ c r x p. inr p) (k.acceptors a);
           coordinators = λ c. coordinator_on G K c (w.coordinators c) (λ r x p. inr p) (λ r x p. elim p [ inl e ↦ absurd (cc) | inr n ↦ n ]) (λ r a q v p. inr p) (k.coordinators c);
           learners = λ i. learner_on G K (w.learners i) (λ a r x p. p) (k.learners i);
-          taken_told = λ i r a v p. inr (k.taken_told i r a v p);
-          votes_told = λ r a v p. elim p [ inl e ↦ absurd (cc) | inr n ↦ k.votes_told r a v n ];
+          taken_sent = λ i r a v p. inr (k.taken_sent i r a v p);
+          sent_cast = λ r a v p. elim p [ inl e ↦ absurd (cc) | inr n ↦ k.sent_cast r a v n ];
         }
 
     -- each event keeps the facts, from any system that has them

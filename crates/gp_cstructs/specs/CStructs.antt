@@ -6,7 +6,7 @@ abbrev pub Among : {X : Type 0} → List X → X → Type 0
 Among [] x = ⊥
 Among (y ∷ ys) x = (y ≡ x) ⊎ Among ys x
 
--- which value is a prefix of which, the empty value, meets and joins, a value with a command behind all others, whether a command is in a value, and how many are
+-- which value is a prefix of which, the empty value, meets and joins, a value with a command after all others, whether a command is in a value, and how many are
 pub record Operations (V C : Type 0) : Type 1 where
   pub prefix : V → V → Type 0
   pub empty : V

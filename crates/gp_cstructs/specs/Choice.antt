@@ -38,7 +38,7 @@ lowest f (suc n) = first_of_both (lowest f n) (f n)
 abbrev pub counting_values : {V : Type 0} → (V → V → V) → ℕ → (ℕ → Option (Round × V)) → Round → List V
 counting_values meet n f k = quorum_meets meet (votes_at k f) (answers_by f) n (masks n (quorum_size n k.mode))
 
--- their join, or where there is none the vote of the lowest acceptor that answered round k
+-- their join, or if there are none the vote of the lowest acceptor that answered round k
 abbrev pub choice_at : {V : Type 0} → V → (V → V → V) → (V → V → V) → ℕ → (ℕ → Option (Round × V)) → Round → Option V
 choice_at empty meet join n f k = first_of_both (all_joined empty join (counting_values meet n f k)) (lowest (votes_at k f) n)
 

@@ -1,4 +1,4 @@
--- What a coordinator keeps, and what it does. What is pending stands beside it.
+-- What a coordinator keeps, and what it does. What is pending is kept beside it.
 use Rattle.std.specs.Prelude.{ℕ, Bool, true, false, cond, not, ◌&&◌, nat_lt, List, [], Option, Some, None}
 use Rattle.gp_cstructs.specs.Tables.{Tables, Message, Propose, P1a, P1b, P2a, P2b, nothing, set_at, is_missing, pushes}
 
@@ -20,7 +20,7 @@ begun T r = record { round = r; awake = true; answers = nothing; value = None }
 abbrev pub coordinator_begin : (T : Tables) → Coordinator T → T.Round → Coordinator T × Option (Message T)
 coordinator_begin T s r = cond (T.earlier s.round r) (begun T r, Some (P1a r)) (s, None)
 
--- with these answers: a quorum gives the value, the safe choice with these commands behind it
+-- with these answers: a quorum gives the value, the safe choice with these commands pushed
 abbrev pub answered : (T : Tables) → ℕ → Coordinator T → (ℕ → Option (T.Round × T.Value)) → List T.Command → Coordinator T × Option (Message T)
 answered T c s f cs =
     cond (T.is_enough f)
@@ -39,7 +39,7 @@ extended T c s (Some w) d =
 abbrev pub expects : (T : Tables) → Coordinator T → T.Round → ℕ → Bool
 expects T s r a = s.awake && T.same r s.round && is_missing s.value && nat_lt a T.acceptors && is_missing (s.answers a)
 
--- coordinator c takes a message; these commands stand behind a value that it makes
+-- coordinator c takes a message; it pushes these commands onto a value that it chooses
 abbrev pub coordinator_take : (T : Tables) → ℕ → Coordinator T → Message T → List T.Command → Coordinator T × Option (Message T)
 coordinator_take T c s (Propose d) cs = extended T c s s.value d
 coordinator_take T c s (P1a r) cs = cond (T.multi r && T.earlier s.round r) (begun T r, None) (s, None)

@@ -153,6 +153,6 @@ pub record Facts (T : Tables) (leads : T.Round → (ℕ → Bool) → Type 0) (w
   pub acceptors : (a : ℕ) → AcceptorFacts T (ledger_of T w) a (w.acceptors a)
   pub coordinators : (c : ℕ) → CoordinatorFacts T (ledger_of T w) c (w.coordinators c)
   pub learners : (i : ℕ) → LearnerFacts T (ledger_of T w) (w.learners i)
-  -- each vote that a learner took was told, and each that was told was cast
-  pub taken_told : (i : ℕ) (r : T.Round) (a : ℕ) (v : T.Value) → Among (w.learners i).taken (r, a, v) → Among w.sent (P2b r a v)
-  pub votes_told : (r : T.Round) (a : ℕ) (v : T.Value) → Among w.sent (P2b r a v) → IsVote T w.cast a r v
+  -- each vote that a learner took was sent, and each that was sent was cast
+  pub taken_sent : (i : ℕ) (r : T.Round) (a : ℕ) (v : T.Value) → Among (w.learners i).taken (r, a, v) → Among w.sent (P2b r a v)
+  pub sent_cast : (r : T.Round) (a : ℕ) (v : T.Value) → Among w.sent (P2b r a v) → IsVote T w.cast a r v

@@ -12,6 +12,3 @@ pub mod LooseAgreement
 pub mod Meets
 pub mod Choice
 pub mod Protocol
-pub mod Legal
-pub mod LegalRuns
-pub mod Agreement

@@ -1,4 +1,4 @@
--- Loose lists of events, newest first, and the system after them. An event names the message itself that is taken, which may be any that stands, and the commands that a coordinator pushes may be any that were proposed.
+-- Loose lists of events, newest first, and the system after them. An event names the message itself that is taken, which may be any that was sent, and the commands that a coordinator pushes may be any that were proposed.
 use Rattle.std.specs.Prelude.{◌<◌, ℕ, List, [], ◌∷◌, Option, Some, None}
 use Rattle.gp_cstructs.specs.CStructs.{Among}
 use Rattle.gp_cstructs.specs.Tables.{Tables, Message, Propose, set_at}
@@ -85,13 +85,13 @@ abbrev pub run : (T : Tables) → List (Event T) → System T
 run T [] = start T
 run T (e ∷ es) = happens T (run T es) e
 
--- the message that a fall keeps stands
+-- the message that a fall keeps was sent
 abbrev pub kept_stands : (T : Tables) → List (Message T) → Kept T → Type 0
 kept_stands T sent KeptNothing = Unit {0}
 kept_stands T sent (KeptBegin r) = Unit {0}
 kept_stands T sent (KeptTake m) = Among sent m
 
--- the event may happen next: its node is known, its message stands, and what a coordinator may push was proposed
+-- the event may happen next: its node is known, its message was sent, and what a coordinator may push was proposed
 abbrev pub Fits : (T : Tables) → System T → Event T → Type 0
 Fits T w (Offer d) = Unit {0}
 Fits T w (Begin c r) = c < T.coordinators

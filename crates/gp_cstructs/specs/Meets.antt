@@ -2,14 +2,14 @@
 use Rattle.std.specs.Prelude.{ℕ, zero, suc, Bool, true, cond, ◌&&◌, List, [], ◌∷◌, Option, Some, None}
 use Rattle.gp_round.specs.Sets.{bit}
 
--- what was gathered so far with one more: None where a value is missing, Some None where there was no member yet
+-- what was gathered so far with one more: None if a value is missing, Some None if there was no member yet
 abbrev pub with_one : {V : Type 0} → (V → V → V) → Option V → Option (Option V) → Option (Option V)
 with_one meet None g = None
 with_one meet (Some v) None = None
 with_one meet (Some v) (Some None) = Some (Some v)
 with_one meet (Some v) (Some (Some m)) = Some (Some (meet m v))
 
--- over the numbers below n that pass a test: None where one has no value, Some None where none passes, else the meet
+-- over the numbers below n that pass a test: None if one of them has no value, Some None if none passes, and otherwise the meet
 abbrev pub gathered : {V : Type 0} → (V → V → V) → (ℕ → Option V) → (ℕ → Bool) → ℕ → Option (Option V)
 gathered meet f p zero = Some None
 gathered meet f p (suc n) = cond (p n) (with_one meet (f n) (gathered meet f p n)) (gathered meet f p n)

@@ -41,7 +41,7 @@ Safe {Rd} {V} lt prefix n size votes past w r = (j : Rd) → lt j r → (x : V) 
 
 -- ---- the choice from answers
 
--- what is true where a answers round r with v, its last vote, of round q
+-- what is true if a answers round r with v, its last vote, of round q
 pub record Answered {Rd V : Type 0} (lt : Rd → Rd → Type 0) (prefix : V → V → Type 0) (votes : ℕ → Rd → V → Type 0) (past : ℕ → Rd → Type 0) (r : Rd) (a : ℕ) (q : Rd) (v : V) : Type 0 where
   pub below : lt q r
   pub ended : (j : Rd) → lt j r → past a j
@@ -72,7 +72,7 @@ pub record AreCountingValues {Rd V : Type 0} (prefix : V → V → Type 0) (n : 
   pub each : (R : ℕ → Bool) → IsCounting n size Q q k R → (m : V) × Among vs m × IsValueOf prefix n Q v R m
   pub only : (m : V) → Among vs m → (R : ℕ → Bool) × IsCounting n size Q q k R × IsValueOf prefix n Q v R m
 
--- p is the join of these values, or where there is none the vote of an acceptor that answered k
+-- p is the join of these values, or if there are none the vote of an acceptor that answered k
 abbrev pub IsChoice : {Rd V : Type 0} → V → (V → V → V) → ℕ → (ℕ → Bool) → (ℕ → Rd) → (ℕ → V) → Rd → List V → V → Type 0
 IsChoice empty join n Q q v k [] p = (a : ℕ) × (a < n) × (Q a ≡ true) × (q a ≡ k) × (v a ≡ p)
 IsChoice empty join n Q q v k (h ∷ hs) p = join_all empty join (h ∷ hs) ≡ p

@@ -1,19 +1,16 @@
-//! Laws of the protocol. Each function does nothing, and its contract is the law.
+//! Laws of the protocol, within one epoch. Each function does nothing, and its contract is the law.
 //!
-//! In each, `T` has the tables over a kind of c-structs, for `a` acceptors and `c` coordinators. What
-//! rests on quorums that meet asks for one acceptor.
-ghost use Rattle.std.specs.Prelude.{◌≡◌, ◌<◌, ◌≤◌, ℕ, Bool, true, false, List, slice_get, Option, Some};
+//! In each law `T` has the tables over a kind of c-structs, for `a` acceptors and `c` coordinators. A law
+//! that rests on quorums that meet has the premise that there is an acceptor.
+ghost use Rattle.std.specs.Prelude.{◌≡◌, ◌<◌, ℕ, true, false, List, Option, Some};
 ghost use Rattle.gp_round.specs.declared.round.Round.{Round};
 ghost use Rattle.gp_cstructs.specs.CStructs.{Among, Compatible};
-ghost use Rattle.gp_cstructs.specs.Tables.{Propose, P1b};
+ghost use Rattle.gp_cstructs.specs.Tables.{P1b};
 ghost use Rattle.gp_cstructs.specs.Loose.{Event, System, Fits, Loose, happens, run};
 ghost use Rattle.gp_cstructs.specs.Facts.{Facts, IsVote, HadVote, IsSafe, IsChosen, ledger_of};
 ghost use Rattle.gp_cstructs.specs.Offered.{AllOffered};
 ghost use Rattle.gp_cstructs.specs.LooseAgreement.{AgreesLoosely};
 ghost use Rattle.gp_cstructs.specs.Protocol.{Leads, protocol};
-ghost use Rattle.gp_cstructs.specs.Legal.{Record, Legal, clients, messages, offers_at};
-ghost use Rattle.gp_cstructs.specs.LegalRuns.{Matches, events_of};
-ghost use Rattle.gp_cstructs.specs.Agreement.{Agrees};
 
 use crate::cstructs::CStructs;
 
@@ -25,7 +22,7 @@ pub fn each_step_keeps_the_facts<V: CStructs>()
         (w : System T) (e : Event T) → AllOffered T w → Fits T w e → AllOffered T (happens T w e) }
 {}
 
-/// After each loose list all facts hold.
+/// All facts hold after a loose list.
 pub fn loose_lists_have_the_facts<V: CStructs>()
     ensures facts { (a c : ℕ) → 0 < a → let T = protocol V.operations a c in
         (es : List (Event T)) → Loose T es → Facts T (Leads c) (run T es) }
@@ -33,7 +30,7 @@ pub fn loose_lists_have_the_facts<V: CStructs>()
         (es : List (Event T)) → Loose T es → AllOffered T (run T es) }
 {}
 
-/// The votes that the facts speak of are those that an acceptor had after some number of events.
+/// The votes that the facts speak of are those that an acceptor had at some moment of the list.
 pub fn votes_are_those_that_an_acceptor_had<V: CStructs>()
     ensures only { (a c : ℕ) → let T = protocol V.operations a c in
         (es : List (Event T)) (i : ℕ) (r : Round) (x : V) → IsVote T (run T es).cast i r x → HadVote T es i r x }
@@ -58,7 +55,7 @@ pub fn votes_of_a_round_are_compatible<V: CStructs>()
         → Compatible T.prefix x y }
 {}
 
-/// Two chosen values, at any rounds, are compatible.
+/// Two chosen values, in any rounds, are compatible.
 pub fn chosen_values_are_compatible<V: CStructs>()
     ensures { (a c : ℕ) → 0 < a → let T = protocol V.operations a c in
         (w : System T) → Facts T (Leads c) w
@@ -66,39 +63,8 @@ pub fn chosen_values_are_compatible<V: CStructs>()
         → Compatible T.prefix x y }
 {}
 
-/// Whatever a loose list does, what learners show agrees.
+/// What learners show in a loose list agrees.
 pub fn loose_lists_agree<V: CStructs>()
     ensures { (a c : ℕ) → 0 < a → let T = protocol V.operations a c in
         (es : List (Event T)) → Loose T es → AgreesLoosely T es }
-{}
-
-/// Each legal list is a loose list, with the same states of all nodes and the same messages.
-pub fn legal_lists_are_loose<V: CStructs>()
-    ensures loose { (a c : ℕ) → let T = protocol V.operations a c in
-        (proposers learners : ℕ) (owns : ℕ → Round → Bool) → let D = clients T V.Draft V.make V.same owns proposers learners in
-        (records : List (Record T D)) → Legal T D records → Loose T (events_of T D records) }
-    ensures same { (a c : ℕ) → let T = protocol V.operations a c in
-        (proposers learners : ℕ) (owns : ℕ → Round → Bool) → let D = clients T V.Draft V.make V.same owns proposers learners in
-        (records : List (Record T D)) → Legal T D records → Matches T D records (run T (events_of T D records)) }
-{}
-
-/// Each command is proposed once: no two Propose messages have one identity, and none has a number
-/// above its proposer's count of offers.
-pub fn commands_are_proposed_once<V: CStructs>()
-    ensures numbered { (a c : ℕ) → let T = protocol V.operations a c in
-        (proposers learners : ℕ) (owns : ℕ → Round → Bool) → let D = clients T V.Draft V.make V.same owns proposers learners in
-        (records : List (Record T D)) → Legal T D records
-        → (d : V.Command) → Among (messages T D records) (Propose d) → V.number_of d ≤ offers_at T D (V.proposer_of d) records }
-    ensures once { (a c : ℕ) → let T = protocol V.operations a c in
-        (proposers learners : ℕ) (owns : ℕ → Round → Bool) → let D = clients T V.Draft V.make V.same owns proposers learners in
-        (records : List (Record T D)) → Legal T D records
-        → (i j : ℕ) (d e : V.Command) → slice_get (messages T D records) i ≡ Some (Propose d) → slice_get (messages T D records) j ≡ Some (Propose e)
-        → V.proposer_of d ≡ V.proposer_of e → V.number_of d ≡ V.number_of e → i ≡ j }
-{}
-
-/// Whatever a legal list of records does, what learners show agrees.
-pub fn legal_lists_agree<V: CStructs>()
-    ensures { (a c : ℕ) → 0 < a → let T = protocol V.operations a c in
-        (proposers learners : ℕ) (owns : ℕ → Round → Bool) → let D = clients T V.Draft V.make V.same owns proposers learners in
-        (records : List (Record T D)) → Legal T D records → Agrees T D records }
 {}

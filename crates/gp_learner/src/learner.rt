@@ -1,99 +1,116 @@
 //! What a learner keeps, and what it does.
-ghost use Rattle.std.specs.Prelude.{◌≡◌, ◌<◌, [], map, Some, IfOk, OnOk, OnErr, unwrap_or};
-ghost use Rattle.std.specs.Option.{option_map};
+ghost use Rattle.std.specs.Prelude.{◌≡◌, ◌<◌, ◌^◌, ◌-◌, ◌∷◌, [], suc, map, IfOk, OnOk, OnErr};
+ghost use Rattle.std.specs.Option.{option_to_list};
 ghost use Rattle.gp_history.specs.Sequence.{history_of};
-ghost use Rattle.gp_msg.specs.Messages.{message_of, Voted};
-ghost use Rattle.gp_safe.specs.Held.{newer};
-ghost use Rattle.gp_learner.specs.Table.{opening, learner_take, learner_fall, learned_with, heard, vote_of, votes_held};
+ghost use Rattle.gp_epoch.specs.Cut.{cut};
+ghost use Rattle.gp_msg.specs.Messages.{message_of, epoch_of, Voted, Final};
+ghost use Rattle.gp_learner.specs.Table as table;
+ghost use Rattle.gp_learner.specs.Table.{learner_take};
+ghost use Rattle.gp_learner.specs.Epochs.{LearnerInEpoch, opening, take, hearing, passed, fall};
 
-use crate::votes::{HeldVote, Votes, held_of, hold};
+use crate::part::Part;
+use gp_bounds::join;
 use gp_command::NoMemory;
-use gp_history::{Hist, SeqHistory};
+use gp_epoch::{cut, first_checkpoint};
+use gp_history::Hist;
+use gp_index::History;
 use gp_msg::{Msg, Outs};
 use gp_round::{Config, Round};
-use gp_safe::{Replaced, join_meets_onto, newer};
 use std::alloc::Global;
-use std::collections::BTreeMap;
 use std::marker::Model;
 
-/// A learner: the votes that it holds, and what it learned from them.
+/// A learner: its epoch, its part, which is what it learned there, and what it learned in all epochs.
 ///
-/// What all members of a quorum voted in a round, the meet of their votes, is chosen, and a learner
-/// that holds these votes learns it (Lamport, *Generalized Consensus and Paxos*, 2005). Nothing of a
-/// learner is durable.
+/// What all members of a quorum voted for in a round, the meet of their votes, is chosen, and a learner
+/// that holds these votes learns it (Lamport, *Generalized Consensus and Paxos*, 2005). A learned
+/// checkpoint closes the epoch. Nothing of a learner survives a crash.
 #[derive(Drop, Debug)]
 pub struct Learner {
     alloc: Global,
-    config: Config,
-    number: u32,
-    votes: BTreeMap<(Round, u32), HeldVote>,
-    learned: SeqHistory,
+    epoch: u32,
+    part: Part,
+    learned: History,
 }
 
 impl Model for Learner {
+    ghost use Rattle.std.specs.Prelude.{◌≡◌, None};
     ghost use Rattle.gp_history.specs.Sequence.{history_of};
-    ghost use Rattle.gp_learner.specs.State.{LearnerState, state_code};
-    ghost use Rattle.gp_learner.specs.UpToDate.{IsUpToDate};
+    ghost use Rattle.gp_history.specs.Bounds.{join};
+    ghost use Rattle.gp_epoch.specs.Cut.{first_checkpoint};
+    ghost use Rattle.gp_learner.specs.Epochs.{LearnerInEpoch, epoch_code};
 
-    ghost Value = { LearnerState };
+    ghost Value = { LearnerInEpoch };
 
-    ghost coded = { state_code };
+    ghost coded = { epoch_code };
 
-    ghost view = { λ l. record { config = l.config; number = l.number; votes = l.votes.entries; learned = history_of l.learned } };
+    ghost view = { λ l. record { epoch = l.epoch; state = l.part; learned = history_of l.learned } };
 
-    ghost invariant = { λ l. IsUpToDate l.config.acceptors l.votes.entries (history_of l.learned) };
+    ghost invariant = { λ l. (first_checkpoint l.part.learned ≡ None) × (join (history_of l.learned) l.part.learned ≡ history_of l.learned) };
 }
 
 impl Learner {
-    /// A learner that was told nothing. `number` is its number among the learners, from 0.
-    #[tactic(auto, using(crate::proofs::Learning::history_of_nothing, crate::proofs::StaysUpToDate::up_to_date_at_start))]
+    /// A learner that has heard nothing: it is in epoch 0. `number` is its number among the learners, from 0.
+    #[tactic(auto, using(crate::proofs::Learning::history_of_nothing))]
     pub fn new(alloc: Global, config: &Config, number: u32) -> Result<Learner, NoMemory>
         ensures { IfOk result (λ l. l ≡ opening config.now number) }
     {
         Ok(Learner {
             alloc,
-            config: *config,
-            number,
-            votes: BTreeMap::new(alloc),
-            learned: SeqHistory::empty(alloc)?,
+            epoch: 0,
+            part: Part::new(alloc, config, number)?,
+            learned: History::empty(alloc)?,
         })
     }
 
-    /// What is learned so far. It takes no memory.
-    pub fn learned(&self) -> &SeqHistory
+    /// What it learned so far, in all epochs. It takes no memory.
+    pub fn learned(&self) -> &History
         ensures { history_of result.now ≡ self.now.learned }
     {
         &self.learned
     }
 
-    /// Takes a message. It sends nothing, and only votes of acceptors of the configuration change it.
+    /// Takes a message, and returns what it sends for it: at most the Final of its epoch. If memory runs
+    /// out, the learner stays unchanged.
     ///
-    /// A vote is held where none of its acceptor in its round is held, or one with fewer commands. Of
-    /// the least quorums of that round, those count of which a vote of each member is held, and the join
-    /// of the meets of their votes is joined to what is learned. Where memory runs out the learner stays
-    /// as it was.
+    /// Only votes of acceptors of the configuration and Finals change it, both of its epoch. It holds a
+    /// vote if it holds none of that acceptor in that round, or one with fewer commands. Of the least
+    /// quorums of that round those count of which each member's vote is held, and the join of the meets of
+    /// their votes is joined to its part.
+    ///
+    /// A part without a checkpoint is joined to what it learned. A part with one closes the epoch: the
+    /// learner sends a Final with the cut of the part at its first checkpoint, and joins the cut to what it
+    /// learned. A Final that it takes is joined in the same way, and sends nothing. After either the learner
+    /// is in the next epoch, and holds no vote.
     pub fn take(&mut self, m: &Msg) -> Result<Outs, NoMemory>
-        ensures next { OnOk result (self.new ≡ learner_take self.old (message_of m.now)) }
-        ensures sent { IfOk result (λ outs. map message_of outs ≡ []) }
+        requires { epoch_of (message_of m.now) < 2 ^ 32 - 1 }
+        ensures next { OnOk result (self.new ≡ (take self.old (message_of m.now)).0) }
+        ensures sent { IfOk result (λ outs. map message_of outs ≡ option_to_list (take self.old (message_of m.now)).1) }
         ensures unchanged { OnErr result (self.new ≡ self.old) }
     {
-        if let Msg::P2b {
-            round,
-            acceptor,
-            vote,
-        } = m
-        {
-            self.take_vote(*round, *acceptor, vote)?;
+        match m {
+            Msg::P2b {
+                epoch,
+                round,
+                acceptor,
+                vote,
+            } if *epoch == self.epoch && self.part.knows(*acceptor) => {
+                self.hear(*round, *acceptor, vote)
+            }
+            Msg::Final { epoch, value, .. } if *epoch == self.epoch => {
+                self.pass(value)?;
+                Ok(Outs::new(self.alloc))
+            }
+            _ => Ok(Outs::new(self.alloc)),
         }
-        Ok(Outs::new(self.alloc))
     }
 
-    /// Crashes and starts again: what was held and learned is lost. It takes no memory.
-    #[tactic(auto, using(crate::proofs::Learning::history_of_nothing, crate::proofs::StaysUpToDate::up_to_date_at_start))]
+    /// Crashes and restarts in epoch 0: all that it held and learned is lost. It takes no memory.
+    #[tactic(auto, using(crate::proofs::Learning::history_of_nothing))]
     pub fn fall(&mut self)
-        ensures { self.new ≡ learner_fall self.old }
+        ensures { self.new ≡ fall self.old }
     {
-        self.votes.clear();
+        self.epoch = 0;
+        self.part.clear();
         self.learned.clear();
     }
 
@@ -103,52 +120,74 @@ impl Learner {
     {
         Ok(Learner {
             alloc: self.alloc,
-            config: self.config,
-            number: self.number,
-            votes: self.votes.clone()?,
+            epoch: self.epoch,
+            part: self.part.copy()?,
             learned: self.learned.copy()?,
         })
     }
 
-    // Takes a vote of an acceptor. All memory is taken before anything changes. A vote that is not to
-    // be held changes nothing, since what the quorums of its round voted is learned already.
-    fn take_vote(&mut self, round: Round, acceptor: u32, vote: &SeqHistory) -> Result<(), NoMemory>
-        ensures next { OnOk result (self.new ≡ learner_take self.old (Voted round acceptor (history_of vote.now))) }
+    // Enters the next epoch with the value that closes its own. If memory runs out, nothing changes.
+    fn pass(&mut self, value: &History) -> Result<(), NoMemory>
+        requires room { self.old.epoch < 2 ^ 32 - 1 }
+        ensures next { OnOk result (self.new ≡ passed self.old (history_of value.now)) }
         ensures unchanged { OnErr result (self.new ≡ self.old) }
     {
-        if acceptor < self.config.acceptors() {
-            let held = held_of(&self.votes, round, acceptor);
-            if let Some(vote) = newer(held, vote)? {
-                let learned = self.learned_with(round, acceptor, &vote)?;
-                hold(&mut self.votes, round, acceptor, vote)?;
-                if let Some(learned) = learned {
-                    self.learned = learned;
-                }
-            }
-        }
+        let learned = join(self.alloc, &self.learned, value)?;
+        self.enter(learned);
         Ok(())
     }
 
-    // What is learned once a vote is held too, where it is more than before.
-    fn learned_with(
-        &self,
-        round: Round,
-        acceptor: u32,
-        vote: &SeqHistory,
-    ) -> Result<Option<SeqHistory>, NoMemory>
-        ensures { IfOk result (λ l. unwrap_or (option_map history_of l) self.now.learned ≡ learned_with self.now.learned (heard self.now.config.acceptors round (vote_of (votes_held self.now.votes round acceptor (Some (history_of vote.now))) round))) }
+    // Closes the epoch with the cut of a part that has a checkpoint. If memory runs out, nothing changes.
+    fn close(&mut self, part: &History) -> Result<Outs, NoMemory>
+        requires room { self.old.epoch < 2 ^ 32 - 1 }
+        ensures next { OnOk result (self.new ≡ passed self.old (cut (history_of part.now))) }
+        ensures sent { IfOk result (λ outs. map message_of outs ≡ Final self.old.epoch self.old.state.number (cut (history_of part.now)) ∷ []) }
+        ensures unchanged { OnErr result (self.new ≡ self.old) }
     {
-        let votes = Votes {
-            votes: &self.votes,
-            round,
+        let value = cut(self.alloc, part)?;
+        let learned = join(self.alloc, &self.learned, &value)?;
+        let mut outs = Outs::new(self.alloc);
+        outs.push(Msg::Final {
+            epoch: self.epoch,
+            learner: self.part.number(),
+            value,
+        })?;
+        self.enter(learned);
+        Ok(outs)
+    }
+
+    // Enters the next epoch, in which it has heard nothing, with what it learned in all. It takes no memory.
+    fn enter(&mut self, learned: History)
+        requires { self.old.epoch < 2 ^ 32 - 1 }
+        ensures { ◌≡◌ {A = LearnerInEpoch} self.new (record { epoch = suc self.old.epoch; state = table.opening self.old.state.config self.old.state.number; learned = history_of learned }) }
+    {
+        self.epoch += 1;
+        self.part.clear();
+        self.learned = learned;
+    }
+
+    // Takes a vote of its epoch. All memory is taken before anything changes. A vote that is not to be
+    // held changes nothing, since what the quorums of its round voted for is learned already.
+    fn hear(&mut self, round: Round, acceptor: u32, vote: &History) -> Result<Outs, NoMemory>
+        requires room { self.old.epoch < 2 ^ 32 - 1 }
+        requires known { acceptor < self.old.state.config.acceptors }
+        ensures next { OnOk result (self.new ≡ (hearing self.old (learner_take self.old.state (Voted round acceptor (history_of vote.now)))).0) }
+        ensures sent { IfOk result (λ outs. map message_of outs ≡ option_to_list (hearing self.old (learner_take self.old.state (Voted round acceptor (history_of vote.now)))).1) }
+        ensures unchanged { OnErr result (self.new ≡ self.old) }
+    {
+        let Some(vote) = self.part.to_hold(round, acceptor, vote)? else {
+            return Ok(Outs::new(self.alloc));
         };
-        let held = Replaced {
-            values: &votes,
-            sender: acceptor,
-            value: Some(vote),
+        let Some(part) = self.part.learned_with(round, acceptor, &vote)? else {
+            self.part.hold(round, acceptor, vote, None)?;
+            return Ok(Outs::new(self.alloc));
         };
-        let n = self.config.acceptors();
-        let size = self.config.quorum(round.mode);
-        join_meets_onto(self.alloc, &self.learned, &held, n, size)
+        if first_checkpoint(&part).is_some() {
+            return self.close(&part);
+        }
+        let learned = join(self.alloc, &self.learned, &part)?;
+        self.part.hold(round, acceptor, vote, Some(part))?;
+        self.learned = learned;
+        Ok(Outs::new(self.alloc))
     }
 }

@@ -2,20 +2,23 @@
 ghost use Rattle.std.specs.Prelude.{◌≡◌, IfOk};
 
 use gp_command::NoMemory;
-use gp_history::{Hist, SeqHistory};
+use gp_history::Hist;
+use gp_index::History;
 use gp_round::Round;
 
 /// The part of a node's state that survives a crash. Learners and proposers have none.
 #[derive(Drop, Debug)]
 pub enum Durable {
-    /// The acceptor's round, the round of its last vote, and that vote.
+    /// The epoch of an acceptor, its round, the round of its last vote in that epoch, and that vote.
     Acceptor {
+        epoch: u32,
         round: Round,
         voted: Round,
-        vote: SeqHistory,
+        vote: History,
     },
-    /// The coordinator's round.
+    /// The epoch of a coordinator, and its round there.
     Coordinator {
+        epoch: u32,
         round: Round,
     },
 }
@@ -26,12 +29,21 @@ impl Durable {
         ensures { IfOk result (λ copy. copy ≡ self.now) }
     {
         match self {
-            Durable::Acceptor { round, voted, vote } => Ok(Durable::Acceptor {
+            Durable::Acceptor {
+                epoch,
+                round,
+                voted,
+                vote,
+            } => Ok(Durable::Acceptor {
+                epoch: *epoch,
                 round: *round,
                 voted: *voted,
                 vote: vote.copy()?,
             }),
-            Durable::Coordinator { round } => Ok(Durable::Coordinator { round: *round }),
+            Durable::Coordinator { epoch, round } => Ok(Durable::Coordinator {
+                epoch: *epoch,
+                round: *round,
+            }),
         }
     }
 }

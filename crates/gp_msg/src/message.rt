@@ -3,39 +3,51 @@ ghost use Rattle.std.specs.Prelude.{◌≡◌, IfOk};
 ghost use Rattle.gp_msg.specs.Reads.{kind_of};
 
 use gp_command::{Command, NoMemory};
-use gp_history::{Hist, SeqHistory};
+use gp_history::Hist;
+use gp_index::History;
 use gp_round::Round;
 
-/// What nodes tell each other. A message has no address: every node may take it, any number of times
-/// or never.
+/// What nodes send. A message has no address: every node may take it, any number of times or never.
+/// A proposal is of no epoch, and every other message is of one.
 #[derive(Drop, Debug)]
 pub enum Msg {
     /// A proposer offers a command.
     Propose {
         command: Command,
     },
-    /// A coordinator asks the acceptors to join a round: the first phase begins.
+    /// A coordinator asks the acceptors to join a round: phase 1 begins.
     P1a {
+        epoch: u32,
         round: Round,
     },
-    /// An acceptor joins a round, and tells the last round in which it voted and its vote there.
+    /// An acceptor joins a round, and answers with the last round of the epoch in which it voted and its
+    /// vote there.
     P1b {
+        epoch: u32,
         round: Round,
         acceptor: u32,
         voted: Round,
-        vote: SeqHistory,
+        vote: History,
     },
-    /// A coordinator asks the acceptors of a round to vote: the second phase.
+    /// A coordinator asks the acceptors of a round to vote for a value: phase 2.
     P2a {
+        epoch: u32,
         round: Round,
         coordinator: u32,
-        value: SeqHistory,
+        value: History,
     },
     /// An acceptor votes in a round.
     P2b {
+        epoch: u32,
         round: Round,
         acceptor: u32,
-        vote: SeqHistory,
+        vote: History,
+    },
+    /// A learner closes an epoch with the value that it learned there, up to the first checkpoint.
+    Final {
+        epoch: u32,
+        learner: u32,
+        value: History,
     },
 }
 
@@ -47,6 +59,7 @@ pub enum MsgKind {
     P1b,
     P2a,
     P2b,
+    Final,
 }
 
 impl Msg {
@@ -60,6 +73,7 @@ impl Msg {
             Msg::P1b { .. } => MsgKind::P1b,
             Msg::P2a { .. } => MsgKind::P2a,
             Msg::P2b { .. } => MsgKind::P2b,
+            Msg::Final { .. } => MsgKind::Final,
         }
     }
 
@@ -71,35 +85,53 @@ impl Msg {
             Msg::Propose { command } => Ok(Msg::Propose {
                 command: command.copy()?,
             }),
-            Msg::P1a { round } => Ok(Msg::P1a { round: *round }),
+            Msg::P1a { epoch, round } => Ok(Msg::P1a {
+                epoch: *epoch,
+                round: *round,
+            }),
             Msg::P1b {
+                epoch,
                 round,
                 acceptor,
                 voted,
                 vote,
             } => Ok(Msg::P1b {
+                epoch: *epoch,
                 round: *round,
                 acceptor: *acceptor,
                 voted: *voted,
                 vote: vote.copy()?,
             }),
             Msg::P2a {
+                epoch,
                 round,
                 coordinator,
                 value,
             } => Ok(Msg::P2a {
+                epoch: *epoch,
                 round: *round,
                 coordinator: *coordinator,
                 value: value.copy()?,
             }),
             Msg::P2b {
+                epoch,
                 round,
                 acceptor,
                 vote,
             } => Ok(Msg::P2b {
+                epoch: *epoch,
                 round: *round,
                 acceptor: *acceptor,
                 vote: vote.copy()?,
+            }),
+            Msg::Final {
+                epoch,
+                learner,
+                value,
+            } => Ok(Msg::Final {
+                epoch: *epoch,
+                learner: *learner,
+                value: value.copy()?,
             }),
         }
     }

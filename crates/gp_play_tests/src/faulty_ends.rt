@@ -16,7 +16,7 @@ fn read_fails(alloc: Global, n: u64) -> Result<bool, Fail> {
     Ok(status == 4 && sink.written() == b"read fault\n".as_slice())
 }
 
-// Whether a failure of the n-th write, each of 16 bytes, ends in a write fault behind what was written before.
+// Whether a failure of the n-th write, each of 16 bytes, ends in a write fault after what was written before.
 fn write_fails(alloc: Global, n: u8) -> Result<bool, Fail> {
     let mut source = CalmSource::new(alloc, ONE_PUT)?;
     let mut sink = MemSink::new(alloc, 16, &[u64::from(n)])?;

@@ -2,7 +2,15 @@
 #![tactic(auto)]
 
 #[cfg(test)]
+mod crashes;
+#[cfg(test)]
+mod epochs;
+#[cfg(test)]
 mod faulty_ends;
+#[cfg(test)]
+mod growing_values;
+#[cfg(test)]
+mod limits;
 #[cfg(test)]
 mod operations;
 #[cfg(test)]

@@ -6,7 +6,7 @@ use std::test::Fail;
 // A script, and the line that is printed.
 type Row = (&'static [u8], &'static [u8]);
 
-const ROWS: [Row; 19] = [
+const ROWS: [Row; 25] = [
     // fewer than 3 acceptors
     (b"nodes 2 1 1\n", b"line 1: bad count"),
     // more than 7
@@ -25,6 +25,12 @@ const ROWS: [Row; 19] = [
     (b"", b"line 1: no nodes line"),
     // no line but one that is passed over
     (b"\n", b"line 2: no nodes line"),
+    // a first line that is another row of the table
+    (b"offer p0 get a\n", b"line 1: no nodes line"),
+    // a configuration that lacks a number
+    (b"nodes 3 1\n", b"line 1: bad line"),
+    // a second configuration
+    (b"nodes 3 1 2\nnodes 3 1 2\n", b"line 2: bad line"),
     // an empty token
     (b"nodes  3 1 2\n", b"line 1: bad line"),
     // a carriage return is a byte of its token
@@ -40,6 +46,14 @@ const ROWS: [Row; 19] = [
     ),
     // a proposer that takes a message which is not there
     (b"nodes 3 1 2\ntake p0 0\n", b"line 2: no message"),
+    // a step that is kept and takes a message which is not there
+    (b"nodes 3 1 2\nfall a0 take 0\n", b"line 2: no message"),
+    (b"nodes 3 1 2\nfall c0 take 0\n", b"line 2: no message"),
+    // a line after comments and empty lines
+    (
+        b"# c\n\nnodes 3 1 2\n# c\n\nbegin c0 x fast\n",
+        b"line 6: bad number",
+    ),
     // a proposer that crashes
     (b"nodes 3 1 2\nfall p0\n", b"line 2: bad fall"),
     // an acceptor that began a round
@@ -74,25 +88,5 @@ fn a_message_is_there_before_it_is_taken(rt: HostRuntime) -> Result<(), Fail> {
     let mut script = Vec::from_slice(rt.alloc(), ONE_PUT)?;
     script.extend_from_slice(b"take l1 7\n")?;
     assert!(rt; refuses(rt.alloc(), &script, b"line 13: no message")?);
-    Ok(())
-}
-
-#[test]
-fn a_script_has_256_offers(rt: HostRuntime) -> Result<(), Fail> {
-    let mut script = Vec::from_slice(rt.alloc(), b"nodes 3 1 1\n")?;
-    for _ in 0..257 {
-        script.extend_from_slice(b"offer p0 put a 1\n")?;
-    }
-    assert!(rt; refuses(rt.alloc(), &script, b"line 258: too many commands")?);
-    Ok(())
-}
-
-#[test]
-fn a_script_has_1048576_bytes(rt: HostRuntime) -> Result<(), Fail> {
-    let mut script = Vec::from_slice(rt.alloc(), b"nodes 3 1 1\n#")?;
-    for _ in script.len()..1_048_577 {
-        script.push(b'x')?;
-    }
-    assert!(rt; refuses(rt.alloc(), &script, b"line 2: too long")?);
     Ok(())
 }

@@ -22,7 +22,14 @@ pub fn plays(alloc: Global, script: &[u8], status: u8, prints: &[u8]) -> Result<
     Ok(ended == status && sink.written() == prints)
 }
 
-/// Whether `play` refuses this script with this line, behind which it prints a line feed.
+/// Whether a script that goes on with these lines is played to its end, and prints this.
+pub fn goes_on(alloc: Global, script: &[u8], more: &[u8], prints: &[u8]) -> Result<bool, Fail> {
+    let mut all = Vec::from_slice(alloc, script)?;
+    all.extend_from_slice(more)?;
+    plays(alloc, &all, 0, prints)
+}
+
+/// Whether `play` refuses this script with this line, after which it prints a line feed.
 pub fn refuses(alloc: Global, script: &[u8], line: &[u8]) -> Result<bool, Fail> {
     let mut prints = Vec::from_slice(alloc, line)?;
     prints.push(b'\n')?;

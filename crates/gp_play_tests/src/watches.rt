@@ -25,7 +25,7 @@ fn clash_of(alloc: Global, script: &[u8], messages: &[u64]) -> Result<Option<boo
     let Ok(played) = play(alloc, script) else {
         return Ok(None);
     };
-    let mut watch = Watch::new(alloc, FAST_1)?;
+    let mut watch = Watch::new(alloc, 0, FAST_1)?;
     for k in messages {
         see(&mut watch, &played.world, *k)?;
     }
@@ -37,7 +37,7 @@ fn clash_of_all(alloc: Global, script: &[u8]) -> Result<Option<bool>, Fail> {
     let Ok(played) = play(alloc, script) else {
         return Ok(None);
     };
-    let mut watch = Watch::new(alloc, FAST_1)?;
+    let mut watch = Watch::new(alloc, 0, FAST_1)?;
     for k in 0..played.world.messages() {
         see(&mut watch, &played.world, k)?;
     }

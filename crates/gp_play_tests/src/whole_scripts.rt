@@ -148,7 +148,7 @@ l1 replies: -
 events 23 messages 16
 ";
 
-// the single round behind it settles them
+// the single round after it settles them
 const FAST_COLLISION_THEN_SINGLE: &[u8] = b"\
 nodes 3 1 2
 begin c0 1 fast
@@ -347,34 +347,7 @@ l0 replies: p0.1=ok p0.2=ok p0.3=4 p0.4=yes p0.5=ok p0.6=ok p0.7=none p0.8=none
 events 25 messages 14
 ";
 
-// a checkpoint keeps its place between two puts that commute
-const CHECKPOINT_BETWEEN_PUTS: &[u8] = b"\
-nodes 3 1 1
-offer p0 put a 1
-offer p1 checkpoint
-offer p2 put b 2
-begin c0 1 single
-take c0 2
-take c0 1
-take c0 0
-take a0 3
-take a1 3
-take c0 4
-take c0 5
-take a0 6
-take a1 6
-take l0 7
-take l0 8
-";
-
-const CHECKPOINT_BETWEEN_PUTS_PRINTS: &[u8] = b"\
-l0 learned 3: p2.1 p1.1 p0.1
-l0 state: a=1 b=2
-l0 replies: p2.1=ok p1.1=ok p0.1=ok
-events 15 messages 9
-";
-
-// an acceptor crashes behind a durable vote that it never sent, and the vote counts
+// an acceptor crashes after a durable vote that it never sent, and the vote counts
 pub const KEPT_VOTE_NEVER_SENT: &[u8] = b"\
 nodes 3 1 1
 offer p0 put a 5
@@ -428,9 +401,9 @@ events 11 messages 5
 ";
 
 // a proposer takes a message, and nothing comes of it
-const PROPOSER_TAKES: &[u8] = b"\
+pub const PROPOSER_TAKES: &[u8] = b"\
 nodes 3 1 2
-offer p0 put a 1
+offer p0 get a
 take p0 0
 ";
 
@@ -442,6 +415,26 @@ l1 learned 0: -
 l1 state: -
 l1 replies: -
 events 2 messages 1
+";
+
+// comments and empty lines are passed over, and a learner is shown that learned nothing
+const PASSED_LINES: &[u8] = b"\
+# a comment
+
+nodes 3 1 1
+
+# show l0
+show l0
+#
+offer p0 get a
+#";
+
+const PASSED_LINES_PRINTS: &[u8] = b"\
+l0 learned 0: -
+l0 learned 0: -
+l0 state: -
+l0 replies: -
+events 1 messages 1
 ";
 
 #[test]
@@ -547,19 +540,6 @@ fn eight_operations(rt: HostRuntime) -> Result<(), Fail> {
 }
 
 #[test]
-fn checkpoint_between_puts(rt: HostRuntime) -> Result<(), Fail> {
-    assert!(rt;
-        plays(
-            rt.alloc(),
-            CHECKPOINT_BETWEEN_PUTS,
-            0,
-            CHECKPOINT_BETWEEN_PUTS_PRINTS
-        )?
-    );
-    Ok(())
-}
-
-#[test]
 fn kept_vote_never_sent(rt: HostRuntime) -> Result<(), Fail> {
     assert!(rt;
         plays(
@@ -588,5 +568,11 @@ fn coordinator_falls_in_its_round(rt: HostRuntime) -> Result<(), Fail> {
 #[test]
 fn proposer_takes(rt: HostRuntime) -> Result<(), Fail> {
     assert!(rt; plays(rt.alloc(), PROPOSER_TAKES, 0, PROPOSER_TAKES_PRINTS)?);
+    Ok(())
+}
+
+#[test]
+fn passed_lines(rt: HostRuntime) -> Result<(), Fail> {
+    assert!(rt; plays(rt.alloc(), PASSED_LINES, 0, PASSED_LINES_PRINTS)?);
     Ok(())
 }

@@ -3,7 +3,7 @@
 
 ghost use Rattle.std.specs.Prelude.{◌≡◌, ◌<◌, ◌^◌, ◌-◌, IfOk, OnOk, OnErr, IfErr, map};
 ghost use Rattle.std.specs.Option.{option_to_list};
-ghost use Rattle.gp_msg.specs.Messages.{message_of};
+ghost use Rattle.gp_msg.specs.Messages.{message_of, maybe_stamped};
 ghost use Rattle.gp_proposer.specs.Table.{opening, proposer_offer};
 
 use gp_command::{Command, CommandId, Draft};
@@ -44,12 +44,12 @@ impl Proposer {
     }
 
     /// Makes a command of the draft, with the next number, from 1, and proposes it. A proposer gives no
-    /// number twice, so it takes fewer than 2^32 - 1 offers. Where memory runs out the draft comes back, and
+    /// number twice, so it takes fewer than 2^32 - 1 offers. If memory runs out, the draft comes back and
     /// its number is not used up.
     pub fn offer(&mut self, alloc: Global, draft: Draft) -> Result<Outs, Unoffered>
         requires { self.old.offers < 2 ^ 32 - 1 }
         ensures next { OnOk result (self.new ≡ (proposer_offer self.old draft).0) }
-        ensures sent { IfOk result (λ outs. map message_of outs ≡ option_to_list (proposer_offer self.old draft).1) }
+        ensures sent { IfOk result (λ outs. map message_of outs ≡ option_to_list (maybe_stamped 0 (proposer_offer self.old draft).1)) }
         ensures unchanged { OnErr result (self.new ≡ self.old) }
         ensures back { IfErr result (λ e. e.draft ≡ draft) }
     {

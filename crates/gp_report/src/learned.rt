@@ -7,7 +7,8 @@ ghost use Rattle.gp_world.specs.State.{entries_of};
 ghost use Rattle.gp_report.specs.Texts.{identity, commands_line, learned_text};
 
 use gp_command::{CommandId, NoMemory};
-use gp_history::{Hist, SeqHistory};
+use gp_history::Hist;
+use gp_index::History;
 use gp_words::{push_dash, push_gap, push_number};
 use gp_world::World;
 use std::alloc::Global;
@@ -32,7 +33,7 @@ fn in_order<H: Hist>(alloc: Global, h: &H) -> Result<H, NoMemory>
     Ok(ordered)
 }
 
-fn push_identities(commands: &SeqHistory, to: &mut Vec<u8>) -> Result<(), NoMemory>
+fn push_identities(commands: &History, to: &mut Vec<u8>) -> Result<(), NoMemory>
     ensures { OnOk result (to.new.items ≡ to.old.items ++ spaced (map (λ c. identity c.id) commands.now)) }
 {
     for i in 0..commands.len() {
@@ -46,7 +47,7 @@ fn push_identities(commands: &SeqHistory, to: &mut Vec<u8>) -> Result<(), NoMemo
 #[tactic(auto, unfolding(crate::specs::Texts::commands_line))]
 pub(crate) fn push_commands(
     learner: u32,
-    commands: &SeqHistory,
+    commands: &History,
     to: &mut Vec<u8>,
 ) -> Result<(), NoMemory>
     ensures { OnOk result (to.new.items ≡ to.old.items ++ commands_line learner commands.now) }
@@ -61,7 +62,7 @@ pub(crate) fn push_commands(
 }
 
 /// Appends the learned line of a learner of the world's configuration: how many commands it learned and
-/// who they are, in canonical order. Where memory runs out `to` holds what it held.
+/// who they are, in canonical order. If memory runs out, `to` holds what it held.
 pub fn show_learned(
     alloc: Global,
     world: &World,

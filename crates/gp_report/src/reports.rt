@@ -10,7 +10,7 @@ use crate::learned::push_commands;
 use crate::replies::push_replies;
 use crate::states::push_state;
 use gp_command::NoMemory;
-use gp_history::SeqHistory;
+use gp_index::History;
 use gp_replica::Replica;
 use gp_store::KeyStore;
 use gp_words::push_number;
@@ -21,7 +21,7 @@ use std::alloc::Global;
 fn push_lines(
     alloc: Global,
     learner: u32,
-    learned: &SeqHistory,
+    learned: &History,
     to: &mut Vec<u8>,
 ) -> Result<(), NoMemory>
     requires { HasDistinctIds (history_of learned.now) }
@@ -74,7 +74,7 @@ fn report_of(alloc: Global, world: &World) -> Result<Vec<u8>, NoMemory>
 /// The learned line has the number of commands that the learner learned and their identities, in
 /// canonical order. The state line has the pairs that a key store holds that ran these commands, in
 /// ascending order of the keys. The replies line has its reply to each command, in canonical order.
-/// Where memory runs out `to` holds what it held.
+/// If memory runs out, `to` holds what it held.
 pub fn report(alloc: Global, world: &World, to: &mut Vec<u8>) -> Result<(), NoMemory>
     ensures written { OnOk result (to.new.items ≡ to.old.items ++ report world.now.config (entries_of world.now)) }
     ensures unchanged { OnErr result (to.new.items ≡ to.old.items) }

@@ -1,91 +1,173 @@
 //! The steps of acceptor 1 of three, with three coordinators.
+use crate::acceptors::Step::{Crashes, IsCopied, Keeps, Takes};
+use crate::scene::Text::{self, Final, Nothing, P1a, P1b, P2a, P2b, Propose};
 use crate::scene::{
-    FAST_1, MULTI_1, MULTI_2, SINGLE_1, SINGLE_2, Text, ZERO, history, is_sent, message, three,
+    FAST_1, MULTI_1, MULTI_2, SINGLE_1, SINGLE_2, UNOWNED, ZERO, epoch_of, history, is_sent,
+    message, three,
 };
 use gp_acceptor::Acceptor;
 use gp_history::Hist;
-use gp_msg::{Durable, Msg};
+use gp_index::History;
+use gp_msg::Durable;
 use gp_round::Round;
 use std::alloc::Global;
 use std::process::Abort;
 use std::test::Fail;
 
-// A message that is taken, and what is sent for it.
-type Step = (Text, Text);
-
-const IN_A_SINGLE_ROUND: [Step; 14] = [
-    // a greater round is answered, with the vote of round zero, and once
-    (Text::P1a(SINGLE_1), Text::P1b(SINGLE_1, 1, ZERO, "")),
-    (Text::P1a(SINGLE_1), Text::Nothing),
-    (Text::P1a(ZERO), Text::Nothing),
-    // the lead alone is a quorum; its first value is voted for, and once
-    (Text::P2a(SINGLE_1, 0, "a"), Text::P2b(SINGLE_1, 1, "a")),
-    (Text::P2a(SINGLE_1, 0, "a"), Text::Nothing),
-    // more commands are joined to the vote
-    (Text::P2a(SINGLE_1, 0, "ab"), Text::P2b(SINGLE_1, 1, "ab")),
-    // other coordinators are no quorum, known or not, and older rounds are past
-    (Text::P2a(SINGLE_1, 1, "abc"), Text::Nothing),
-    (Text::P2a(SINGLE_1, 3, "abcd"), Text::Nothing),
-    (Text::P2a(ZERO, 0, "abcd"), Text::Nothing),
-    // proposals are for fast rounds, and answers and votes for other nodes
-    (Text::Propose(b'd'), Text::Nothing),
-    (Text::P1b(SINGLE_1, 0, ZERO, ""), Text::Nothing),
-    (Text::P2b(SINGLE_1, 0, "d"), Text::Nothing),
-    // the next round is told of the vote
-    (Text::P1a(SINGLE_2), Text::P1b(SINGLE_2, 1, SINGLE_1, "ab")),
-    (Text::P2a(SINGLE_1, 0, "abe"), Text::Nothing),
-];
-
-const IN_A_MULTI_ROUND: [Step; 7] = [
-    // one of three coordinators is no quorum
-    (Text::P2a(MULTI_1, 0, "aX"), Text::Nothing),
-    // two are: the vote is what both sent
-    (Text::P2a(MULTI_1, 1, "bX"), Text::P2b(MULTI_1, 1, "X")),
-    (Text::P2a(MULTI_1, 1, "bX"), Text::Nothing),
-    // fewer commands are not held in the place of more
-    (Text::P2a(MULTI_1, 0, "X"), Text::Nothing),
-    // the vote is joined by what each two sent: `X` and `a`, `X` and `b`
-    (Text::P2a(MULTI_1, 2, "abX"), Text::P2b(MULTI_1, 1, "Xab")),
-    // in a greater round nothing is held
-    (Text::P2a(MULTI_2, 0, "Xabc"), Text::Nothing),
-    (Text::P2a(MULTI_2, 2, "Xab"), Text::P2b(MULTI_2, 1, "Xab")),
-];
-
-const IN_A_FAST_ROUND: [Step; 8] = [
-    (Text::P1a(FAST_1), Text::P1b(FAST_1, 1, ZERO, "")),
-    // proposals wait for the value of the lead
-    (Text::Propose(b'X'), Text::Nothing),
-    (Text::P2a(FAST_1, 0, "a"), Text::P2b(FAST_1, 1, "a")),
-    // then each is voted for, once
-    (Text::Propose(b'X'), Text::P2b(FAST_1, 1, "aX")),
-    (Text::Propose(b'X'), Text::Nothing),
-    // later values of the lead are not
-    (Text::P2a(FAST_1, 0, "abc"), Text::Nothing),
-    (Text::Propose(b'Y'), Text::P2b(FAST_1, 1, "aXY")),
-    (Text::P1a(MULTI_2), Text::P1b(MULTI_2, 1, FAST_1, "aXY")),
-];
-
-// what coordinator 0 sent is held, and is no quorum
-const HELD: [Step; 1] = [(Text::P2a(MULTI_1, 0, "a"), Text::Nothing)];
-
-const BEHIND_A_CRASH: [Step; 3] = [
-    // the round stays: an older one is not answered
-    (Text::P1a(SINGLE_1), Text::Nothing),
-    // what coordinator 0 sent before is no longer held
-    (Text::P2a(MULTI_1, 1, "a"), Text::Nothing),
-    (Text::P2a(MULTI_1, 0, "a"), Text::P2b(MULTI_1, 1, "a")),
-];
-
-const WITHOUT_A_CRASH: [Step; 1] = [(Text::P2a(MULTI_1, 1, "a"), Text::P2b(MULTI_1, 1, "a"))];
-
-fn fresh(alloc: Global) -> Result<Acceptor, Fail> {
-    Ok(Acceptor::new(alloc, &three()?, 1)?)
+// What is done with the acceptor, and what is seen of it.
+#[derive(Clone, Copy)]
+enum Step {
+    // In an epoch it takes a message, and sends one for it.
+    Takes(u32, Text, Text),
+    // What survives a crash: the epoch, the round, the round of the last vote and that vote.
+    Keeps(u32, Round, Round, &'static str),
+    // It crashes, and restarts with that.
+    Crashes,
+    // An equal one takes its place.
+    IsCopied,
 }
 
-fn takes(rt: &impl Abort, alloc: Global, acceptor: &mut Acceptor, step: Step) -> Result<(), Fail> {
-    if let Some(m) = message(alloc, step.0)? {
+static IN_A_SINGLE_ROUND: [Step; 18] = [
+    Keeps(0, ZERO, ZERO, ""),
+    // a greater round is answered, with the vote of round zero, and once
+    Takes(0, P1a(SINGLE_1), P1b(SINGLE_1, 1, ZERO, "")),
+    Takes(0, P1a(SINGLE_1), Nothing),
+    Takes(0, P1a(ZERO), Nothing),
+    // another coordinator is no quorum
+    Takes(0, P2a(SINGLE_1, 2, "q"), Nothing),
+    // the lead alone is one; its first value is voted for, and once
+    Takes(0, P2a(SINGLE_1, 0, "a"), P2b(SINGLE_1, 1, "a")),
+    Takes(0, P2a(SINGLE_1, 0, "a"), Nothing),
+    // more commands are joined to the vote
+    Takes(0, P2a(SINGLE_1, 0, "ab"), P2b(SINGLE_1, 1, "ab")),
+    // other coordinators do not count, known or not, and older rounds are past
+    Takes(0, P2a(SINGLE_1, 1, "abc"), Nothing),
+    Takes(0, P2a(SINGLE_1, 3, "abcd"), Nothing),
+    Takes(0, P2a(ZERO, 0, "abcd"), Nothing),
+    // proposals are for fast rounds, and answers and votes for other nodes
+    Takes(0, Propose(b'd'), Nothing),
+    Takes(0, P1b(SINGLE_1, 0, ZERO, ""), Nothing),
+    Takes(0, P2b(SINGLE_1, 0, "d"), Nothing),
+    // the next round is told of the vote
+    Takes(0, P1a(SINGLE_2), P1b(SINGLE_2, 1, SINGLE_1, "ab")),
+    Takes(0, P2a(SINGLE_1, 0, "abe"), Nothing),
+    // a round whose lead is no coordinator has no quorum
+    Takes(0, P2a(UNOWNED, 0, "abe"), Nothing),
+    Keeps(0, UNOWNED, SINGLE_1, "ab"),
+];
+
+static IN_A_MULTI_ROUND: [Step; 8] = [
+    // one of three coordinators is no quorum
+    Takes(0, P2a(MULTI_1, 0, "aX"), Nothing),
+    // two are: the vote is what both sent
+    Takes(0, P2a(MULTI_1, 1, "bX"), P2b(MULTI_1, 1, "X")),
+    Takes(0, P2a(MULTI_1, 1, "bX"), Nothing),
+    // fewer commands are not held in the place of more
+    Takes(0, P2a(MULTI_1, 0, "X"), Nothing),
+    // the vote is joined by what each two sent: `X` and `a`, `X` and `b`
+    Takes(0, P2a(MULTI_1, 2, "abX"), P2b(MULTI_1, 1, "Xab")),
+    // in a greater round nothing is held
+    Takes(0, P2a(MULTI_2, 0, "Xabc"), Nothing),
+    Takes(0, P2a(MULTI_2, 2, "Xab"), P2b(MULTI_2, 1, "Xab")),
+    Keeps(0, MULTI_2, MULTI_2, "Xab"),
+];
+
+static IN_A_FAST_ROUND: [Step; 11] = [
+    Takes(0, P1a(FAST_1), P1b(FAST_1, 1, ZERO, "")),
+    // proposals wait for the value of the lead
+    Takes(0, Propose(b'X'), Nothing),
+    Takes(0, P2a(FAST_1, 0, "a"), P2b(FAST_1, 1, "a")),
+    // then each is voted for, once
+    Takes(0, Propose(b'X'), P2b(FAST_1, 1, "aX")),
+    Takes(0, Propose(b'X'), Nothing),
+    // later values of the lead are not
+    Takes(0, P2a(FAST_1, 0, "abc"), Nothing),
+    Takes(0, Propose(b'Y'), P2b(FAST_1, 1, "aXY")),
+    Takes(0, P1a(MULTI_2), P1b(MULTI_2, 1, FAST_1, "aXY")),
+    Keeps(0, MULTI_2, FAST_1, "aXY"),
+    // a copy has the vote
+    IsCopied,
+    Takes(0, P1a(UNOWNED), P1b(UNOWNED, 1, FAST_1, "aXY")),
+];
+
+static OVER_A_CRASH: [Step; 5] = [
+    // what coordinator 0 sent is held, and is no quorum
+    Takes(0, P2a(MULTI_1, 0, "a"), Nothing),
+    Crashes,
+    // the round stays: an older one is not answered
+    Takes(0, P1a(SINGLE_1), Nothing),
+    // what was held is lost
+    Takes(0, P2a(MULTI_1, 1, "a"), Nothing),
+    Takes(0, P2a(MULTI_1, 0, "a"), P2b(MULTI_1, 1, "a")),
+];
+
+static IN_A_COPY: [Step; 3] = [
+    Takes(0, P2a(MULTI_1, 0, "a"), Nothing),
+    IsCopied,
+    Takes(0, P2a(MULTI_1, 1, "a"), P2b(MULTI_1, 1, "a")),
+];
+
+static IN_EPOCHS: [Step; 22] = [
+    Takes(0, P1a(SINGLE_1), P1b(SINGLE_1, 1, ZERO, "")),
+    Takes(0, P2a(SINGLE_1, 0, "a1"), P2b(SINGLE_1, 1, "a1")),
+    // messages of a later epoch change nothing
+    Takes(1, P1a(SINGLE_2), Nothing),
+    Takes(1, P2a(SINGLE_1, 0, "a1b"), Nothing),
+    Takes(1, P2a(SINGLE_2, 1, "b"), Nothing),
+    Takes(0, P2a(SINGLE_1, 0, "a1c"), P2b(SINGLE_1, 1, "a1c")),
+    Keeps(0, SINGLE_1, SINGLE_1, "a1c"),
+    // the Final of its epoch brings it to the next one, where it has not voted
+    Takes(0, Final(0, "a1"), Nothing),
+    Keeps(1, ZERO, ZERO, ""),
+    // messages of the epoch before change nothing, nor does another Final of it
+    Takes(0, P1a(SINGLE_2), Nothing),
+    Takes(0, P2a(SINGLE_2, 1, "b"), Nothing),
+    // the rounds begin anew
+    Takes(1, P1a(SINGLE_1), P1b(SINGLE_1, 1, ZERO, "")),
+    Takes(1, P2a(SINGLE_1, 0, "b"), P2b(SINGLE_1, 1, "b")),
+    Takes(0, Final(1, "a1"), Nothing),
+    Keeps(1, SINGLE_1, SINGLE_1, "b"),
+    // proposals are of every epoch
+    Takes(1, P2a(FAST_1, 0, "b"), P2b(FAST_1, 1, "b")),
+    Takes(1, Propose(b'X'), P2b(FAST_1, 1, "bX")),
+    // the Final of a later epoch brings it to the one after that
+    Takes(4, Final(9, "c2"), Nothing),
+    Keeps(5, ZERO, ZERO, ""),
+    Takes(5, Propose(b'Y'), Nothing),
+    Takes(1, P1a(MULTI_2), Nothing),
+    Takes(5, P1a(SINGLE_1), P1b(SINGLE_1, 1, ZERO, "")),
+];
+
+static HELD_IN_EPOCHS: [Step; 10] = [
+    Takes(0, P2a(MULTI_1, 0, "a"), Nothing),
+    Takes(0, Final(0, "b1"), Nothing),
+    // what coordinator 0 sent is no longer held: it would be a quorum of round zero
+    Takes(1, P2a(ZERO, 1, "c"), Nothing),
+    Takes(1, P2a(MULTI_1, 1, "a"), Nothing),
+    Takes(1, P2a(MULTI_1, 0, "a"), P2b(MULTI_1, 1, "a")),
+    IsCopied,
+    // the epoch survives a crash
+    Crashes,
+    Keeps(1, MULTI_1, MULTI_1, "a"),
+    Takes(0, P1a(MULTI_2), Nothing),
+    Takes(1, P1a(MULTI_2), P1b(MULTI_2, 1, MULTI_1, "a")),
+];
+
+fn takes(
+    rt: &impl Abort,
+    alloc: Global,
+    acceptor: &mut Acceptor,
+    epoch: u32,
+    text: Text,
+    want: Text,
+) -> Result<(), Fail> {
+    if let Some(m) = message(alloc, epoch, text)? {
+        assert!(rt; epoch_of(&m) < u32::MAX);
         let outs = acceptor.take(&m)?;
-        assert!(rt; is_sent(alloc, &outs, step.1)?);
+        assert!(rt;
+            is_sent(alloc, &outs, epoch, want)?,
+            "for {text:?} in epoch {epoch}"
+        );
     }
     Ok(())
 }
@@ -94,91 +176,101 @@ fn takes(rt: &impl Abort, alloc: Global, acceptor: &mut Acceptor, step: Step) ->
 fn keeps(
     alloc: Global,
     acceptor: &Acceptor,
+    epoch: u32,
     round: Round,
     voted: Round,
     word: &str,
 ) -> Result<bool, Fail> {
-    Ok(match acceptor.durable()? {
-        Durable::Acceptor {
-            round: r,
-            voted: q,
-            vote,
-        } => r == round && q == voted && vote.same(&history(alloc, word)?),
-        Durable::Coordinator { .. } => false,
-    })
+    let vote = history(alloc, word)?;
+    Ok(is_kept(&acceptor.durable()?, epoch, round, voted, &vote))
 }
 
-fn takes_all(
-    rt: &impl Abort,
-    alloc: Global,
-    acceptor: &mut Acceptor,
-    steps: &[Step],
-) -> Result<(), Fail> {
+fn is_kept(durable: &Durable, e: u32, r: Round, q: Round, v: &History) -> bool {
+    match durable {
+        Durable::Acceptor {
+            epoch,
+            round,
+            voted,
+            vote,
+        } => *epoch == e && *round == r && *voted == q && vote.same(v),
+        Durable::Coordinator { .. } => false,
+    }
+}
+
+fn makes(rt: &impl Abort, alloc: Global, acceptor: &mut Acceptor, step: Step) -> Result<(), Fail> {
+    match step {
+        Takes(epoch, text, want) => takes(rt, alloc, acceptor, epoch, text, want)?,
+        Keeps(epoch, round, voted, word) => {
+            assert!(rt;
+                keeps(alloc, acceptor, epoch, round, voted, word)?,
+                "in epoch {epoch}"
+            );
+        }
+        Crashes => acceptor.fall(acceptor.durable()?),
+        IsCopied => *acceptor = acceptor.copy()?,
+    }
+    Ok(())
+}
+
+fn plays(rt: &impl Abort, alloc: Global, steps: &[Step]) -> Result<(), Fail> {
+    let mut acceptor = Acceptor::new(alloc, &three()?, 1)?;
     for step in steps {
-        takes(rt, alloc, acceptor, *step)?;
+        makes(rt, alloc, &mut acceptor, *step)?;
     }
     Ok(())
 }
 
 #[test]
 fn a_single_round_has_one_coordinator(rt: HostRuntime) -> Result<(), Fail> {
-    let alloc = rt.alloc();
-    let mut acceptor = fresh(alloc)?;
-    assert!(rt; keeps(alloc, &acceptor, ZERO, ZERO, "")?);
-    takes_all(&rt, alloc, &mut acceptor, &IN_A_SINGLE_ROUND)?;
-    assert!(rt; keeps(alloc, &acceptor, SINGLE_2, SINGLE_1, "ab")?);
-    Ok(())
+    plays(&rt, rt.alloc(), &IN_A_SINGLE_ROUND)
 }
 
 #[test]
 fn a_multi_round_has_quorums_of_coordinators(rt: HostRuntime) -> Result<(), Fail> {
-    let alloc = rt.alloc();
-    let mut acceptor = fresh(alloc)?;
-    takes_all(&rt, alloc, &mut acceptor, &IN_A_MULTI_ROUND)?;
-    assert!(rt; keeps(alloc, &acceptor, MULTI_2, MULTI_2, "Xab")?);
-    Ok(())
+    plays(&rt, rt.alloc(), &IN_A_MULTI_ROUND)
 }
 
 #[test]
 fn a_fast_round_takes_proposals(rt: HostRuntime) -> Result<(), Fail> {
-    let alloc = rt.alloc();
-    let mut acceptor = fresh(alloc)?;
-    takes_all(&rt, alloc, &mut acceptor, &IN_A_FAST_ROUND)?;
-    assert!(rt; keeps(alloc, &acceptor, MULTI_2, FAST_1, "aXY")?);
-    Ok(())
+    plays(&rt, rt.alloc(), &IN_A_FAST_ROUND)
 }
 
 #[test]
 fn a_crash_loses_what_is_held(rt: HostRuntime) -> Result<(), Fail> {
-    let alloc = rt.alloc();
-    let mut acceptor = fresh(alloc)?;
-    takes_all(&rt, alloc, &mut acceptor, &HELD)?;
-    acceptor.fall(acceptor.durable()?);
-    takes_all(&rt, alloc, &mut acceptor, &BEHIND_A_CRASH)
+    plays(&rt, rt.alloc(), &OVER_A_CRASH)
 }
 
 #[test]
-fn a_copy_does_not_crash(rt: HostRuntime) -> Result<(), Fail> {
-    let alloc = rt.alloc();
-    let mut acceptor = fresh(alloc)?;
-    takes_all(&rt, alloc, &mut acceptor, &HELD)?;
-    let mut copy = acceptor.copy()?;
-    acceptor.fall(acceptor.durable()?);
-    takes_all(&rt, alloc, &mut copy, &WITHOUT_A_CRASH)
+fn a_copy_has_what_is_held(rt: HostRuntime) -> Result<(), Fail> {
+    plays(&rt, rt.alloc(), &IN_A_COPY)
+}
+
+#[test]
+fn an_epoch_begins_with_its_final(rt: HostRuntime) -> Result<(), Fail> {
+    plays(&rt, rt.alloc(), &IN_EPOCHS)
+}
+
+#[test]
+fn what_is_held_is_of_one_epoch(rt: HostRuntime) -> Result<(), Fail> {
+    plays(&rt, rt.alloc(), &HELD_IN_EPOCHS)
 }
 
 #[test]
 fn a_crash_keeps_the_part_of_a_later_step(rt: HostRuntime) -> Result<(), Fail> {
     let alloc = rt.alloc();
-    let mut acceptor = fresh(alloc)?;
+    let mut acceptor = Acceptor::new(alloc, &three()?, 1)?;
     acceptor.fall(Durable::Acceptor {
+        epoch: 3,
         round: MULTI_2,
         voted: MULTI_2,
         vote: history(alloc, "ab")?,
     });
-    assert!(rt; keeps(alloc, &acceptor, MULTI_2, MULTI_2, "ab")?);
-    // that of a coordinator is none of an acceptor's
-    acceptor.fall(Durable::Coordinator { round: SINGLE_2 });
-    assert!(rt; keeps(alloc, &acceptor, MULTI_2, MULTI_2, "ab")?);
+    assert!(rt; keeps(alloc, &acceptor, 3, MULTI_2, MULTI_2, "ab")?);
+    // that of a coordinator has no vote
+    acceptor.fall(Durable::Coordinator {
+        epoch: 3,
+        round: SINGLE_2,
+    });
+    assert!(rt; keeps(alloc, &acceptor, 3, MULTI_2, MULTI_2, "ab")?);
     Ok(())
 }

@@ -1,118 +1,245 @@
 //! The steps of coordinator 0 of three, with three acceptors.
-use crate::scene::{FAST_1, MULTI_2, SINGLE_1, SINGLE_2, Text, ZERO, is_sent, message, three};
+use crate::coordinators::Step::{Crashes, IsCopied, Keeps, Takes};
+use crate::scene::Text::{self, Final, Nothing, P1a, P1b, P2a, P2b, Propose};
+use crate::scene::{
+    FAST_1, MULTI_1, MULTI_2, SINGLE_1, SINGLE_2, ZERO, epoch_of, is_sent, message, three,
+};
 use gp_coordinator::Coordinator;
+use gp_msg::Durable;
 use gp_round::Round;
 use std::alloc::Global;
 use std::process::Abort;
 use std::test::Fail;
 
-// A message that is taken, and what is sent for it.
-type Step = (Text, Text);
-
-const IN_A_SINGLE_ROUND: [Step; 20] = [
-    // commands wait for the value, each once
-    (Text::Propose(b'a'), Text::Nothing),
-    (Text::Propose(b'a'), Text::Nothing),
-    // two of three acceptors have to answer; answers count once, of its round and its acceptors
-    (Text::P1b(SINGLE_1, 0, ZERO, ""), Text::Nothing),
-    (Text::P1b(SINGLE_1, 0, ZERO, ""), Text::Nothing),
-    (Text::P1b(SINGLE_1, 3, ZERO, ""), Text::Nothing),
-    (Text::P1b(SINGLE_2, 1, ZERO, ""), Text::Nothing),
-    (Text::Propose(b'X'), Text::Nothing),
-    // the value is what is safe, and all that waits behind it
-    (
-        Text::P1b(SINGLE_1, 2, ZERO, ""),
-        Text::P2a(SINGLE_1, 0, "aX"),
-    ),
-    (Text::P1b(SINGLE_1, 1, ZERO, "b"), Text::Nothing),
-    // from then on each new command is sent at once
-    (Text::Propose(b'Y'), Text::P2a(SINGLE_1, 0, "aXY")),
-    (Text::Propose(b'Y'), Text::Nothing),
-    // messages of the second phase are for other nodes
-    (Text::P2a(SINGLE_1, 0, "aXYZ"), Text::Nothing),
-    (Text::P2b(SINGLE_1, 0, "aXYZ"), Text::Nothing),
-    // the single round of another is not entered
-    (Text::P1a(SINGLE_2), Text::Nothing),
-    (Text::P1b(SINGLE_2, 0, ZERO, ""), Text::Nothing),
-    (Text::P1b(SINGLE_2, 1, ZERO, ""), Text::Nothing),
-    // a multi round is
-    (Text::P1a(MULTI_2), Text::Nothing),
-    (Text::P1b(SINGLE_1, 1, ZERO, ""), Text::Nothing),
-    (Text::P1b(MULTI_2, 0, SINGLE_1, "aX"), Text::Nothing),
-    (
-        Text::P1b(MULTI_2, 1, SINGLE_1, "aXbY"),
-        Text::P2a(MULTI_2, 0, "aXbY"),
-    ),
-];
-
-const IN_A_FAST_ROUND: [Step; 7] = [
-    (Text::Propose(b'X'), Text::Nothing),
-    (Text::P1b(FAST_1, 1, ZERO, ""), Text::Nothing),
-    (Text::P1b(FAST_1, 0, ZERO, ""), Text::P2a(FAST_1, 0, "X")),
-    // the acceptors take further commands themselves
-    (Text::Propose(b'Y'), Text::Nothing),
-    // and what it kept of them is sent in the next round
-    (Text::P1a(MULTI_2), Text::Nothing),
-    (Text::P1b(MULTI_2, 0, ZERO, ""), Text::Nothing),
-    (
-        Text::P1b(MULTI_2, 2, FAST_1, "aX"),
-        Text::P2a(MULTI_2, 0, "aXY"),
-    ),
-];
-
-const BEFORE_A_CRASH: [Step; 2] = [
-    (Text::Propose(b'a'), Text::Nothing),
-    (Text::P1b(SINGLE_1, 0, ZERO, ""), Text::Nothing),
-];
-
-const BEHIND_A_CRASH: [Step; 6] = [
-    // it collects no answers of the round in which it crashed
-    (Text::P1b(SINGLE_1, 1, ZERO, ""), Text::Nothing),
-    (Text::P1b(SINGLE_1, 2, ZERO, ""), Text::Nothing),
-    (Text::P1a(SINGLE_1), Text::Nothing),
-    // but of a greater one; the command that was pending is lost
-    (Text::P1a(MULTI_2), Text::Nothing),
-    (Text::P1b(MULTI_2, 1, ZERO, ""), Text::Nothing),
-    (Text::P1b(MULTI_2, 2, ZERO, ""), Text::P2a(MULTI_2, 0, "")),
-];
-
-// it still waits for one answer
-const WITHOUT_A_CRASH: [Step; 1] = [(
-    Text::P1b(SINGLE_1, 1, ZERO, ""),
-    Text::P2a(SINGLE_1, 0, "a"),
-)];
-
-// A coordinator that began a round.
-fn begun(rt: &impl Abort, alloc: Global, round: Round) -> Result<Coordinator, Fail> {
-    let config = three()?;
-    let mut coordinator = Coordinator::new(alloc, &config, 0)?;
-    assert!(rt; config.owns(0, round));
-    let outs = coordinator.begin(round)?;
-    assert!(rt; is_sent(alloc, &outs, Text::P1a(round))?);
-    Ok(coordinator)
+// What is done with the coordinator, and what is seen of it.
+#[derive(Clone, Copy)]
+enum Step {
+    // In an epoch it takes a message, and sends one for it.
+    Takes(u32, Text, Text),
+    // What survives a crash: the epoch and the round.
+    Keeps(u32, Round),
+    // It crashes, and restarts with that.
+    Crashes,
+    // An equal one takes its place.
+    IsCopied,
 }
+
+static IN_A_SINGLE_ROUND: [Step; 23] = [
+    // commands wait for the value, each once
+    Takes(0, Propose(b'a'), Nothing),
+    Takes(0, Propose(b'a'), Nothing),
+    // two of three acceptors have to answer; answers count once, of its round and its acceptors
+    Takes(0, P1b(SINGLE_1, 0, ZERO, ""), Nothing),
+    Takes(0, P1b(SINGLE_1, 0, ZERO, ""), Nothing),
+    Takes(0, P1b(SINGLE_1, 3, ZERO, ""), Nothing),
+    Takes(0, P1b(SINGLE_2, 1, ZERO, ""), Nothing),
+    Takes(0, Propose(b'X'), Nothing),
+    // the value is what is safe, and all that waits after it
+    Takes(0, P1b(SINGLE_1, 2, ZERO, ""), P2a(SINGLE_1, 0, "aX")),
+    Takes(0, P1b(SINGLE_1, 1, ZERO, "b"), Nothing),
+    // from then on each new command is sent at once
+    Takes(0, Propose(b'Y'), P2a(SINGLE_1, 0, "aXY")),
+    Takes(0, Propose(b'Y'), Nothing),
+    // messages of the second phase are for other nodes
+    Takes(0, P2a(SINGLE_1, 0, "aXYZ"), Nothing),
+    Takes(0, P2b(SINGLE_1, 0, "aXYZ"), Nothing),
+    // the single round of another is not entered
+    Takes(0, P1a(SINGLE_2), Nothing),
+    Takes(0, P1b(SINGLE_2, 0, ZERO, ""), Nothing),
+    Takes(0, P1b(SINGLE_2, 1, ZERO, ""), Nothing),
+    // a multi round is
+    Takes(0, P1a(MULTI_2), Nothing),
+    Keeps(0, MULTI_2),
+    Takes(0, P1b(SINGLE_1, 1, ZERO, ""), Nothing),
+    Takes(0, P1b(MULTI_2, 0, SINGLE_1, "aX"), Nothing),
+    Takes(
+        0,
+        P1b(MULTI_2, 1, SINGLE_1, "aXbY"),
+        P2a(MULTI_2, 0, "aXbY"),
+    ),
+    // a copy has the value
+    IsCopied,
+    Takes(0, Propose(b'Z'), P2a(MULTI_2, 0, "aXbYZ")),
+];
+
+static IN_A_FAST_ROUND: [Step; 7] = [
+    Takes(0, Propose(b'X'), Nothing),
+    Takes(0, P1b(FAST_1, 1, ZERO, ""), Nothing),
+    Takes(0, P1b(FAST_1, 0, ZERO, ""), P2a(FAST_1, 0, "X")),
+    // the acceptors take further commands themselves
+    Takes(0, Propose(b'Y'), Nothing),
+    // and what it kept of them is sent in the next round
+    Takes(0, P1a(MULTI_2), Nothing),
+    Takes(0, P1b(MULTI_2, 0, ZERO, ""), Nothing),
+    Takes(0, P1b(MULTI_2, 2, FAST_1, "aX"), P2a(MULTI_2, 0, "aXY")),
+];
+
+static OVER_A_CRASH: [Step; 10] = [
+    Takes(0, Propose(b'a'), Nothing),
+    Takes(0, P1b(SINGLE_1, 0, ZERO, ""), Nothing),
+    Crashes,
+    Keeps(0, SINGLE_1),
+    // it collects no answers of the round in which it crashed
+    Takes(0, P1b(SINGLE_1, 1, ZERO, ""), Nothing),
+    Takes(0, P1b(SINGLE_1, 2, ZERO, ""), Nothing),
+    Takes(0, P1a(SINGLE_1), Nothing),
+    // but of a greater one; the command that was pending is lost
+    Takes(0, P1a(MULTI_2), Nothing),
+    Takes(0, P1b(MULTI_2, 1, ZERO, ""), Nothing),
+    Takes(0, P1b(MULTI_2, 2, ZERO, ""), P2a(MULTI_2, 0, "")),
+];
+
+static IN_A_COPY: [Step; 4] = [
+    Takes(0, Propose(b'a'), Nothing),
+    Takes(0, P1b(SINGLE_1, 0, ZERO, ""), Nothing),
+    IsCopied,
+    // it waits for one more answer
+    Takes(0, P1b(SINGLE_1, 1, ZERO, ""), P2a(SINGLE_1, 0, "a")),
+];
+
+static OF_ANOTHER_EPOCH: [Step; 7] = [
+    // a round of another epoch is not entered, and its answers do not count
+    Takes(1, P1a(MULTI_2), Nothing),
+    Keeps(0, SINGLE_1),
+    Takes(1, P1b(SINGLE_1, 0, ZERO, ""), Nothing),
+    Takes(1, P1b(SINGLE_1, 1, ZERO, ""), Nothing),
+    Takes(0, P1b(SINGLE_1, 2, ZERO, ""), Nothing),
+    Takes(7, P1b(SINGLE_1, 1, ZERO, ""), Nothing),
+    Takes(0, P1b(SINGLE_1, 1, ZERO, ""), P2a(SINGLE_1, 0, "")),
+];
+
+static OVER_A_FINAL: [Step; 18] = [
+    Takes(0, Propose(b'a'), Nothing),
+    Takes(0, Propose(b'b'), Nothing),
+    Takes(0, P1b(MULTI_2, 0, ZERO, ""), Nothing),
+    Takes(0, P1b(MULTI_2, 1, ZERO, ""), P2a(MULTI_2, 0, "ab")),
+    // the Final of its epoch brings it to the next one, in round zero
+    Takes(0, Final(2, "a1"), Nothing),
+    Keeps(1, ZERO),
+    // it has no value, and is not awake
+    Takes(1, Propose(b'c'), Nothing),
+    Takes(1, P1b(ZERO, 0, ZERO, ""), Nothing),
+    Takes(1, P1b(ZERO, 1, ZERO, ""), Nothing),
+    // a round of the epoch before is not entered, one of its epoch is
+    Takes(0, P1a(MULTI_2), Nothing),
+    Takes(1, P1a(MULTI_1), Nothing),
+    Takes(0, P1b(MULTI_1, 0, ZERO, ""), Nothing),
+    Takes(1, P1b(MULTI_1, 0, ZERO, ""), Nothing),
+    // what else is pending is sent in the new epoch, and what is done is not taken again
+    Takes(1, Propose(b'a'), Nothing),
+    Takes(1, P1b(MULTI_1, 2, ZERO, ""), P2a(MULTI_1, 0, "bc")),
+    Takes(1, Propose(b'a'), Nothing),
+    Takes(1, Propose(b'1'), Nothing),
+    Takes(1, Propose(b'd'), P2a(MULTI_1, 0, "bcd")),
+];
+
+static OVER_FINALS: [Step; 22] = [
+    Takes(0, Propose(b'b'), Nothing),
+    Takes(0, Propose(b'c'), Nothing),
+    Takes(0, Final(0, "a1"), Nothing),
+    Takes(1, P1a(MULTI_1), Nothing),
+    Takes(1, P1b(MULTI_1, 0, ZERO, ""), Nothing),
+    Takes(1, P1b(MULTI_1, 2, ZERO, ""), P2a(MULTI_1, 0, "bc")),
+    // the Final of an earlier epoch makes its commands done, and nothing else: the value and the round
+    // stay
+    Takes(0, Final(0, "ce1"), Nothing),
+    Keeps(1, MULTI_1),
+    IsCopied,
+    Takes(1, Propose(b'e'), Nothing),
+    Takes(1, Propose(b'd'), P2a(MULTI_1, 0, "bcd")),
+    Takes(1, P1a(MULTI_2), Nothing),
+    Takes(1, Propose(b'c'), Nothing),
+    Takes(1, P1b(MULTI_2, 0, ZERO, ""), Nothing),
+    Takes(1, P1b(MULTI_2, 2, ZERO, ""), P2a(MULTI_2, 0, "bd")),
+    // that of a later epoch brings it to the one after that; the commands of all Finals are done
+    Takes(5, Final(9, "d2"), Nothing),
+    Keeps(6, ZERO),
+    Takes(6, Propose(b'a'), Nothing),
+    Takes(6, Propose(b'd'), Nothing),
+    Takes(6, P1a(MULTI_1), Nothing),
+    Takes(6, P1b(MULTI_1, 0, ZERO, ""), Nothing),
+    Takes(6, P1b(MULTI_1, 1, ZERO, ""), P2a(MULTI_1, 0, "b")),
+];
+
+static DONE_OVER_A_CRASH: [Step; 11] = [
+    Takes(0, Propose(b'b'), Nothing),
+    Takes(0, Final(0, "a1"), Nothing),
+    Takes(1, P1a(MULTI_1), Nothing),
+    Crashes,
+    Keeps(1, MULTI_1),
+    Takes(0, P1a(MULTI_2), Nothing),
+    Takes(1, P1a(MULTI_2), Nothing),
+    // a command that was done is pending again, one that was pending is lost
+    Takes(1, Propose(b'a'), Nothing),
+    Takes(1, P1b(MULTI_2, 0, ZERO, ""), Nothing),
+    Takes(1, P1b(MULTI_2, 1, ZERO, ""), P2a(MULTI_2, 0, "a")),
+    Takes(1, Propose(b'1'), P2a(MULTI_2, 0, "a1")),
+];
 
 fn takes(
     rt: &impl Abort,
     alloc: Global,
     coordinator: &mut Coordinator,
-    step: Step,
+    epoch: u32,
+    text: Text,
+    want: Text,
 ) -> Result<(), Fail> {
-    if let Some(m) = message(alloc, step.0)? {
+    if let Some(m) = message(alloc, epoch, text)? {
+        assert!(rt; epoch_of(&m) < u32::MAX);
         let outs = coordinator.take(&m)?;
-        assert!(rt; is_sent(alloc, &outs, step.1)?);
+        assert!(rt;
+            is_sent(alloc, &outs, epoch, want)?,
+            "for {text:?} in epoch {epoch}"
+        );
     }
     Ok(())
 }
 
-fn takes_all(
+// Whether this is what survives a crash, and what it shows of it.
+fn keeps(coordinator: &Coordinator, epoch: u32, round: Round) -> bool {
+    is_kept(&coordinator.durable(), epoch, round)
+        && coordinator.epoch() == epoch
+        && coordinator.round() == round
+}
+
+fn is_kept(durable: &Durable, e: u32, r: Round) -> bool {
+    match durable {
+        Durable::Coordinator { epoch, round } => *epoch == e && *round == r,
+        Durable::Acceptor { .. } => false,
+    }
+}
+
+fn makes(
     rt: &impl Abort,
     alloc: Global,
     coordinator: &mut Coordinator,
-    steps: &[Step],
+    step: Step,
 ) -> Result<(), Fail> {
+    match step {
+        Takes(epoch, text, want) => takes(rt, alloc, coordinator, epoch, text, want)?,
+        Keeps(epoch, round) => assert!(rt; keeps(coordinator, epoch, round), "in epoch {epoch}"),
+        Crashes => coordinator.fall(coordinator.durable()),
+        IsCopied => *coordinator = coordinator.copy()?,
+    }
+    Ok(())
+}
+
+// A coordinator that began a round of an epoch.
+fn begun(rt: &impl Abort, alloc: Global, epoch: u32, round: Round) -> Result<Coordinator, Fail> {
+    let config = three()?;
+    let mut coordinator = Coordinator::new(alloc, &config, 0)?;
+    coordinator.fall(Durable::Coordinator { epoch, round: ZERO });
+    assert!(rt; config.owns(0, round));
+    let outs = coordinator.begin(round)?;
+    assert!(rt; is_sent(alloc, &outs, epoch, P1a(round))?);
+    Ok(coordinator)
+}
+
+// It begins a round of epoch 0, and these are its next steps.
+fn plays(rt: &impl Abort, alloc: Global, round: Round, steps: &[Step]) -> Result<(), Fail> {
+    let mut coordinator = begun(rt, alloc, 0, round)?;
     for step in steps {
-        takes(rt, alloc, coordinator, *step)?;
+        makes(rt, alloc, &mut coordinator, *step)?;
     }
     Ok(())
 }
@@ -120,7 +247,7 @@ fn takes_all(
 #[test]
 fn a_coordinator_opens_at_round_zero(rt: HostRuntime) -> Result<(), Fail> {
     let coordinator = Coordinator::new(rt.alloc(), &three()?, 0)?;
-    assert_eq!(rt; coordinator.round(), ZERO);
+    assert!(rt; keeps(&coordinator, 0, ZERO));
     Ok(())
 }
 
@@ -132,43 +259,54 @@ fn a_round_is_begun_once(rt: HostRuntime) -> Result<(), Fail> {
     assert!(rt; config.owns(0, SINGLE_1));
     coordinator.begin(SINGLE_1)?;
     let again = coordinator.begin(SINGLE_1)?;
-    assert!(rt; is_sent(alloc, &again, Text::Nothing)?);
-    assert_eq!(rt; coordinator.round(), SINGLE_1);
+    assert!(rt; is_sent(alloc, &again, 0, Nothing)?);
+    assert!(rt; keeps(&coordinator, 0, SINGLE_1));
+    Ok(())
+}
+
+#[test]
+fn a_round_is_begun_in_its_epoch(rt: HostRuntime) -> Result<(), Fail> {
+    let coordinator = begun(&rt, rt.alloc(), 3, FAST_1)?;
+    assert!(rt; keeps(&coordinator, 3, FAST_1));
     Ok(())
 }
 
 #[test]
 fn a_quorum_of_answers_gives_a_value(rt: HostRuntime) -> Result<(), Fail> {
-    let alloc = rt.alloc();
-    let mut coordinator = begun(&rt, alloc, SINGLE_1)?;
-    takes_all(&rt, alloc, &mut coordinator, &IN_A_SINGLE_ROUND)?;
-    assert_eq!(rt; coordinator.round(), MULTI_2);
-    Ok(())
+    plays(&rt, rt.alloc(), SINGLE_1, &IN_A_SINGLE_ROUND)
 }
 
 #[test]
 fn a_fast_round_gets_one_value(rt: HostRuntime) -> Result<(), Fail> {
-    let alloc = rt.alloc();
-    let mut coordinator = begun(&rt, alloc, FAST_1)?;
-    takes_all(&rt, alloc, &mut coordinator, &IN_A_FAST_ROUND)
+    plays(&rt, rt.alloc(), FAST_1, &IN_A_FAST_ROUND)
 }
 
 #[test]
 fn a_crash_keeps_the_round_alone(rt: HostRuntime) -> Result<(), Fail> {
-    let alloc = rt.alloc();
-    let mut coordinator = begun(&rt, alloc, SINGLE_1)?;
-    takes_all(&rt, alloc, &mut coordinator, &BEFORE_A_CRASH)?;
-    coordinator.fall(SINGLE_1);
-    assert_eq!(rt; coordinator.round(), SINGLE_1);
-    takes_all(&rt, alloc, &mut coordinator, &BEHIND_A_CRASH)
+    plays(&rt, rt.alloc(), SINGLE_1, &OVER_A_CRASH)
 }
 
 #[test]
-fn a_copy_does_not_crash(rt: HostRuntime) -> Result<(), Fail> {
-    let alloc = rt.alloc();
-    let mut coordinator = begun(&rt, alloc, SINGLE_1)?;
-    takes_all(&rt, alloc, &mut coordinator, &BEFORE_A_CRASH)?;
-    let mut copy = coordinator.copy()?;
-    coordinator.fall(SINGLE_1);
-    takes_all(&rt, alloc, &mut copy, &WITHOUT_A_CRASH)
+fn a_copy_has_the_answers(rt: HostRuntime) -> Result<(), Fail> {
+    plays(&rt, rt.alloc(), SINGLE_1, &IN_A_COPY)
+}
+
+#[test]
+fn other_epochs_are_not_heard(rt: HostRuntime) -> Result<(), Fail> {
+    plays(&rt, rt.alloc(), SINGLE_1, &OF_ANOTHER_EPOCH)
+}
+
+#[test]
+fn what_else_is_pending_is_sent_in_the_next_epoch(rt: HostRuntime) -> Result<(), Fail> {
+    plays(&rt, rt.alloc(), MULTI_2, &OVER_A_FINAL)
+}
+
+#[test]
+fn what_finals_have_is_done(rt: HostRuntime) -> Result<(), Fail> {
+    plays(&rt, rt.alloc(), SINGLE_1, &OVER_FINALS)
+}
+
+#[test]
+fn a_crash_forgets_what_is_done(rt: HostRuntime) -> Result<(), Fail> {
+    plays(&rt, rt.alloc(), SINGLE_1, &DONE_OVER_A_CRASH)
 }

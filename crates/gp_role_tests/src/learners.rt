@@ -1,114 +1,192 @@
-//! The steps of a learner, with three acceptors.
-use crate::scene::{FAST_1, SINGLE_1, SINGLE_2, Text, ZERO, history, message, three};
+//! The steps of learner 1, with three acceptors.
+use crate::learners::Step::{Crashes, IsCopied, Takes};
+use crate::scene::Text::{self, Final, Nothing, P1a, P1b, P2a, P2b, Propose};
+use crate::scene::{FAST_1, SINGLE_1, SINGLE_2, ZERO, epoch_of, history, is_sent, message, three};
 use gp_history::Hist;
 use gp_learner::Learner;
 use std::alloc::Global;
 use std::process::Abort;
 use std::test::Fail;
 
-// A message that is taken, and what is learned behind it.
-type Step = (Text, &'static str);
+// What is done with the learner, and what is seen of it.
+#[derive(Clone, Copy)]
+enum Step {
+    // In an epoch it takes a message, and sends one for it. Then this is learned.
+    Takes(u32, Text, Text, &'static str),
+    // It crashes, and has learned nothing.
+    Crashes,
+    // An equal one takes its place.
+    IsCopied,
+}
 
-const IN_SINGLE_ROUNDS: [Step; 15] = [
-    // one vote is no quorum, also where it comes again, of an acceptor beyond the three, or with the
+static IN_SINGLE_ROUNDS: [Step; 17] = [
+    // one vote is no quorum, also if it comes again, is of an acceptor beyond the three, or comes with the
     // vote of another round
-    (Text::P2b(SINGLE_1, 0, "a"), ""),
-    (Text::P2b(SINGLE_1, 0, "a"), ""),
-    (Text::P2b(SINGLE_1, 3, "a"), ""),
-    (Text::P2b(SINGLE_2, 1, "a"), ""),
+    Takes(0, P2b(SINGLE_1, 0, "a"), Nothing, ""),
+    Takes(0, P2b(SINGLE_1, 0, "a"), Nothing, ""),
+    Takes(0, P2b(SINGLE_1, 3, "a"), Nothing, ""),
+    Takes(0, P2b(SINGLE_2, 1, "a"), Nothing, ""),
     // two are: what both voted is learned
-    (Text::P2b(SINGLE_1, 1, "ab"), "a"),
+    Takes(0, P2b(SINGLE_1, 1, "ab"), Nothing, "a"),
     // and then what each two of the three voted
-    (Text::P2b(SINGLE_1, 2, "abX"), "ab"),
+    Takes(0, P2b(SINGLE_1, 2, "abX"), Nothing, "ab"),
     // fewer commands do not take the place of more
-    (Text::P2b(SINGLE_1, 2, "X"), "ab"),
-    (Text::P2b(SINGLE_1, 1, "abX"), "abX"),
+    Takes(0, P2b(SINGLE_1, 2, "X"), Nothing, "ab"),
+    Takes(0, P2b(SINGLE_1, 1, "abX"), Nothing, "abX"),
     // the next round adds to what is learned, and takes nothing of it
-    (Text::P2b(SINGLE_2, 0, "abXY"), "abX"),
-    (Text::P2b(SINGLE_2, 1, "abXY"), "abXY"),
+    Takes(0, P2b(SINGLE_2, 0, "abXY"), Nothing, "abX"),
+    Takes(0, P2b(SINGLE_2, 1, "abXYc"), Nothing, "abXY"),
+    // one vote makes two quorums, and each of them adds a command
+    Takes(0, P2b(SINGLE_2, 0, "abXYd"), Nothing, "abXY"),
+    Takes(0, P2b(SINGLE_2, 2, "abXYcd"), Nothing, "abXYcd"),
     // other messages are for other nodes
-    (Text::Propose(b'Z'), "abXY"),
-    (Text::P1a(SINGLE_2), "abXY"),
-    (Text::P1b(SINGLE_2, 0, ZERO, "Z"), "abXY"),
-    (Text::P2a(SINGLE_2, 0, "abXYZ"), "abXY"),
-    (Text::P2a(SINGLE_2, 1, "abXYZ"), "abXY"),
+    Takes(0, Propose(b'Z'), Nothing, "abXYcd"),
+    Takes(0, P1a(SINGLE_2), Nothing, "abXYcd"),
+    Takes(0, P1b(SINGLE_2, 0, ZERO, "Z"), Nothing, "abXYcd"),
+    Takes(0, P2a(SINGLE_2, 0, "abXYcdZ"), Nothing, "abXYcd"),
+    Takes(0, P2a(SINGLE_2, 1, "abXYcdZ"), Nothing, "abXYcd"),
 ];
 
-const IN_A_FAST_ROUND: [Step; 4] = [
+static IN_A_FAST_ROUND: [Step; 4] = [
     // a fast quorum is all three
-    (Text::P2b(FAST_1, 0, "X"), ""),
-    (Text::P2b(FAST_1, 1, "Xa"), ""),
-    (Text::P2b(FAST_1, 2, "aX"), "X"),
-    (Text::P2b(FAST_1, 0, "bXa"), "Xa"),
+    Takes(0, P2b(FAST_1, 0, "X"), Nothing, ""),
+    Takes(0, P2b(FAST_1, 1, "Xa"), Nothing, ""),
+    Takes(0, P2b(FAST_1, 2, "aX"), Nothing, "X"),
+    Takes(0, P2b(FAST_1, 0, "bXa"), Nothing, "Xa"),
 ];
 
-const LEARNED: [Step; 2] = [
-    (Text::P2b(SINGLE_1, 0, "a"), ""),
-    (Text::P2b(SINGLE_1, 1, "a"), "a"),
+static OVER_A_CRASH: [Step; 7] = [
+    Takes(0, P2b(SINGLE_1, 0, "a"), Nothing, ""),
+    Takes(0, P2b(SINGLE_1, 1, "a"), Nothing, "a"),
+    // a copy has what is learned, and the votes
+    IsCopied,
+    Takes(0, P2b(SINGLE_1, 2, "ab"), Nothing, "a"),
+    Crashes,
+    // the votes that were held are lost too
+    Takes(0, P2b(SINGLE_1, 0, "ab"), Nothing, ""),
+    Takes(0, P2b(SINGLE_1, 1, "ab"), Nothing, "ab"),
 ];
 
-// the votes that were held are lost too
-const BEHIND_A_CRASH: [Step; 2] = [
-    (Text::P2b(SINGLE_1, 2, "ab"), ""),
-    (Text::P2b(SINGLE_1, 0, "ab"), "ab"),
+static OVER_CHECKPOINTS: [Step; 16] = [
+    // votes of a later epoch are not heard
+    Takes(1, P2b(SINGLE_1, 0, "a"), Nothing, ""),
+    Takes(1, P2b(SINGLE_1, 1, "a"), Nothing, ""),
+    Takes(0, P2b(SINGLE_1, 2, "be"), Nothing, ""),
+    Takes(0, P2b(SINGLE_1, 0, "ab"), Nothing, "b"),
+    // its part has a checkpoint: what comes after that is not shown, and is not in what is sent
+    Takes(0, P2b(SINGLE_1, 0, "abX1c"), Nothing, "b"),
+    Takes(0, P2b(SINGLE_1, 1, "abX1cd2"), Final(1, "abX1"), "abX1"),
+    // votes and Finals of the epoch before change nothing, nor do those of a later one
+    Takes(0, P2b(SINGLE_1, 2, "abX1cd2"), Nothing, "abX1"),
+    Takes(0, Final(0, "abX1e2"), Nothing, "abX1"),
+    Takes(2, Final(0, "e3"), Nothing, "abX1"),
+    // the votes that were held do not count in the new epoch; what is learned there comes after the rest
+    Takes(1, P2b(SINGLE_1, 0, "e"), Nothing, "abX1"),
+    Takes(2, P2b(SINGLE_1, 1, "e"), Nothing, "abX1"),
+    Takes(1, P2b(SINGLE_1, 2, "eY"), Nothing, "abX1e"),
+    Takes(1, P2b(SINGLE_1, 0, "eY"), Nothing, "abX1eY"),
+    // what is sent is of this epoch alone
+    Takes(1, P2b(SINGLE_2, 1, "3eY"), Nothing, "abX1eY"),
+    Takes(1, P2b(SINGLE_1, 0, "eY3Z"), Nothing, "abX1eY"),
+    Takes(1, P2b(SINGLE_1, 1, "eY3"), Final(1, "eY3"), "abX1eY3"),
 ];
 
-const WITHOUT_A_CRASH: [Step; 1] = [(Text::P2b(SINGLE_1, 2, "ab"), "a")];
+static OVER_FINALS: [Step; 16] = [
+    Takes(0, P2b(SINGLE_1, 0, "a"), Nothing, ""),
+    Takes(0, P2b(SINGLE_1, 1, "ab"), Nothing, "a"),
+    // a Final of a later epoch changes nothing
+    Takes(1, Final(0, "c2"), Nothing, "a"),
+    // that of its own is joined to what is learned, whichever learner sent it, and sends nothing
+    Takes(0, Final(9, "aX1"), Nothing, "aX1"),
+    Takes(0, Final(0, "aX1c2"), Nothing, "aX1"),
+    // in the next epoch nothing was heard yet
+    Takes(1, P2b(SINGLE_1, 2, "b"), Nothing, "aX1"),
+    Takes(1, P2b(SINGLE_1, 0, "b"), Nothing, "aX1b"),
+    Takes(1, Final(1, "bY2"), Nothing, "aX1bY2"),
+    // a copy is in the same epoch
+    IsCopied,
+    Takes(1, Final(1, "c3"), Nothing, "aX1bY2"),
+    Takes(2, Final(1, "3"), Nothing, "aX1bY23"),
+    Crashes,
+    // it is in epoch 0 again
+    Takes(3, P2b(SINGLE_1, 0, "c"), Nothing, ""),
+    Takes(3, P2b(SINGLE_1, 1, "c"), Nothing, ""),
+    Takes(3, Final(0, "c4"), Nothing, ""),
+    Takes(0, Final(0, "aX1"), Nothing, "aX1"),
+];
 
-fn takes(rt: &impl Abort, alloc: Global, learner: &mut Learner, step: Step) -> Result<(), Fail> {
-    if let Some(m) = message(alloc, step.0)? {
+fn takes(
+    rt: &impl Abort,
+    alloc: Global,
+    learner: &mut Learner,
+    epoch: u32,
+    text: Text,
+    want: Text,
+) -> Result<(), Fail> {
+    if let Some(m) = message(alloc, epoch, text)? {
+        assert!(rt; epoch_of(&m) < u32::MAX);
         let outs = learner.take(&m)?;
-        assert!(rt; outs.as_slice().is_empty());
-        assert!(rt; learner.learned().same(&history(alloc, step.1)?));
+        assert!(rt;
+            is_sent(alloc, &outs, epoch, want)?,
+            "for {text:?} in epoch {epoch}"
+        );
     }
     Ok(())
 }
 
-// A learner that takes these.
-fn led(rt: &impl Abort, alloc: Global, steps: &[Step]) -> Result<Learner, Fail> {
-    let mut learner = Learner::new(alloc, &three()?, 0)?;
-    takes_all(rt, alloc, &mut learner, steps)?;
-    Ok(learner)
+// Whether it learned what a word stands for.
+fn shows(alloc: Global, learner: &Learner, word: &str) -> Result<bool, Fail> {
+    let want = history(alloc, word)?;
+    Ok(learner.learned().same(&want))
 }
 
-fn takes_all(
-    rt: &impl Abort,
-    alloc: Global,
-    learner: &mut Learner,
-    steps: &[Step],
-) -> Result<(), Fail> {
+fn makes(rt: &impl Abort, alloc: Global, learner: &mut Learner, step: Step) -> Result<(), Fail> {
+    match step {
+        Takes(epoch, text, want, learned) => {
+            takes(rt, alloc, learner, epoch, text, want)?;
+            assert!(rt;
+                shows(alloc, learner, learned)?,
+                "after {text:?} in epoch {epoch}"
+            );
+        }
+        Crashes => {
+            learner.fall();
+            assert!(rt; learner.learned().len() == 0);
+        }
+        IsCopied => *learner = learner.copy()?,
+    }
+    Ok(())
+}
+
+fn plays(rt: &impl Abort, alloc: Global, steps: &[Step]) -> Result<(), Fail> {
+    let mut learner = Learner::new(alloc, &three()?, 1)?;
     for step in steps {
-        takes(rt, alloc, learner, *step)?;
+        makes(rt, alloc, &mut learner, *step)?;
     }
     Ok(())
 }
 
 #[test]
 fn what_a_quorum_voted_is_learned(rt: HostRuntime) -> Result<(), Fail> {
-    led(&rt, rt.alloc(), &IN_SINGLE_ROUNDS)?;
-    Ok(())
+    plays(&rt, rt.alloc(), &IN_SINGLE_ROUNDS)
 }
 
 #[test]
 fn a_fast_round_has_fast_quorums(rt: HostRuntime) -> Result<(), Fail> {
-    led(&rt, rt.alloc(), &IN_A_FAST_ROUND)?;
-    Ok(())
+    plays(&rt, rt.alloc(), &IN_A_FAST_ROUND)
 }
 
 #[test]
 fn a_crash_loses_all(rt: HostRuntime) -> Result<(), Fail> {
-    let alloc = rt.alloc();
-    let mut learner = led(&rt, alloc, &LEARNED)?;
-    learner.fall();
-    assert_eq!(rt; learner.learned().len(), 0);
-    takes_all(&rt, alloc, &mut learner, &BEHIND_A_CRASH)
+    plays(&rt, rt.alloc(), &OVER_A_CRASH)
 }
 
 #[test]
-fn a_copy_does_not_crash(rt: HostRuntime) -> Result<(), Fail> {
-    let alloc = rt.alloc();
-    let mut learner = led(&rt, alloc, &LEARNED)?;
-    let mut copy = learner.copy()?;
-    learner.fall();
-    takes_all(&rt, alloc, &mut copy, &WITHOUT_A_CRASH)
+fn a_learned_checkpoint_closes_the_epoch(rt: HostRuntime) -> Result<(), Fail> {
+    plays(&rt, rt.alloc(), &OVER_CHECKPOINTS)
+}
+
+#[test]
+fn a_final_closes_the_epoch(rt: HostRuntime) -> Result<(), Fail> {
+    plays(&rt, rt.alloc(), &OVER_FINALS)
 }

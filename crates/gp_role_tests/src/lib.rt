@@ -1,5 +1,6 @@
-//! Tests of messages, the safe choice and the roles, as tables: each step that a role can make, steps
-//! that change nothing, and each call that can want memory once where there is enough.
+//! Tests of messages, the safe choice and the roles, as tables: each step that a role can make in an
+//! epoch and from one to another, steps that change nothing, and each call that takes memory, with
+//! ample memory.
 #![tactic(auto)]
 
 #[cfg(test)]

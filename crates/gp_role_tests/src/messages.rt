@@ -1,49 +1,61 @@
 //! Kinds of messages, who reads them, and copies.
 use crate::scene::{FAST_1, SINGLE_1, Text, ZERO, are_alike, draft, history, message};
 use gp_history::Hist;
-use gp_msg::{Durable, Event, Kept, MsgKind, Node, Outs, Record, Records, reads};
+use gp_index::History;
+use gp_msg::{Durable, Event, Kept, Msg, MsgKind, Node, Outs, Record, Records, reads};
 use std::alloc::Global;
 use std::process::Abort;
 use std::test::Fail;
 
-const KINDS: [(Text, MsgKind); 5] = [
-    (Text::Propose(b'a'), MsgKind::Propose),
-    (Text::P1a(SINGLE_1), MsgKind::P1a),
-    (Text::P1b(SINGLE_1, 2, ZERO, "ab"), MsgKind::P1b),
-    (Text::P2a(FAST_1, 1, "ab"), MsgKind::P2a),
-    (Text::P2b(FAST_1, 0, "X"), MsgKind::P2b),
+// A message, its epoch and its kind.
+static KINDS: [(Text, u32, MsgKind); 6] = [
+    (Text::Propose(b'a'), 0, MsgKind::Propose),
+    (Text::P1a(SINGLE_1), 1, MsgKind::P1a),
+    (Text::P1b(SINGLE_1, 2, ZERO, "ab"), 2, MsgKind::P1b),
+    (Text::P2a(FAST_1, 1, "ab"), 3, MsgKind::P2a),
+    (Text::P2b(FAST_1, 0, "X"), 4, MsgKind::P2b),
+    (Text::Final(1, "X1"), 5, MsgKind::Final),
 ];
 
 #[test]
 fn a_message_has_a_kind_and_copies(rt: HostRuntime) -> Result<(), Fail> {
-    for (text, kind) in KINDS {
-        check(&rt, rt.alloc(), text, kind)?;
+    for (text, epoch, kind) in &KINDS {
+        check(&rt, rt.alloc(), *text, *epoch, *kind)?;
     }
     Ok(())
 }
 
-fn check(rt: &impl Abort, alloc: Global, text: Text, kind: MsgKind) -> Result<(), Fail> {
-    if let Some(m) = message(alloc, text)? {
+fn check(
+    rt: &impl Abort,
+    alloc: Global,
+    text: Text,
+    epoch: u32,
+    kind: MsgKind,
+) -> Result<(), Fail> {
+    if let Some(m) = message(alloc, epoch, text)? {
         assert_eq!(rt; m.kind(), kind);
         assert!(rt; are_alike(&m.copy()?, &m));
     }
     Ok(())
 }
 
+// A kind, and whether a proposer, a coordinator, an acceptor and a learner read it.
+static READS: [(MsgKind, bool, bool, bool, bool); 6] = [
+    (MsgKind::Propose, false, true, true, false),
+    (MsgKind::P1a, false, true, true, false),
+    (MsgKind::P1b, false, true, false, false),
+    (MsgKind::P2a, false, false, true, false),
+    (MsgKind::P2b, false, false, false, true),
+    (MsgKind::Final, false, true, true, true),
+];
+
 #[test]
 fn nodes_read_these_kinds(rt: HostRuntime) {
-    // the kind, and whether a proposer, a coordinator, an acceptor and a learner read it
-    for (kind, proposer, coordinator, acceptor, learner) in [
-        (MsgKind::Propose, false, true, true, false),
-        (MsgKind::P1a, false, true, true, false),
-        (MsgKind::P1b, false, true, false, false),
-        (MsgKind::P2a, false, false, true, false),
-        (MsgKind::P2b, false, false, false, true),
-    ] {
-        assert_eq!(rt; reads(Node::Proposer(1), kind), proposer);
-        assert_eq!(rt; reads(Node::Coordinator(0), kind), coordinator);
-        assert_eq!(rt; reads(Node::Acceptor(2), kind), acceptor);
-        assert_eq!(rt; reads(Node::Learner(0), kind), learner);
+    for (kind, proposer, coordinator, acceptor, learner) in &READS {
+        assert_eq!(rt; reads(Node::Proposer(1), *kind), *proposer);
+        assert_eq!(rt; reads(Node::Coordinator(0), *kind), *coordinator);
+        assert_eq!(rt; reads(Node::Acceptor(2), *kind), *acceptor);
+        assert_eq!(rt; reads(Node::Learner(0), *kind), *learner);
     }
 }
 
@@ -51,21 +63,33 @@ fn nodes_read_these_kinds(rt: HostRuntime) {
 fn durable_parts_have_copies(rt: HostRuntime) -> Result<(), Fail> {
     let alloc = rt.alloc();
     let acceptor = Durable::Acceptor {
+        epoch: 7,
         round: FAST_1,
         voted: SINGLE_1,
         vote: history(alloc, "aX")?,
     };
+    assert!(rt; is_that_part(&acceptor.copy()?, &history(alloc, "aX")?));
+    let coordinator = Durable::Coordinator {
+        epoch: 7,
+        round: FAST_1,
+    };
     assert!(rt;
-        match acceptor.copy()? {
-            Durable::Acceptor { round, voted, vote } => {
-                round == FAST_1 && voted == SINGLE_1 && vote.same(&history(alloc, "aX")?)
-            }
-            Durable::Coordinator { .. } => false,
-        }
+        matches!(coordinator.copy()?, Durable::Coordinator { epoch: 7, round } if round == FAST_1)
     );
-    let coordinator = Durable::Coordinator { round: FAST_1 };
-    assert!(rt; matches!(coordinator.copy()?, Durable::Coordinator { round } if round == FAST_1));
     Ok(())
+}
+
+// Whether it is the part of that acceptor, with this vote.
+fn is_that_part(durable: &Durable, v: &History) -> bool {
+    match durable {
+        Durable::Acceptor {
+            epoch,
+            round,
+            voted,
+            vote,
+        } => *epoch == 7 && *round == FAST_1 && *voted == SINGLE_1 && vote.same(v),
+        Durable::Coordinator { .. } => false,
+    }
 }
 
 #[test]
@@ -110,25 +134,32 @@ fn crashes_have_copies(rt: HostRuntime) -> Result<(), Fail> {
 // A record of acceptor 2, which sent a message of each kind.
 fn record(alloc: Global) -> Result<Record, Fail> {
     let node = Node::Acceptor(2);
-    let mut out = Outs::new(alloc);
-    for (text, _) in KINDS {
-        if let Some(m) = message(alloc, text)? {
-            out.push(m)?;
-        }
-    }
     let event = Event::Take { node, message: 0 };
+    let out = sent(alloc)?;
     Ok(Record { node, event, out })
 }
 
-// Whether it is that record, as far as the kinds of its messages tell.
-fn is_that_record(record: &Record) -> bool {
-    let sent = record.out.as_slice();
-    record.node == Node::Acceptor(2)
-        && sent.len() == KINDS.len()
-        && sent
-            .iter()
-            .zip(KINDS)
-            .all(|(m, (_, kind))| m.kind() == kind)
+fn sent(alloc: Global) -> Result<Outs, Fail> {
+    let mut out = Outs::new(alloc);
+    for (text, epoch, _) in &KINDS {
+        if let Some(m) = message(alloc, *epoch, *text)? {
+            out.push(m)?;
+        }
+    }
+    Ok(out)
+}
+
+// Whether these are the same messages.
+fn are_all_alike(some: &[Msg], others: &[Msg]) -> bool {
+    some.len() == others.len() && some.iter().zip(others).all(|(a, b)| are_alike(a, b))
+}
+
+// Whether it is that record.
+fn is_that_record(record: &Record, sent: &Outs) -> bool {
+    let node = Node::Acceptor(2);
+    record.node == node
+        && matches!(&record.event, Event::Take { node: n, message: 0 } if *n == node)
+        && are_all_alike(record.out.as_slice(), sent.as_slice())
 }
 
 #[test]
@@ -137,7 +168,9 @@ fn records_hold_messages_in_their_order(rt: HostRuntime) -> Result<(), Fail> {
     let mut records = Records::new(alloc);
     records.push(record(alloc)?.copy()?)?;
     records.push(record(alloc)?)?;
+    let want = sent(alloc)?;
     assert_eq!(rt; records.as_slice().len(), 2);
-    assert!(rt; records.as_slice().iter().all(is_that_record));
+    assert_eq!(rt; want.as_slice().len(), 6);
+    assert!(rt; records.as_slice().iter().all(|r| is_that_record(r, &want)));
     Ok(())
 }

@@ -15,7 +15,7 @@ fn offers_are_numbered_from_1(rt: HostRuntime) -> Result<(), Fail> {
     let mut proposer = Proposer::new(3);
     offers(&rt, alloc, &mut proposer, b'a', 1)?;
     offers(&rt, alloc, &mut proposer, b'X', 2)?;
-    offers(&rt, alloc, &mut proposer, b'a', 3)
+    offers(&rt, alloc, &mut proposer, b'1', 3)
 }
 
 fn offers(

@@ -10,55 +10,53 @@ use std::test::Fail;
 // What an acceptor answered: its number, the round of its vote, and the vote.
 type Reply = (u32, Round, &'static str);
 
-#[test]
-fn among_three_acceptors(rt: HostRuntime) -> Result<(), Fail> {
-    let config = Config::new(3, 1, 1)?;
-    for (replies, want) in [
-        // nobody voted yet
-        ([(0, ZERO, ""), (2, ZERO, "")], ""),
-        // a fast quorum is all three: acceptor 1 answered an older round, so none counts, and the
-        // vote of the lowest acceptor that answered the fast round is left
-        ([(0, FAST_1, "X"), (1, ZERO, "")], "X"),
-        ([(1, ZERO, ""), (2, FAST_1, "Y")], "Y"),
-        // all three count: the vote of acceptor 2 may agree with what is common
-        ([(0, FAST_1, "aX"), (1, FAST_1, "bX")], "X"),
-        // two of three are a quorum of a single round: 1 and 2, of whom 1 answered
-        ([(0, SINGLE_1, "abc"), (1, SINGLE_2, "d")], "d"),
-        // the quorums 0 and 2, 1 and 2, and 0 and 1, of whom 2 did not answer: all votes
-        ([(0, SINGLE_1, "ab"), (1, SINGLE_1, "abc")], "abc"),
-    ] {
-        assert!(rt; is_picked(rt.alloc(), &config, &replies, want)?);
-    }
-    Ok(())
-}
+// What was answered, and the safe choice.
+type Row = (&'static [Reply], &'static str);
 
-#[test]
-fn among_four_acceptors(rt: HostRuntime) -> Result<(), Fail> {
-    let config = Config::new(4, 1, 1)?;
-    for (replies, want) in [
-        // a fast quorum is three of four: two of those who answered share `X` alone, and what 2 voted
-        // has it behind `Y`; the longest vote is not the pick
-        (
-            [(0, FAST_1, "X"), (1, FAST_1, "X"), (2, FAST_1, "YXab")],
-            "X",
-        ),
-        // each two have something in common
-        (
-            [(0, FAST_1, "ab"), (1, FAST_1, "bc"), (2, FAST_1, "ca")],
-            "abc",
-        ),
-        // of the quorums only 0, 1 and 3 has no member that answered an older round
-        (
-            [(0, FAST_1, "ab"), (1, FAST_1, "bc"), (2, SINGLE_1, "abc")],
-            "b",
-        ),
-    ] {
-        assert!(rt; is_picked(rt.alloc(), &config, &replies, want)?);
-    }
-    Ok(())
-}
+static AMONG_THREE: [Row; 9] = [
+    // nobody answered, or nobody that the configuration has
+    (&[], ""),
+    (&[(3, FAST_1, "X")], ""),
+    // nobody voted yet
+    (&[(0, ZERO, ""), (2, ZERO, "")], ""),
+    // a fast quorum is all three: acceptor 1 answered an older round, so none counts, and the vote of
+    // the lowest acceptor that answered the fast round is left
+    (&[(0, FAST_1, "X"), (1, ZERO, "")], "X"),
+    (&[(1, ZERO, ""), (2, FAST_1, "Y")], "Y"),
+    // all three count: the vote of acceptor 2 may agree with what is common
+    (&[(0, FAST_1, "aX"), (1, FAST_1, "bX")], "X"),
+    // two of three are a quorum of a single round: 1 and 2, of whom 1 answered
+    (&[(0, SINGLE_1, "abc"), (1, SINGLE_2, "d")], "d"),
+    // the quorums 0 and 2, 1 and 2, and 0 and 1, of whom 2 did not answer: all votes
+    (&[(0, SINGLE_1, "ab"), (1, SINGLE_1, "abc")], "abc"),
+    // of two answers of one acceptor the first counts
+    (
+        &[(0, SINGLE_1, "a"), (0, SINGLE_2, "b"), (1, SINGLE_1, "a")],
+        "a",
+    ),
+];
 
-fn is_picked(alloc: Global, config: &Config, replies: &[Reply], want: &str) -> Result<bool, Fail> {
+static AMONG_FOUR: [Row; 3] = [
+    // a fast quorum is three of four: two of those who answered share `X` alone, and what 2 voted has it
+    // after `Y`; the longest vote is not the pick
+    (
+        &[(0, FAST_1, "X"), (1, FAST_1, "X"), (2, FAST_1, "YXab")],
+        "X",
+    ),
+    // each two have something in common
+    (
+        &[(0, FAST_1, "ab"), (1, FAST_1, "bc"), (2, FAST_1, "ca")],
+        "abc",
+    ),
+    // of the quorums only 0, 1 and 3 has no member that answered an older round
+    (
+        &[(0, FAST_1, "ab"), (1, FAST_1, "bc"), (2, SINGLE_1, "abc")],
+        "b",
+    ),
+];
+
+fn is_picked(alloc: Global, config: &Config, row: Row) -> Result<bool, Fail> {
+    let (replies, want) = row;
     let mut answers = Vec::new(alloc);
     for (acceptor, round, word) in replies {
         answers.push(Answer {
@@ -69,4 +67,22 @@ fn is_picked(alloc: Global, config: &Config, replies: &[Reply], want: &str) -> R
     }
     let picked = pick(alloc, config, &answers)?;
     Ok(picked.same(&history(alloc, want)?))
+}
+
+fn are_picked(rt: &impl Abort, alloc: Global, acceptors: u32, rows: &[Row]) -> Result<(), Fail> {
+    let config = Config::new(acceptors, 1, 1)?;
+    for row in rows {
+        assert!(rt; is_picked(alloc, &config, *row)?, "for {row:?}");
+    }
+    Ok(())
+}
+
+#[test]
+fn among_three_acceptors(rt: HostRuntime) -> Result<(), Fail> {
+    are_picked(&rt, rt.alloc(), 3, &AMONG_THREE)
+}
+
+#[test]
+fn among_four_acceptors(rt: HostRuntime) -> Result<(), Fail> {
+    are_picked(&rt, rt.alloc(), 4, &AMONG_FOUR)
 }

@@ -2,9 +2,14 @@
 //!
 //! A letter stands for a command of proposer 0: `a` to `z` write the key of that letter, and `A` to `Z`
 //! all write the key `x`. So two capitals conflict, `x` and a capital do, and no other two letters. A
-//! word stands for the history in which its letters were pushed in their order.
+//! digit is a checkpoint, which conflicts with every other command. A word stands for the history in
+//! which its letters were pushed in their order.
+ghost use Rattle.std.specs.Prelude.{◌≡◌};
+ghost use Rattle.gp_msg.specs.Messages.{message_of, epoch_of};
+
 use gp_command::{Access, Command, CommandId, Draft, Key, Touch};
-use gp_history::{Hist, SeqHistory};
+use gp_history::Hist;
+use gp_index::History;
 use gp_msg::{Msg, Outs};
 use gp_round::{Config, Mode, Round};
 use std::alloc::Global;
@@ -52,12 +57,19 @@ pub const FAST_1: Round = Round {
     lead: 0,
 };
 
+/// A single round of a coordinator that there is not, above all others here.
+pub const UNOWNED: Round = Round {
+    count: 3,
+    mode: Mode::Single,
+    lead: 5,
+};
+
 /// Three acceptors, three coordinators and two learners.
 pub fn three() -> Result<Config, Fail> {
     Ok(Config::new(3, 3, 2)?)
 }
 
-/// A message whose values are words.
+/// A message whose values are words. Its epoch stands beside it.
 #[derive(Clone, Copy, Debug)]
 pub enum Text {
     /// No message.
@@ -67,6 +79,7 @@ pub enum Text {
     P1b(Round, u32, Round, &'static str),
     P2a(Round, u32, &'static str),
     P2b(Round, u32, &'static str),
+    Final(u32, &'static str),
 }
 
 /// The command of a letter.
@@ -80,6 +93,9 @@ pub fn command(alloc: Global, letter: u8) -> Result<Command, Fail> {
 
 /// What the command of a letter does.
 pub fn draft(alloc: Global, letter: u8) -> Result<Draft, Fail> {
+    if letter.is_ascii_digit() {
+        return Ok(Draft::checkpoint(alloc, b"")?);
+    }
     let key = if letter.is_ascii_lowercase() {
         Key::new(&[letter])?
     } else {
@@ -90,92 +106,128 @@ pub fn draft(alloc: Global, letter: u8) -> Result<Draft, Fail> {
 }
 
 /// The history of a word.
-pub fn history(alloc: Global, word: &str) -> Result<SeqHistory, Fail> {
-    let mut history = SeqHistory::empty(alloc)?;
+pub fn history(alloc: Global, word: &str) -> Result<History, Fail> {
+    let mut history = History::empty(alloc)?;
     for letter in word.as_bytes() {
         history.push(command(alloc, *letter)?)?;
     }
     Ok(history)
 }
 
-/// The message of a text, where it is one.
-pub fn message(alloc: Global, text: Text) -> Result<Option<Msg>, Fail> {
+/// The message of a text in an epoch, if the text is one. A proposal is of no epoch.
+pub fn message(alloc: Global, epoch: u32, text: Text) -> Result<Option<Msg>, Fail> {
     Ok(match text {
         Text::Nothing => None,
         Text::Propose(letter) => Some(Msg::Propose {
             command: command(alloc, letter)?,
         }),
-        Text::P1a(round) => Some(Msg::P1a { round }),
+        Text::P1a(round) => Some(Msg::P1a { epoch, round }),
         Text::P1b(round, acceptor, voted, word) => Some(Msg::P1b {
+            epoch,
             round,
             acceptor,
             voted,
             vote: history(alloc, word)?,
         }),
         Text::P2a(round, coordinator, word) => Some(Msg::P2a {
+            epoch,
             round,
             coordinator,
             value: history(alloc, word)?,
         }),
         Text::P2b(round, acceptor, word) => Some(Msg::P2b {
+            epoch,
             round,
             acceptor,
             vote: history(alloc, word)?,
         }),
+        Text::Final(learner, word) => Some(Msg::Final {
+            epoch,
+            learner,
+            value: history(alloc, word)?,
+        }),
     })
 }
 
-/// Whether two messages are equal, their values as histories.
-pub fn are_alike(a: &Msg, b: &Msg) -> bool {
+/// The epoch of a message, 0 of a proposal.
+pub fn epoch_of(m: &Msg) -> u32
+    ensures { result ≡ epoch_of (message_of m.now) }
+{
+    match m {
+        Msg::Propose { .. } => 0,
+        Msg::P1a { epoch, .. }
+        | Msg::P1b { epoch, .. }
+        | Msg::P2a { epoch, .. }
+        | Msg::P2b { epoch, .. }
+        | Msg::Final { epoch, .. } => *epoch,
+    }
+}
+
+// The round of a message, the round of the last vote in an answer, and the number of the sender; zero
+// where a message has none.
+fn header(m: &Msg) -> (Round, Round, u32) {
+    match m {
+        Msg::Propose { .. } => (ZERO, ZERO, 0),
+        Msg::P1a { round, .. } => (*round, ZERO, 0),
+        Msg::P1b {
+            round,
+            acceptor,
+            voted,
+            ..
+        } => (*round, *voted, *acceptor),
+        Msg::P2a {
+            round,
+            coordinator,
+            ..
+        } => (*round, ZERO, *coordinator),
+        Msg::P2b {
+            round,
+            acceptor,
+            ..
+        } => (*round, ZERO, *acceptor),
+        Msg::Final { learner, .. } => (ZERO, ZERO, *learner),
+    }
+}
+
+// The history that a message carries.
+fn value(m: &Msg) -> Option<&History> {
+    match m {
+        Msg::Propose { .. } | Msg::P1a { .. } => None,
+        Msg::P1b { vote, .. } | Msg::P2b { vote, .. } => Some(vote),
+        Msg::P2a { value, .. } | Msg::Final { value, .. } => Some(value),
+    }
+}
+
+// The command that a message proposes.
+fn proposal(m: &Msg) -> Option<&Command> {
+    match m {
+        Msg::Propose { command } => Some(command),
+        _ => None,
+    }
+}
+
+// Whether two values are equal histories, or both are missing.
+fn are_equal(a: Option<&History>, b: Option<&History>) -> bool {
     match (a, b) {
-        (Msg::Propose { command: c }, Msg::Propose { command: d }) => c == d,
-        (Msg::P1a { round: r }, Msg::P1a { round: s }) => r == s,
-        (
-            Msg::P1b {
-                round: r,
-                acceptor: i,
-                voted: q,
-                vote: v,
-            },
-            Msg::P1b {
-                round: s,
-                acceptor: j,
-                voted: p,
-                vote: w,
-            },
-        ) => r == s && i == j && q == p && v.same(w),
-        (
-            Msg::P2a {
-                round: r,
-                coordinator: i,
-                value: v,
-            },
-            Msg::P2a {
-                round: s,
-                coordinator: j,
-                value: w,
-            },
-        ) => r == s && i == j && v.same(w),
-        (
-            Msg::P2b {
-                round: r,
-                acceptor: i,
-                vote: v,
-            },
-            Msg::P2b {
-                round: s,
-                acceptor: j,
-                vote: w,
-            },
-        ) => r == s && i == j && v.same(w),
+        (None, None) => true,
+        (Some(a), Some(b)) => a.same(b),
         _ => false,
     }
 }
 
-/// Whether a step sent the message of a text, and no other.
-pub fn is_sent(alloc: Global, outs: &Outs, text: Text) -> Result<bool, Fail> {
+/// Whether two messages are equal, their values as histories.
+pub fn are_alike(a: &Msg, b: &Msg) -> bool {
+    a.kind() == b.kind()
+        && epoch_of(a) == epoch_of(b)
+        && header(a) == header(b)
+        && proposal(a) == proposal(b)
+        && are_equal(value(a), value(b))
+}
+
+/// Whether a step sent the message of a text in an epoch, and no other.
+pub fn is_sent(alloc: Global, outs: &Outs, epoch: u32, text: Text) -> Result<bool, Fail> {
     let sent = outs.as_slice();
-    Ok(match message(alloc, text)? {
+    Ok(match message(alloc, epoch, text)? {
         None => sent.is_empty(),
         Some(want) => sent.len() == 1 && are_alike(&sent[0], &want),
     })

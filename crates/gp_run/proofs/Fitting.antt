@@ -1,4 +1,4 @@
--- An event is refused exactly where it does not fit.
+-- An event is refused exactly if it does not fit.
 use Rattle.std.proofs.Common.{◌≡◌, ℕ, Bool, true, false, cond, ◌&&◌, refl, ap, ◌∙◌, Some, None}
 use Rattle.std.specs.Prelude.{not, nat_lt, is_none, Option}
 use Rattle.gp_round.specs.Counts.{Counts}
@@ -8,8 +8,9 @@ use Rattle.gp_msg.specs.declared.node.Node.TheVariants.{Proposer, Coordinator, A
 use Rattle.gp_msg.specs.declared.event.Event.{Event}
 use Rattle.gp_msg.specs.declared.event.Event.TheVariants.{Offer, Begin, Take, Fall}
 use Rattle.gp_msg.specs.declared.event.Kept.TheVariants as kept
-use Rattle.gp_run.specs.Nodes.{is_present, fits_among}
+use Rattle.gp_run.specs.Nodes.{node_of, is_present, fits_among}
 use Rattle.gp_run.specs.Refusals.{Refusal, refusal_among, unless_owner, bad_round_or}
+use Rattle.gp_run.proofs.Choices.{left_true, right_true}
 
 -- the node is there, and nothing else refuses
 present : (b : Bool) (x : Refusal) (o : Option Refusal) → is_none (cond (not b) (Some x) o) ≡ (b && is_none o)
@@ -67,3 +68,13 @@ none_told (Some x) h = cc
 pub none_tells : {X : Type 0} (o : Option X) → o ≡ None → is_none o ≡ true
 none_tells None h = refl
 none_tells (Some x) h = cc
+
+owner_there : (n c : ℕ) (r : Round) → is_owner n c r ≡ true → nat_lt c n ≡ true
+owner_there n c r h = right_true (is_between 1 1000000 r.count) (nat_lt c n) (left_true _ _ h)
+
+-- an event that fits happens at a node of the configuration
+pub node_there : (config : Counts) (have : ℕ) (event : Event) → fits_among config have event ≡ true → is_present config (node_of event) ≡ true
+node_there config have (Offer p d) h = h
+node_there config have (Begin c r) h = owner_there config.coordinators c r h
+node_there config have (Take node k) h = left_true _ _ h
+node_there config have (Fall node what) h = left_true _ _ h

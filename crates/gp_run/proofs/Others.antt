@@ -11,13 +11,14 @@ use Rattle.gp_msg.specs.declared.event.Event.{Event}
 use Rattle.gp_msg.specs.declared.event.Event.TheVariants.{Offer, Begin, Take, Fall}
 use Rattle.gp_msg.specs.declared.event.Kept.{Kept}
 use Rattle.gp_msg.specs.declared.event.Kept.TheVariants as kept
-use Rattle.gp_msg.specs.Messages.{Message, Entry}
+use Rattle.gp_msg.specs.Messages.{Stamped, Entry}
 use Rattle.gp_proposer.specs.State.{ProposerState}
-use Rattle.gp_coordinator.specs.State.{CoordinatorState}
-use Rattle.gp_coordinator.specs.Table as coordinator
-use Rattle.gp_acceptor.specs.State.{AcceptorState}
-use Rattle.gp_acceptor.specs.Table as acceptor
-use Rattle.gp_learner.specs.State.{LearnerState}
+use Rattle.gp_coordinator.specs.Epochs.{CoordinatorInEpoch}
+use Rattle.gp_coordinator.specs.Epochs as coordinator
+use Rattle.gp_acceptor.specs.Epochs.{AcceptorInEpoch}
+use Rattle.gp_acceptor.specs.Epochs as acceptor
+use Rattle.gp_learner.specs.Epochs.{LearnerInEpoch}
+use Rattle.gp_learner.specs.Epochs as learner
 use Rattle.gp_run.specs.Messages.{messages, on_message}
 use Rattle.gp_run.specs.Nodes.{node_of, is_present, may_keep, fits_among}
 use Rattle.gp_run.specs.States.{proposer_acts, proposer_at, coordinator_acts, coordinator_at, coordinator_kept, acceptor_acts, acceptor_at, acceptor_kept, learner_acts, learner_at}
@@ -37,7 +38,7 @@ proposer_rests p s (Begin c r) n = refl
 proposer_rests p s (Take node k) n = refl
 proposer_rests p s (Fall node what) n = refl
 
-pub coordinator_rests : (c : ℕ) (s : CoordinatorState) (ms : List Message) (event : Event) → node_of event ≢ Coordinator c → coordinator_acts c s ms event ≡ (s, None)
+pub coordinator_rests : (c : ℕ) (s : CoordinatorInEpoch) (ms : List Stamped) (event : Event) → node_of event ≢ Coordinator c → coordinator_acts c s ms event ≡ (s, None)
 coordinator_rests c s ms (Offer p d) n = refl
 coordinator_rests c s ms (Begin b r) n = other c b _ _ (λ e. n (ap Coordinator (sym e)))
 coordinator_rests c s ms (Take (Proposer p) k) n = refl
@@ -49,7 +50,7 @@ coordinator_rests c s ms (Fall (Coordinator b) what) n = other c b _ _ (λ e. n 
 coordinator_rests c s ms (Fall (Acceptor a) what) n = refl
 coordinator_rests c s ms (Fall (Learner l) what) n = refl
 
-pub acceptor_rests : (a : ℕ) (s : AcceptorState) (ms : List Message) (event : Event) → node_of event ≢ Acceptor a → acceptor_acts a s ms event ≡ (s, None)
+pub acceptor_rests : (a : ℕ) (s : AcceptorInEpoch) (ms : List Stamped) (event : Event) → node_of event ≢ Acceptor a → acceptor_acts a s ms event ≡ (s, None)
 acceptor_rests a s ms (Offer p d) n = refl
 acceptor_rests a s ms (Begin c r) n = refl
 acceptor_rests a s ms (Take (Proposer p) k) n = refl
@@ -61,7 +62,7 @@ acceptor_rests a s ms (Fall (Coordinator c) what) n = refl
 acceptor_rests a s ms (Fall (Acceptor b) what) n = other a b _ _ (λ e. n (ap Acceptor (sym e)))
 acceptor_rests a s ms (Fall (Learner l) what) n = refl
 
-pub learner_rests : (l : ℕ) (s : LearnerState) (ms : List Message) (event : Event) → node_of event ≢ Learner l → learner_acts l s ms event ≡ s
+pub learner_rests : (l : ℕ) (s : LearnerInEpoch) (ms : List Stamped) (event : Event) → node_of event ≢ Learner l → learner_acts l s ms event ≡ (s, None)
 learner_rests l s ms (Offer p d) n = refl
 learner_rests l s ms (Begin c r) n = refl
 learner_rests l s ms (Take (Proposer p) k) n = refl
@@ -92,7 +93,7 @@ acceptor_stays config a (e ∷ more) es h =
 pub learner_stays : (config : Counts) (l : ℕ) (more es : List Entry) → AreOfOthers (Learner l) more → learner_at config l (more ++ es) ≡ learner_at config l es
 learner_stays config l [] es h = refl
 learner_stays config l (e ∷ more) es h =
-    learner_rests l (learner_at config l (more ++ es)) (messages (more ++ es)) e.event h.0 ∙ learner_stays config l more es h.1
+    ap (λ u. u.0) (learner_rests l (learner_at config l (more ++ es)) (messages (more ++ es)) e.event h.0) ∙ learner_stays config l more es h.1
 
 -- ---- what follows still does
 
@@ -127,41 +128,54 @@ fits_among_more config n m (Take node k) le h = both (is_present config node) (n
 fits_among_more config n m (Fall node what) le h =
     both (is_present config node) (may_keep config n node what) (is_present config node) (may_keep config m node what) h (λ e. e) (keeps_among_more config n m node what le)
 
-no_message : {X : Type 0} (b : Bool) (s t : X) (o : Option Message) → o ≡ (cond {A = X × Option Message} b (s, o) (t, o)).1
+no_message : {X : Type 0} (b : Bool) (s t : X) (o : Option Stamped) → o ≡ (cond {A = X × Option Stamped} b (s, o) (t, o)).1
 no_message true s t o = refl
 no_message false s t o = refl
 
--- a message that is named stands in more messages too
+-- a named message that was sent is also among more messages
 named_stands : (config : Counts) (node : Node) (k n : ℕ) → fits_among config n (Take node k) ≡ true → k < n
 named_stands config node k n h = ltb-true k n (right_true (is_present config node) (nat_lt k n) h)
 
-coordinator_sends : (config : Counts) (c : ℕ) (s : CoordinatorState) (ms more : List Message) (event : Event) → fits_among config (length ms) event ≡ true → (coordinator_acts c s (ms ++ more) event).1 ≡ (coordinator_acts c s ms event).1
+coordinator_sends : (config : Counts) (c : ℕ) (s : CoordinatorInEpoch) (ms more : List Stamped) (event : Event) → fits_among config (length ms) event ≡ true → (coordinator_acts c s (ms ++ more) event).1 ≡ (coordinator_acts c s ms event).1
 coordinator_sends config c s ms more (Offer p d) h = refl
 coordinator_sends config c s ms more (Begin b r) h = refl
 coordinator_sends config c s ms more (Take (Proposer p) k) h = refl
 coordinator_sends config c s ms more (Take (Coordinator b) k) h =
-    ap (λ o. (cond (nat_eq c b) (on_message (s, None) (coordinator.coordinator_take s) o) (s, None)).1) (front ms more k (named_stands config (Coordinator b) k (length ms) h))
+    ap (λ o. (cond (nat_eq c b) (on_message (s, None) (coordinator.take s) o) (s, None)).1) (front ms more k (named_stands config (Coordinator b) k (length ms) h))
 coordinator_sends config c s ms more (Take (Acceptor a) k) h = refl
 coordinator_sends config c s ms more (Take (Learner l) k) h = refl
 coordinator_sends config c s ms more (Fall (Proposer p) what) h = refl
 coordinator_sends config c s ms more (Fall (Coordinator b) what) h =
-    sym (no_message (nat_eq c b) (coordinator.coordinator_fall s (coordinator_kept s (ms ++ more) what)) s None) ∙ no_message (nat_eq c b) (coordinator.coordinator_fall s (coordinator_kept s ms what)) s None
+    sym (no_message (nat_eq c b) (coordinator.fall s (coordinator_kept s (ms ++ more) what)) s None) ∙ no_message (nat_eq c b) (coordinator.fall s (coordinator_kept s ms what)) s None
 coordinator_sends config c s ms more (Fall (Acceptor a) what) h = refl
 coordinator_sends config c s ms more (Fall (Learner l) what) h = refl
 
-acceptor_sends : (config : Counts) (a : ℕ) (s : AcceptorState) (ms more : List Message) (event : Event) → fits_among config (length ms) event ≡ true → (acceptor_acts a s (ms ++ more) event).1 ≡ (acceptor_acts a s ms event).1
+acceptor_sends : (config : Counts) (a : ℕ) (s : AcceptorInEpoch) (ms more : List Stamped) (event : Event) → fits_among config (length ms) event ≡ true → (acceptor_acts a s (ms ++ more) event).1 ≡ (acceptor_acts a s ms event).1
 acceptor_sends config a s ms more (Offer p d) h = refl
 acceptor_sends config a s ms more (Begin c r) h = refl
 acceptor_sends config a s ms more (Take (Proposer p) k) h = refl
 acceptor_sends config a s ms more (Take (Coordinator c) k) h = refl
 acceptor_sends config a s ms more (Take (Acceptor b) k) h =
-    ap (λ o. (cond (nat_eq a b) (on_message (s, None) (acceptor.acceptor_take s) o) (s, None)).1) (front ms more k (named_stands config (Acceptor b) k (length ms) h))
+    ap (λ o. (cond (nat_eq a b) (on_message (s, None) (acceptor.take s) o) (s, None)).1) (front ms more k (named_stands config (Acceptor b) k (length ms) h))
 acceptor_sends config a s ms more (Take (Learner l) k) h = refl
 acceptor_sends config a s ms more (Fall (Proposer p) what) h = refl
 acceptor_sends config a s ms more (Fall (Coordinator c) what) h = refl
 acceptor_sends config a s ms more (Fall (Acceptor b) what) h =
-    sym (no_message (nat_eq a b) (acceptor.acceptor_fall s (acceptor_kept s (ms ++ more) what)) s None) ∙ no_message (nat_eq a b) (acceptor.acceptor_fall s (acceptor_kept s ms what)) s None
+    sym (no_message (nat_eq a b) (acceptor.fall s (acceptor_kept s (ms ++ more) what)) s None) ∙ no_message (nat_eq a b) (acceptor.fall s (acceptor_kept s ms what)) s None
 acceptor_sends config a s ms more (Fall (Learner l) what) h = refl
+
+learner_sends : (config : Counts) (l : ℕ) (s : LearnerInEpoch) (ms more : List Stamped) (event : Event) → fits_among config (length ms) event ≡ true → (learner_acts l s (ms ++ more) event).1 ≡ (learner_acts l s ms event).1
+learner_sends config l s ms more (Offer p d) h = refl
+learner_sends config l s ms more (Begin c r) h = refl
+learner_sends config l s ms more (Take (Proposer p) k) h = refl
+learner_sends config l s ms more (Take (Coordinator c) k) h = refl
+learner_sends config l s ms more (Take (Acceptor a) k) h = refl
+learner_sends config l s ms more (Take (Learner i) k) h =
+    ap (λ o. (cond (nat_eq l i) (on_message (s, None) (learner.take s) o) (s, None)).1) (front ms more k (named_stands config (Learner i) k (length ms) h))
+learner_sends config l s ms more (Fall (Proposer p) what) h = refl
+learner_sends config l s ms more (Fall (Coordinator c) what) h = refl
+learner_sends config l s ms more (Fall (Acceptor a) what) h = refl
+learner_sends config l s ms more (Fall (Learner i) what) h = refl
 
 module _ (config : Counts) (more es : List Entry) (event : Event) (fit : fits config es event ≡ true) where
   sends_still : (node : Node) → AreOfOthers node more → sent_by config (more ++ es) node event ≡ sent_by config es node event
@@ -174,14 +188,17 @@ module _ (config : Counts) (more es : List Entry) (event : Event) (fit : fits co
       ap (λ s. (acceptor_acts a s (messages (more ++ es)) event).1) (acceptor_stays config a more es h)
       ∙ ap (λ ms. (acceptor_acts a (acceptor_at config a es) ms event).1) (messages-append more es)
       ∙ acceptor_sends config a (acceptor_at config a es) (messages es) (messages more) event fit
-  sends_still (Learner l) h = refl
+  sends_still (Learner l) h =
+      ap (λ s. (learner_acts l s (messages (more ++ es)) event).1) (learner_stays config l more es h)
+      ∙ ap (λ ms. (learner_acts l (learner_at config l es) ms event).1) (messages-append more es)
+      ∙ learner_sends config l (learner_at config l es) (messages es) (messages more) event fit
 
   fits_still : fits config (more ++ es) event ≡ true
   fits_still =
       let le : length (messages es) ≤ length (messages (more ++ es)) = omega (arith, ap length (messages-append more es), length-append (messages es) (messages more)) in
       fits_among_more config (length (messages es)) (length (messages (more ++ es))) event le fit
 
--- an entry that follows a run follows it still where entries of other nodes were added
+-- an entry that may come next may still come next after entries of other nodes
 pub follows_still : (config : Counts) (more es : List Entry) (e : Entry) → Follows config es e → AreOfOthers (node_of e.event) more → Follows config (more ++ es) e
 follows_still config more es e f h = record {
   own_node = f.own_node;

@@ -1,6 +1,6 @@
 -- The rounds that the roles take on and send: those that they had, and those of the message.
-use Rattle.std.proofs.Common.{◌≡◌, ℕ, zero, suc, ◌≤◌, ◌&&◌, List, [], ◌∷◌, Some, None, map}
-use Rattle.std.specs.Prelude.{not, nat_eq, nat_lt, Option, slice_get}
+use Rattle.std.proofs.Common.{ℕ, zero, suc, ◌≤◌, ◌&&◌, [], ◌∷◌, Some, None, map}
+use Rattle.std.specs.Prelude.{not, nat_lt, Option}
 use Rattle.std.specs.List.{flat_map}
 use Rattle.std.specs.declared.cmp.Ordering.{Ordering}
 use Rattle.std.specs.declared.cmp.Ordering.TheVariants.{Equal, Less, Greater}
@@ -13,30 +13,23 @@ use Rattle.gp_round.specs.Rounds.{earlier, same_round, is_fast, is_multi}
 use Rattle.gp_round.specs.declared.round.Round.{Round}
 use Rattle.gp_safe.specs.Choice.{Reply}
 use Rattle.gp_safe.specs.Held.{newer}
-use Rattle.gp_msg.specs.Messages.{Message, Proposed, Asked, Answered, Sent, Voted, Part, Coordinators, Acceptors}
-use Rattle.gp_msg.specs.declared.node.Node.TheVariants.{Proposer, Coordinator, Acceptor, Learner}
-use Rattle.gp_msg.specs.declared.event.Event.{Event}
-use Rattle.gp_msg.specs.declared.event.Event.TheVariants.{Offer, Begin, Take, Fall}
-use Rattle.gp_msg.specs.declared.event.Kept.{Kept}
-use Rattle.gp_msg.specs.declared.event.Kept.TheVariants as kept
-use Rattle.gp_coordinator.specs.Table as part
+use Rattle.gp_msg.specs.Messages.{Message, Proposed, Asked, Answered, Sent, Voted}
 use Rattle.gp_coordinator.specs.State.{CoordinatorState}
 use Rattle.gp_coordinator.specs.Replies.{unanswered}
-use Rattle.gp_coordinator.specs.Table.{chosen as coordinator_choice, begun, coordinator_begin, coordinator_take, coordinator_fall, expects, extended, answered, is_enough, pending_with}
+use Rattle.gp_coordinator.specs.Table.{chosen as coordinator_choice, begun, coordinator_begin, coordinator_take, expects, extended, answered, pending_with}
 use Rattle.gp_acceptor.specs.State.{AcceptorState, nobody}
-use Rattle.gp_acceptor.specs.Table.{raised, holding, counted, with_value, with_vote, value_at, told_vote, next_vote_of, acceptor_take, acceptor_fall, durable}
+use Rattle.gp_acceptor.specs.Table.{raised, holding, counted, with_value, with_vote, value_at, told_vote, next_vote_of, acceptor_take}
 use Rattle.gp_learner.specs.State.{LearnerState, Votes}
 use Rattle.gp_learner.specs.Table.{learner_take, voter_cmp, vote_of, votes_held, votes_with, hearing}
-use Rattle.gp_run.specs.States.{coordinator_acts, coordinator_kept, acceptor_acts, acceptor_kept, learner_acts}
-use Rattle.gp_run.specs.TopCount.{rounds_of, reply_rounds, learner_rounds}
+use Rattle.gp_run.specs.TopCount.{message_rounds, reply_rounds, learner_rounds}
 use Rattle.gp_run.proofs.Counting.{AreUpTo, none_up_to, cons_up_to, head_up_to, tail_up_to, set_up_to, earlier_le}
-use Rattle.gp_run.proofs.Choices.{chosen, chosen_where, with_message, right_true}
+use Rattle.gp_run.proofs.Choices.{chosen, chosen_where, right_true}
 use Rattle.gp_run.proofs.Owning.{replied}
 
 -- the rounds of a message that may be there
 abbrev pub IsUpTo : ℕ → Option Message → Type 0
 IsUpTo t None = Unit {0}
-IsUpTo t (Some m) = AreUpTo t (rounds_of m)
+IsUpTo t (Some m) = AreUpTo t (message_rounds m)
 
 pub one_up_to : (t : ℕ) (r : Round) → r.count ≤ t → AreUpTo t (r ∷ [])
 one_up_to t r h = cons_up_to t r [] h (none_up_to t)
@@ -79,7 +72,7 @@ counted_up_to t s h =
     let next = with_vote_up_to t s (next_vote_of s) h in
     record { round = next.round; voted = next.voted; message = told_up_to t s.number s.voted s.round s.vote (next_vote_of s) h.round }
 
-pub acceptor_takes : (t : ℕ) (s : AcceptorState) (m : Message) → AcceptorIsUpTo t s → AreUpTo t (rounds_of m) → AcceptorUpTo t (acceptor_take s m)
+pub acceptor_takes : (t : ℕ) (s : AcceptorState) (m : Message) → AcceptorIsUpTo t s → AreUpTo t (message_rounds m) → AcceptorUpTo t (acceptor_take s m)
 acceptor_takes t s (Proposed c) h k =
     chosen (AcceptorUpTo t) (same_round s.voted s.round && is_fast s.round.mode && not (has s.vote c))
     (record s { vote = push s.vote c }, Some (Voted s.round s.number (push s.vote c))) (s, None)
@@ -96,41 +89,6 @@ acceptor_takes t s (Sent r c v) h k =
     (counted_up_to t (holding (raised s r) c v) (with_value_up_to t (raised s r) c (newer (value_at (raised s r).held c) v) in_round)) (quiet t s h)
 acceptor_takes t s (Voted r a v) h k = quiet t s h
 
--- the durable part of an acceptor with such rounds
-abbrev PartIsUpTo : ℕ → Part → Type 0
-PartIsUpTo t (Acceptors r q v) = (r.count ≤ t) × (q.count ≤ t)
-PartIsUpTo t (Coordinators r) = Unit {0}
-
-falls : (t : ℕ) (s : AcceptorState) (p : Part) → AcceptorIsUpTo t s → PartIsUpTo t p → AcceptorUpTo t (acceptor_fall s p, None)
-falls t s (Acceptors r q v) h k = record { round = k.0; voted = k.1; message = tt }
-falls t s (Coordinators r) h k = quiet t s h
-
--- the messages that stand have rounds up to t
-abbrev pub AllUpTo : ℕ → List Message → Type 0
-AllUpTo t ms = (k : ℕ) (m : Message) → slice_get ms k ≡ Some m → AreUpTo t (rounds_of m)
-
-pub acceptor_acts_up_to : (t a : ℕ) (s : AcceptorState) (ms : List Message) (event : Event) → AcceptorIsUpTo t s → AllUpTo t ms → AcceptorUpTo t (acceptor_acts a s ms event)
-acceptor_acts_up_to t a s ms (Offer p d) h all = quiet t s h
-acceptor_acts_up_to t a s ms (Begin c r) h all = quiet t s h
-acceptor_acts_up_to t a s ms (Take (Proposer p) k) h all = quiet t s h
-acceptor_acts_up_to t a s ms (Take (Coordinator c) k) h all = quiet t s h
-acceptor_acts_up_to t a s ms (Take (Acceptor b) k) h all =
-    chosen (AcceptorUpTo t) (nat_eq a b) _ _
-    (with_message (AcceptorUpTo t) (s, None) (acceptor_take s) (slice_get ms k) (quiet t s h) (λ m e. acceptor_takes t s m h (all k m e)))
-    (quiet t s h)
-acceptor_acts_up_to t a s ms (Take (Learner l) k) h all = quiet t s h
-acceptor_acts_up_to t a s ms (Fall (Proposer p) what) h all = quiet t s h
-acceptor_acts_up_to t a s ms (Fall (Coordinator c) what) h all = quiet t s h
-acceptor_acts_up_to t a s ms (Fall (Acceptor b) what) h all =
-    chosen (AcceptorUpTo t) (nat_eq a b) (acceptor_fall s (acceptor_kept s ms what), None) (s, None) (falls t s (acceptor_kept s ms what) h (kept_up_to what)) (quiet t s h) where
-      kept_up_to : (what : Option Kept) → PartIsUpTo t (acceptor_kept s ms what)
-      kept_up_to None = (h.round, h.voted)
-      kept_up_to (Some (kept.Begin r)) = (h.round, h.voted)
-      kept_up_to (Some (kept.Take k)) =
-          with_message (PartIsUpTo t) (durable s) (λ m. durable (acceptor_take s m).0) (slice_get ms k) (h.round, h.voted)
-          (λ m e. let next = acceptor_takes t s m h (all k m e) in (next.round, next.voted))
-acceptor_acts_up_to t a s ms (Fall (Learner l) what) h all = quiet t s h
-
 -- ---- learners
 
 rounds_inserted : (t : ℕ) (votes : Votes) (r : Round) (a : ℕ) (v : History) → AreUpTo t (map (λ x. x.0.0) votes) → r.count ≤ t → AreUpTo t (map (λ x. x.0.0) (insert_entry voter_cmp votes (r, a) v))
@@ -145,7 +103,7 @@ held_up_to : (t : ℕ) (votes : Votes) (r : Round) (a : ℕ) (o : Option History
 held_up_to t votes r a None h k = h
 held_up_to t votes r a (Some v) h k = rounds_inserted t votes r a v h k
 
-learner_takes : (t : ℕ) (s : LearnerState) (m : Message) → AreUpTo t (learner_rounds s) → AreUpTo t (rounds_of m) → AreUpTo t (learner_rounds (learner_take s m))
+pub learner_takes : (t : ℕ) (s : LearnerState) (m : Message) → AreUpTo t (learner_rounds s) → AreUpTo t (message_rounds m) → AreUpTo t (learner_rounds (learner_take s m))
 learner_takes t s (Proposed c) h k = h
 learner_takes t s (Asked r) h k = h
 learner_takes t s (Answered r a q v) h k = h
@@ -153,21 +111,6 @@ learner_takes t s (Sent r c v) h k = h
 learner_takes t s (Voted r a v) h k =
     chosen (λ (x : LearnerState). AreUpTo t (learner_rounds x)) (nat_lt a s.config.acceptors) (hearing s r (votes_with s.votes r a v)) s
     (held_up_to t s.votes r a (newer (vote_of s.votes r a) v) h (head_up_to t r [] k)) h
-
-pub learner_acts_up_to : (t l : ℕ) (s : LearnerState) (ms : List Message) (event : Event) → AreUpTo t (learner_rounds s) → AllUpTo t ms → AreUpTo t (learner_rounds (learner_acts l s ms event))
-learner_acts_up_to t l s ms (Offer p d) h all = h
-learner_acts_up_to t l s ms (Begin c r) h all = h
-learner_acts_up_to t l s ms (Take (Proposer p) k) h all = h
-learner_acts_up_to t l s ms (Take (Coordinator c) k) h all = h
-learner_acts_up_to t l s ms (Take (Acceptor a) k) h all = h
-learner_acts_up_to t l s ms (Take (Learner i) k) h all =
-    chosen (λ (x : LearnerState). AreUpTo t (learner_rounds x)) (nat_eq l i) _ _
-    (with_message (λ (x : LearnerState). AreUpTo t (learner_rounds x)) s (learner_take s) (slice_get ms k) h (λ m e. learner_takes t s m h (all k m e)))
-    h
-learner_acts_up_to t l s ms (Fall (Proposer p) what) h all = h
-learner_acts_up_to t l s ms (Fall (Coordinator c) what) h all = h
-learner_acts_up_to t l s ms (Fall (Acceptor a) what) h all = h
-learner_acts_up_to t l s ms (Fall (Learner i) what) h all = chosen (λ (x : LearnerState). AreUpTo t (learner_rounds x)) (nat_eq l i) _ _ (none_up_to t) h
 
 -- ---- coordinators
 
@@ -204,7 +147,7 @@ extends t s (Some w) c h = chosen (CoordinatorStep t s) _ _ _ (sends t s (push w
 answering : (t : ℕ) (s : CoordinatorState) → RepliesUpTo t s → CoordinatorStep t s (answered s)
 answering t s h = chosen (CoordinatorStep t s) _ _ _ (sends t s (coordinator_choice s) h) (rests t s h)
 
-pub coordinator_takes : (t : ℕ) (s : CoordinatorState) (m : Message) → RepliesUpTo t s → AreUpTo t (rounds_of m) → CoordinatorStep t s (coordinator_take s m)
+pub coordinator_takes : (t : ℕ) (s : CoordinatorState) (m : Message) → RepliesUpTo t s → AreUpTo t (message_rounds m) → CoordinatorStep t s (coordinator_take s m)
 coordinator_takes t s (Proposed c) h k =
     let u : CoordinatorState = record s { pending = pending_with s.pending c } in
     let step = extends t u s.value c h in
@@ -222,35 +165,3 @@ coordinator_takes t s (Answered r a q v) h k =
     (rests t s h)
 coordinator_takes t s (Sent r c v) h k = rests t s h
 coordinator_takes t s (Voted r a v) h k = rests t s h
-
--- a durable part that is not behind the state
-abbrev IsNotBehind : CoordinatorState → Part → Type 0
-IsNotBehind s (Acceptors r q v) = Unit {0}
-IsNotBehind s (Coordinators r) = s.round.count ≤ r.count
-
-coordinator_falls : (t : ℕ) (s : CoordinatorState) (p : Part) → RepliesUpTo t s → IsNotBehind s p → CoordinatorStep t s (coordinator_fall s p, None)
-coordinator_falls t s (Acceptors r q v) h k = rests t s h
-coordinator_falls t s (Coordinators r) h k = record { forward = k; answers = no_rounds t s.config.acceptors; message = tt }
-
-pub coordinator_acts_up_to : (t c : ℕ) (s : CoordinatorState) (ms : List Message) (event : Event) → RepliesUpTo t s → AllUpTo t ms → CoordinatorStep t s (coordinator_acts c s ms event)
-coordinator_acts_up_to t c s ms (Offer p d) h all = rests t s h
-coordinator_acts_up_to t c s ms (Begin b r) h all = chosen (CoordinatorStep t s) (nat_eq c b) _ _ (coordinator_begins t s r h) (rests t s h)
-coordinator_acts_up_to t c s ms (Take (Proposer p) k) h all = rests t s h
-coordinator_acts_up_to t c s ms (Take (Coordinator b) k) h all =
-    chosen (CoordinatorStep t s) (nat_eq c b) _ _
-    (with_message (CoordinatorStep t s) (s, None) (coordinator_take s) (slice_get ms k) (rests t s h) (λ m e. coordinator_takes t s m h (all k m e)))
-    (rests t s h)
-coordinator_acts_up_to t c s ms (Take (Acceptor a) k) h all = rests t s h
-coordinator_acts_up_to t c s ms (Take (Learner l) k) h all = rests t s h
-coordinator_acts_up_to t c s ms (Fall (Proposer p) what) h all = rests t s h
-coordinator_acts_up_to t c s ms (Fall (Coordinator b) what) h all =
-    chosen (CoordinatorStep t s) (nat_eq c b) (coordinator_fall s (coordinator_kept s ms what), None) (s, None)
-    (coordinator_falls t s (coordinator_kept s ms what) h (not_behind what)) (rests t s h) where
-      not_behind : (what : Option Kept) → IsNotBehind s (coordinator_kept s ms what)
-      not_behind None = le_refl s.round.count
-      not_behind (Some (kept.Begin r)) = (coordinator_begins t s r h).forward
-      not_behind (Some (kept.Take k)) =
-          with_message (IsNotBehind s) (part.durable s) (λ m. part.durable (coordinator_take s m).0) (slice_get ms k) (le_refl s.round.count)
-          (λ m e. (coordinator_takes t s m h (all k m e)).forward)
-coordinator_acts_up_to t c s ms (Fall (Acceptor a) what) h all = rests t s h
-coordinator_acts_up_to t c s ms (Fall (Learner l) what) h all = rests t s h

@@ -3,15 +3,15 @@ use Rattle.std.specs.Prelude.{List, [], ◌∷◌, ◌++◌, Option, Some, None}
 use Rattle.std.specs.List.{flat_map}
 use Rattle.gp_msg.specs.declared.message.Msg.{Msg}
 use Rattle.gp_msg.specs.declared.record.Record.{Record}
-use Rattle.gp_msg.specs.Messages.{Message, Entry}
+use Rattle.gp_msg.specs.Messages.{Stamped, Entry}
 
--- all that were sent, the oldest first: message k stands at place k
-abbrev pub messages : List Entry → List Message
+-- all messages of a run, the oldest first: message k is at place k, from 0
+abbrev pub messages : List Entry → List Stamped
 messages [] = []
 messages (e ∷ es) = messages es ++ e.sent
 
--- what a message makes, or a default where there is none
-abbrev pub on_message : {X : Type 0} → X → (Message → X) → Option Message → X
+-- what a function makes of a message, or a default if there is none
+abbrev pub on_message : {X : Type 0} → X → (Stamped → X) → Option Stamped → X
 on_message x f None = x
 on_message x f (Some m) = f m
 

@@ -1,5 +1,5 @@
 -- A meet has no command that not each member has, and where all of its commands are known it adds nothing.
-use Rattle.std.proofs.Common.{subst, ◌≡◌, ℕ, zero, suc, ◌+◌, ◌<◌, Bool, true, false, not, ◌&&◌, ◌||◌, cond, List, [], ◌∷◌, ◌++◌, length, take, Some, None, inl, inr, refl, sym, ap, ◌∙◌, arith}
+use Rattle.std.proofs.Common.{subst, ◌≡◌, ℕ, zero, suc, ◌+◌, ◌<◌, Bool, true, false, not, ◌&&◌, ◌||◌, cond, List, [], ◌∷◌, ◌++◌, length, Some, None, inl, inr, refl, sym, ap, ◌∙◌, arith}
 use Rattle.std.specs.Prelude.{Option, filter, slice_get, unwrap_or, OnSome}
 use Rattle.std.specs.List.{list_any, list_all}
 use Rattle.std.specs.Option.{is_some, option_map}
@@ -14,12 +14,12 @@ use Rattle.gp_history.specs.History.{History, has, before, pushes}
 use Rattle.gp_history.specs.Sequence.{history_of, place, place_in}
 use Rattle.gp_history.specs.Canonical.{is_ready, next_least, and_next, least_first, canonical}
 use Rattle.gp_history.specs.Bounds.{sublists, is_shared, in_meet, meet, join, joined}
-use Rattle.gp_history.proofs.Tests.{In, both, fst_of, snd_of, left_of, right_of, one_of, not_true, by_cases, all_gives, any-append}
+use Rattle.gp_history.proofs.Tests.{In, both, fst_of, snd_of, left_of, right_of, one_of, not_true, all_gives, any-append}
 use Rattle.gp_history.proofs.Sets.{has_history_of, has-ordered_by}
 use Rattle.gp_history.proofs.Push.{push_there}
 use Rattle.gp_history.proofs.Canonical.{least_in, in_filtered}
 use Rattle.gp_history.proofs.Meet.{in_items}
-use Rattle.gp_history.proofs.Places.{take_next, at_in}
+use Rattle.gp_history.proofs.Places.{at_in}
 use Rattle.gp_round.specs.Sets.{bit}
 use Rattle.gp_safe.specs.Meets.{with_one, gathered, if_whole, quorum_meet, add_meet, quorum_meets}
 use Rattle.gp_safe.specs.News.{is_in, all_have, is_new, Addition, AdditionAmong}
@@ -56,12 +56,12 @@ meet_in_both h k c t =
 
 -- ---- what was gathered of members has only what each of them has
 
-abbrev in_gathered : Option (Option History) → Command → Bool
+abbrev pub in_gathered : Option (Option History) → Command → Bool
 in_gathered None c = false
 in_gathered (Some None) c = true
 in_gathered (Some (Some m)) c = has m c
 
-each_has : (f : ℕ → Option History) (p : ℕ → Bool) (n : ℕ) (c : Command) → in_gathered (gathered f p n) c ≡ true → all_have f p n c ≡ true
+pub each_has : (f : ℕ → Option History) (p : ℕ → Bool) (n : ℕ) (c : Command) → in_gathered (gathered f p n) c ≡ true → all_have f p n c ≡ true
 each_has f p zero c t = refl
 each_has f p (suc n) c t = step (p n) (f n) (gathered f p n) (all_have f p n c) (each_has f p n c) t where
   step : (b : Bool) (o : Option History) (g : Option (Option History)) (a : Bool) → (in_gathered g c ≡ true → a ≡ true) → in_gathered (cond b (with_one o g) g) c ≡ true → (a && (not b || is_in o c)) ≡ true
@@ -100,7 +100,7 @@ walked_in h (suc n) c i = last (least_first n h) (next_least h (history_of (leas
   last xs (Some d) r s i = one_of (list_any (same c) xs) (list_any (same c) (d ∷ [])) (sym (any-append (same c) xs (d ∷ [])) ∙ i) r
       (λ t. one_of (same c d) false t (λ u. ap (has h) (same-true c d u) ∙ s d refl) (λ v. absurd (true≢false (sym v))))
 
-join_known : (h u : History) → ((c : Command) → has u c ≡ true → has h c ≡ true) → join h u ≡ h
+pub join_known : (h u : History) → ((c : Command) → has u c ≡ true → has h c ≡ true) → join h u ≡ h
 unfolding join canonical
 join_known h u r = pushes_there h (canonical u) (λ c i. r c (walked_in u (length (set.items u.commands)) c i))
 
@@ -112,34 +112,16 @@ not_whole_adds_nothing known f p n e = by (gathered f p n) e where
   by None e = refl
   by (Some m) e = absurd (true≢false e)
 
-pub nobody_adds_nothing : (known : History) (f : ℕ → Option History) (p : ℕ → Bool) (n : ℕ) → gathered f p n ≡ Some None → joined known (add_meet (if_whole (gathered f p n)) []) ≡ known
-nobody_adds_nothing known f p n e = ap (λ g. joined known (add_meet (if_whole g) [])) e
-
 any_gives : (q : Command → Bool) (xs : List Command) (c : Command) → In xs c → q c ≡ true → list_any q xs ≡ true
 any_gives q [] c i e = absurd (true≢false (sym i))
 any_gives q (x ∷ xs) c i e = one_of (same c x) (list_any (same c) xs) i
     (λ s. left_of (q x) (list_any q xs) (ap q (sym (same-true c x s)) ∙ e))
     (λ m. right_of (q x) (list_any q xs) (any_gives q xs c m e))
 
--- no command of a member's value is new
-pub nothing_new : (known : History) (f : ℕ → Option History) (p : ℕ → Bool) (n i : ℕ) (xs : List Command) (some : Bool) → i < n → p i ≡ true → f i ≡ Some (history_of xs) → some ≡ list_any (is_new known f p n) xs → some ≡ false
-    → joined known (add_meet (if_whole (gathered f p n)) []) ≡ known
-nothing_new known f p n i xs some h e v is none = by (gathered f p n) (each_has f p n) where
-  by : (g : Option (Option History)) → ((c : Command) → in_gathered g c ≡ true → all_have f p n c ≡ true) → joined known (add_meet (if_whole g) []) ≡ known
-  by None each = refl
-  by (Some None) each = refl
-  by (Some (Some m)) each = join_known known m (λ c t. by_cases (has known c) (λ k. k) (λ k.
-      let all = each c t in
-      let there : In xs c = sym (has_history_of xs c) ∙ ap (λ o. is_in o c) (sym v) ∙ member_has f p n c i all h e in
-      absurd (true≢false (sym (any_gives (is_new known f p n) xs c there (both (ap not k) all)) ∙ sym is ∙ none))))
-
 -- ---- loops
 
 pub any_stop : (q : Command → Bool) (xs : List Command) (i : ℕ) (d : Command) → q d ≡ true → slice_get xs i ≡ Some d → list_any q xs ≡ true
 any_stop q xs i d e at = any_gives q xs d (at_in xs i d at) e
-
-pub any_step : (q : Command → Bool) (xs : List Command) (i : ℕ) (d : Command) → list_any q (take i xs) ≡ false → q d ≡ false → slice_get xs i ≡ Some d → list_any q (take (i + 1) xs) ≡ false
-any_step q xs i d none e at = ap (list_any q) (take_next xs i d at) ∙ any-append q (take i xs) (d ∷ []) ∙ (λ k. none k || (e k || false))
 
 pub all_have_stops : (f : ℕ → Option History) (p : ℕ → Bool) (n : ℕ) (c : Command) (i : ℕ) → i < n → p i ≡ true → is_in (f i) c ≡ false → all_have f p n c ≡ false
 all_have_stops f p n c i h e lacks = not_true (all_have f p n c) (λ t. true≢false (sym (member_has f p n c i t h e) ∙ lacks))

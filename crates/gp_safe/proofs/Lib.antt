@@ -1,6 +1,9 @@
 pub mod Gathering
 pub mod Choosing
 pub mod Meetings
+pub mod Changing
+pub mod Covering
 pub mod CountingQuorums
 pub mod Safety
 pub mod Adding
+pub mod Sharing

@@ -7,7 +7,8 @@ ghost use Rattle.gp_safe.specs.Counting.{AreConsistent, SomeCounts, IsLeastUpper
 
 use crate::meets::{Values, join_of_meets};
 use gp_command::NoMemory;
-use gp_history::{Hist, SeqHistory};
+use gp_history::Hist;
+use gp_index::History;
 use gp_round::{Config, Round};
 use std::alloc::Global;
 
@@ -16,24 +17,24 @@ use std::alloc::Global;
 pub struct Answer {
     pub acceptor: u32,
     pub round: Round,
-    pub vote: SeqHistory,
+    pub vote: History,
 }
 
 /// The safe choice from the answers of acceptors.
 ///
 /// Of the quorums of the greatest round that was answered, of the least size and in order of their
-/// masks, those count whose members among the answering acceptors all answered that round. Where one
-/// counts the choice is the join of the meets of their votes, and otherwise the vote of the lowest
+/// masks, those count whose members among the answering acceptors all answered that round. If one
+/// counts, the choice is the join of the meets of their votes, and otherwise the vote of the lowest
 /// acceptor that answered that round. It is in the manner of the provably safe values of Lamport,
 /// *Generalized Consensus and Paxos*, 2005. Of several answers of one acceptor the first counts, and
 /// those of acceptors that the configuration does not have are passed over.
 ///
 /// Let the acceptors that answered be a quorum of the first phase, and the meets of the quorums that
 /// count compatible in pairs. Then the choice is the least upper bound of these meets, of quorums of
-/// every size, where one counts. And it extends each value that a quorum of that round may still
+/// every size, if one counts. And it extends each value that a quorum of that round may still
 /// choose, whatever its members that did not answer have voted for.
 #[tactic(auto, using(crate::proofs::Choosing::history_of_nothing))]
-pub fn pick(alloc: Global, config: &Config, answers: &[Answer]) -> Result<SeqHistory, NoMemory>
+pub fn pick(alloc: Global, config: &Config, answers: &[Answer]) -> Result<History, NoMemory>
     ensures choice { IfOk result (λ h. history_of h ≡ safe_choice config.now.acceptors (reply_by answers.now)) }
     ensures least { IfOk result (λ h. AreConsistent config.now.acceptors (reply_by answers.now)
         → SomeCounts config.now.acceptors (reply_by answers.now)
@@ -49,7 +50,7 @@ pub fn pick(alloc: Global, config: &Config, answers: &[Answer]) -> Result<SeqHis
     }
     match lowest(&votes, n) {
         Some(vote) => vote.copy(),
-        None => Ok(SeqHistory::empty(alloc)?),
+        None => Ok(History::empty(alloc)?),
     }
 }
 
@@ -92,7 +93,7 @@ impl<'a> Values for Votes<'a> {
 
     ghost within = { λ v. answers_by (reply_by v.answers.now) };
 
-    fn value(&self, i: u32) -> Option<&SeqHistory> {
+    fn value(&self, i: u32) -> Option<&History> {
         let answer = reply_by(self.answers, i)?;
         (answer.round == self.round).then_some(&answer.vote)
     }
@@ -104,7 +105,7 @@ impl<'a> Values for Votes<'a> {
 
 // The value of the lowest acceptor that has one.
 #[tactic(auto, using(crate::proofs::Choosing::lowest_found))]
-fn lowest<'a>(votes: &'a Votes<'_>, n: u32) -> Option<&'a SeqHistory>
+fn lowest<'a>(votes: &'a Votes<'_>, n: u32) -> Option<&'a History>
     requires { n ≤ 7 }
     ensures { option_map history_of (option_copied result) ≡ lowest (votes_at votes.now.round (reply_by votes.now.answers.now)) n }
 {

@@ -6,10 +6,11 @@ ghost use Rattle.gp_safe.specs.Held.{newer, value_with};
 
 use crate::meets::Values;
 use gp_command::NoMemory;
-use gp_history::{Hist, SeqHistory};
+use gp_history::Hist;
+use gp_index::History;
 
-/// A copy of a value, where nothing is held of its sender or what is held has fewer commands.
-pub fn newer(held: Option<&SeqHistory>, value: &SeqHistory) -> Result<Option<SeqHistory>, NoMemory>
+/// A copy of a value, if nothing is held of its sender or what is held has fewer commands.
+pub fn newer(held: Option<&History>, value: &History) -> Result<Option<History>, NoMemory>
     ensures { IfOk result (λ v. option_map history_of v ≡ newer (option_map history_of (option_copied held.entry)) (history_of value.now)) }
 {
     match held {
@@ -18,12 +19,12 @@ pub fn newer(held: Option<&SeqHistory>, value: &SeqHistory) -> Result<Option<Seq
     }
 }
 
-/// Values with one in the place of what its sender gave, where there is one.
+/// Values, with one that replaces what its sender gave, if there is one.
 #[derive(Drop)]
 pub struct Replaced<'a, V> {
     pub values: &'a V,
     pub sender: u32,
-    pub value: Option<&'a SeqHistory>,
+    pub value: Option<&'a History>,
 }
 
 impl<'a, V: Values> Values for Replaced<'a, V> {
@@ -31,7 +32,7 @@ impl<'a, V: Values> Values for Replaced<'a, V> {
 
     ghost within = { λ r. V.within r.values.now };
 
-    fn value(&self, i: u32) -> Option<&SeqHistory> {
+    fn value(&self, i: u32) -> Option<&History> {
         match self.value {
             Some(value) if i == self.sender => Some(value),
             _ => self.values.value(i),

@@ -2,12 +2,15 @@
 //! are made of.
 #![tactic(auto)]
 
+mod changes;
 mod choice;
 mod held;
+mod joins;
 mod meets;
 mod news;
 
+pub use changes::join_news;
 pub use choice::{Answer, pick};
 pub use held::{Replaced, newer};
+pub use joins::join;
 pub use meets::{Values, join_of_meets};
-pub use news::join_meets_onto;

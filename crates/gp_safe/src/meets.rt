@@ -1,15 +1,19 @@
 //! The join of the meets of all quorums of one size.
-ghost use Rattle.std.specs.Prelude.{◌≡◌, ◌≤◌, ◌<◌, ◌&&◌, ℕ, Bool, Option, Some, IfOk};
+ghost use Rattle.std.specs.Prelude.{◌≡◌, ◌≤◌, ◌<◌, ◌&&◌, ℕ, Bool, true, Option, Some, IfOk};
+ghost use Rattle.std.specs.List.{list_all};
 ghost use Rattle.std.specs.Option.{option_map, option_copied, is_some};
-ghost use Rattle.gp_history.specs.History.{History};
+ghost use Rattle.gp_history.specs.History.{History, has};
 ghost use Rattle.gp_history.specs.Sequence.{history_of};
 ghost use Rattle.gp_round.specs.Sets.{masks, bit};
 ghost use Rattle.gp_safe.specs.Met.{met_history};
+ghost use Rattle.gp_safe.specs.Covered.{HasValue, HasAllValues};
 ghost use Rattle.gp_safe.specs.Meets.{with_one, gathered, quorum_meet, quorum_meets, all_joined, with_meet};
 
+use crate::news::has_near;
 use gp_bounds::{join_onto, meet};
 use gp_command::NoMemory;
-use gp_history::{Hist, SeqHistory};
+use gp_history::Hist;
+use gp_index::History;
 use gp_round::{Subsets, is_member};
 use std::alloc::Global;
 
@@ -21,44 +25,86 @@ pub trait Values {
     /// Whether a sender counts.
     ghost within: { Self → ℕ → Bool };
 
-    /// The value of a sender, where it has one.
-    fn value(&self, i: u32) -> Option<&SeqHistory>
+    /// The value of a sender, if it has one.
+    fn value(&self, i: u32) -> Option<&History>
         requires { i < 8 }
         ensures { option_map history_of (option_copied result) ≡ value self.now i };
 
-    /// Whether a sender counts. A quorum is whole where each member that counts has a value.
+    /// Whether a sender counts. A set of senders is whole if each member that counts has a value.
     fn is_within(&self, i: u32) -> bool
         requires { i < 8 }
         ensures { result ≡ within self.now i };
 }
 
 /// The join of the meets of those sets with `size` of n senders that are whole, in order of their
-/// masks, where there is one.
+/// masks, if there is one.
 #[tactic(auto, using(crate::proofs::Gathering::one_more_meet))]
 pub fn join_of_meets<V: Values>(
     alloc: Global,
     values: &V,
     n: u32,
     size: u32,
-) -> Result<Option<SeqHistory>, NoMemory>
+) -> Result<Option<History>, NoMemory>
     requires few { n ≤ 7 }
     requires room { size ≤ n }
     ensures { IfOk result (λ j. option_map history_of j ≡ all_joined (quorum_meets (V.value values.now) (V.within values.now) n (masks n size))) }
 {
     let mut joined = None;
+    let mut whole = false;
     for mask in Subsets::new(n, size) {
-        let met = quorum_meet(alloc, values, n, mask)?;
-        joined = with_meet(joined, met)?;
+        if !whole {
+            let met = quorum_meet(alloc, values, n, mask)?;
+            joined = with_meet(joined, met)?;
+            whole = has_all_values(joined.as_ref(), values, n);
+        }
     }
     Ok(joined)
 }
 
-// What there was, joined with one more where there is one.
+// Whether a join has all commands of the values of all senders that count, so that no further meet
+// adds any.
+fn has_all_values<V: Values>(joined: Option<&History>, values: &V, n: u32) -> bool
+    requires { n ≤ 7 }
+    ensures all { result ≡ true → HasAllValues (option_map history_of (option_copied joined.entry)) (V.value values.now) (V.within values.now) n }
+{
+    let Some(joined) = joined else {
+        return false;
+    };
+    for i in 0..n {
+        if !has_value_of(joined, values, i) {
+            return false;
+        }
+    }
+    true
+}
+
+// Whether a history has all commands of the value of a sender, if it has a value.
+fn has_value_of<V: Values>(joined: &History, values: &V, i: u32) -> bool
+    requires { i < 8 }
+    ensures { result ≡ true → HasValue (history_of joined.now) (V.value values.now i) }
+{
+    match values.value(i) {
+        Some(value) => has_all_of(joined, value),
+        None => true,
+    }
+}
+
+// Whether a history has all commands of another one.
+fn has_all_of(joined: &History, value: &History) -> bool
+    ensures { result ≡ list_all (has (history_of joined.now)) value.now }
+{
+    for i in 0..value.len() {
+        let c = value.at(i);
+        if !has_near(joined, c, i) {
+            return false;
+        }
+    }
+    true
+}
+
+// What there was, joined with one more if there is one.
 #[tactic(auto, using(crate::proofs::Gathering::join_empty))]
-fn with_meet(
-    joined: Option<SeqHistory>,
-    met: Option<SeqHistory>,
-) -> Result<Option<SeqHistory>, NoMemory>
+fn with_meet(joined: Option<History>, met: Option<History>) -> Result<Option<History>, NoMemory>
     ensures { IfOk result (λ j. option_map history_of j ≡ with_meet (option_map history_of joined) (option_map history_of met)) }
 {
     match (joined, met) {
@@ -74,7 +120,7 @@ pub(crate) fn quorum_meet<V: Values>(
     values: &V,
     n: u32,
     mask: u8,
-) -> Result<Option<SeqHistory>, NoMemory>
+) -> Result<Option<History>, NoMemory>
     requires { n ≤ 7 }
     ensures { IfOk result (λ m. option_map history_of m ≡ quorum_meet (V.value values.now) (V.within values.now) n mask) }
 {
@@ -109,18 +155,18 @@ pub(crate) fn is_whole<V: Values>(values: &V, n: u32, mask: u8) -> bool
     true
 }
 
-// The meet of one value or of several, where one needs no copy.
+// The meet of one value, which is not copied, or of several.
 #[derive(Drop)]
 enum Met<'a> {
-    One(&'a SeqHistory),
-    Several(SeqHistory),
+    One(&'a History),
+    Several(History),
 }
 
 // The meet with one value more.
 fn and_value<'a>(
     alloc: Global,
     met: Option<Met<'a>>,
-    value: &'a SeqHistory,
+    value: &'a History,
 ) -> Result<Met<'a>, NoMemory>
     ensures { IfOk result (λ m. with_one (Some (history_of value.now)) (Some (option_map met_history met.entry)) ≡ Some (Some (met_history m))) }
 {

@@ -16,8 +16,7 @@ use std::marker::Model;
 /// A number below 2^64 at some keys, and none at the others.
 ///
 /// A contract sees a store as the finite map of these pairs. As a machine it is empty at first, and a
-/// command whose draft is the draft of no operation changes nothing and is answered `Absent`. Memory is
-/// taken for a key that was absent alone.
+/// command whose draft is the draft of no operation changes nothing and is answered `Absent`.
 #[derive(Drop)]
 pub struct KeyStore {
     pairs: BTreeMap<Key, u64>,

@@ -6,7 +6,8 @@ ghost use Rattle.gp_replica.specs.Runs.{HasDistinctIds};
 
 use crate::steps::{A, B, Step, draft};
 use gp_command::{Command, CommandId, Key};
-use gp_history::{Hist, SeqHistory};
+use gp_history::Hist;
+use gp_index::History;
 use gp_replica::{Replica, Reply};
 use gp_store::KeyStore;
 use std::alloc::Global;
@@ -38,7 +39,7 @@ const RAN: [Run; 4] = [
 // A command that is learned later.
 const LATER: Row = (0, 3, Step::Copy(A, B));
 
-// It is run behind those that were run before.
+// It is run after those that were run before.
 const RAN_LATER: [Run; 5] = [
     (0, 1, Reply::Done),
     (1, 1, Reply::Done),
@@ -47,7 +48,7 @@ const RAN_LATER: [Run; 5] = [
     (0, 3, Reply::Done),
 ];
 
-// What a key service does, one behind another.
+// What a key service does, one after another.
 const SERVED: [Row; 8] = [
     (0, 1, Step::Put(A, 1)),
     (0, 2, Step::Add(A, 3)),
@@ -74,14 +75,14 @@ fn id(proposer: u32, number: u32) -> CommandId {
     CommandId { proposer, number }
 }
 
-fn learn(learned: &mut SeqHistory, alloc: Global, row: Row) -> Result<(), Fail> {
+fn learn(learned: &mut History, alloc: Global, row: Row) -> Result<(), Fail> {
     let (proposer, number, step) = row;
     learned.push(Command::new(id(proposer, number), draft(alloc, step)?))?;
     Ok(())
 }
 
-fn history(alloc: Global, rows: &[Row]) -> Result<SeqHistory, Fail> {
-    let mut learned = SeqHistory::empty(alloc)?;
+fn history(alloc: Global, rows: &[Row]) -> Result<History, Fail> {
+    let mut learned = History::empty(alloc)?;
     for row in rows {
         learn(&mut learned, alloc, *row)?;
     }
@@ -89,7 +90,7 @@ fn history(alloc: Global, rows: &[Row]) -> Result<SeqHistory, Fail> {
 }
 
 // Whether no command before a place has this identity.
-fn is_new(learned: &SeqHistory, place: usize, id: CommandId) -> bool
+fn is_new(learned: &History, place: usize, id: CommandId) -> bool
     requires { place ≤ length learned.now }
     ensures { IsTrue result → (i : ℕ) (c : Command) → i < place → slice_get learned.now i ≡ Some c → c.id ≢ id }
 {
@@ -102,7 +103,7 @@ fn is_new(learned: &SeqHistory, place: usize, id: CommandId) -> bool
 }
 
 // Whether each command has an identity of its own.
-fn has_distinct_ids(learned: &SeqHistory) -> bool
+fn has_distinct_ids(learned: &History) -> bool
     ensures { IsTrue result → HasDistinctIds (history_of learned.now) }
 {
     for place in 0..learned.len() {
@@ -113,11 +114,11 @@ fn has_distinct_ids(learned: &SeqHistory) -> bool
     true
 }
 
-// Catches up, where the history is one to which a replica may be led.
+// Catches up, if the history is one to which a replica may be led.
 fn caught_up(
     rt: &impl Abort,
     replica: &mut Replica<KeyStore>,
-    learned: &SeqHistory,
+    learned: &History,
 ) -> Result<usize, Fail> {
     assert!(rt; replica.ran().is_prefix(learned));
     assert!(rt; has_distinct_ids(learned));
@@ -187,7 +188,7 @@ fn what_was_run_is_not_run_again(rt: HostRuntime) -> Result<(), Fail> {
 }
 
 #[test]
-fn what_is_learned_later_is_run_behind_the_rest(rt: HostRuntime) -> Result<(), Fail> {
+fn what_is_learned_later_is_run_after_the_rest(rt: HostRuntime) -> Result<(), Fail> {
     let alloc = rt.alloc();
     let mut learned = history(alloc, &LEARNED)?;
     let mut replica = Replica::new(alloc)?;

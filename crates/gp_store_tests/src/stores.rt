@@ -11,7 +11,7 @@ const FIRST: CommandId = CommandId {
     number: 1,
 };
 
-// Operations one behind another, each with its reply.
+// Operations one after another, each with its reply.
 const RUN: [(Step, Reply); 12] = [
     (Step::Get(A), Reply::Absent),
     (Step::Put(A, 5), Reply::Done),

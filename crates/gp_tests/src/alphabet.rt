@@ -1,4 +1,4 @@
-//! Eight commands by letters, and histories by words of these letters.
+//! Nine commands by letters, and histories by words of these letters.
 //!
 //! | Letter | Proposer | Command |
 //! |---|---|---|
@@ -7,17 +7,18 @@
 //! | `W`, `V` | 4, 5 | a write of `x` |
 //! | `Y` | 6 | a write of `y` |
 //! | `K` | 7 | a checkpoint |
+//! | `L` | 8 | another checkpoint |
 //!
-//! So two letters conflict where one of them is `K`, or where both work on `x` and are neither both
+//! So two letters conflict if one of them is `K` or `L`, or if both work on `x` and are neither both
 //! additions nor both reads. The order of commands is that of the table.
 use gp_command::{Access, Command, CommandId, Draft, Key, Touch};
-use gp_history::{Hist, SeqHistory};
+use gp_history::Hist;
 use std::alloc::Global;
 use std::test::Fail;
 
-const LETTERS: [u8; 8] = *b"ABRSWVYK";
+pub const LETTERS: [u8; 9] = *b"ABRSWVYKL";
 
-/// The command of a letter. A byte that is no letter is read as `K`.
+/// The command of a letter. A byte that is no letter is read as `L`.
 pub fn command(alloc: Global, letter: u8) -> Result<Command, Fail> {
     let (proposer, draft) = match letter {
         b'A' => (0, touching(alloc, b"x", Access::Add)?),
@@ -27,7 +28,8 @@ pub fn command(alloc: Global, letter: u8) -> Result<Command, Fail> {
         b'W' => (4, touching(alloc, b"x", Access::Write)?),
         b'V' => (5, touching(alloc, b"x", Access::Write)?),
         b'Y' => (6, touching(alloc, b"y", Access::Write)?),
-        _ => (7, Draft::checkpoint(alloc, b"checkpoint")?),
+        b'K' => (7, Draft::checkpoint(alloc, b"checkpoint")?),
+        _ => (8, Draft::checkpoint(alloc, b"checkpoint")?),
     };
     let id = CommandId {
         proposer,
@@ -44,12 +46,21 @@ pub fn touching(alloc: Global, key: &[u8], access: Access) -> Result<Draft, Fail
 }
 
 /// The history for which the letters of a word stand in their order.
-pub fn history(alloc: Global, word: &str) -> Result<SeqHistory, Fail> {
-    let mut history = SeqHistory::empty(alloc)?;
+pub fn history<H: Hist>(alloc: Global, word: &str) -> Result<H, Fail> {
+    let mut history = H::empty(alloc)?;
     for letter in word.as_bytes() {
         history.push(command(alloc, *letter)?)?;
     }
     Ok(history)
+}
+
+/// The letters of a history, as they stand in its sequence.
+pub fn letters<H: Hist>(alloc: Global, history: &H) -> Result<Vec<u8>, Fail> {
+    let mut letters = Vec::new(alloc);
+    for place in 0..history.len() {
+        letters.push(letter(history.at(place)))?;
+    }
+    Ok(letters)
 }
 
 /// The letter of a command.

@@ -1,7 +1,8 @@
-//! Compatibility, meets and joins.
+//! Compatibility, meets and joins, in both representations.
 use crate::alphabet::history;
 use gp_bounds::{compatible, join, join_all, meet, meet_all};
 use gp_history::{Hist, SeqHistory};
+use gp_index::History;
 use std::alloc::Global;
 use std::process::Abort;
 use std::test::Fail;
@@ -9,10 +10,10 @@ use std::test::Fail;
 // Two histories, whether they are compatible, their meet and their join, worked out by hand.
 type Pair = (&'static str, &'static str, bool, &'static str, &'static str);
 
-// A command stays in the meet where all that comes before it in either history stays and comes before
-// it in both. The join is the first history with what the second has more, in its canonical order. The
-// two are compatible where each common command has the same before it in both, and no command of the
-// one alone conflicts with one of the other alone.
+// A command stays in the meet if all that comes before it in either history stays and comes before it in
+// both. The join is the first history with what the second has more, in its canonical order. The two are
+// compatible if each common command has the same before it in both, and no command of the one alone
+// conflicts with one of the other alone.
 const PAIRS: [Pair; 24] = [
     // the empty history is a prefix of all
     ("", "W", true, "", "W"),
@@ -28,7 +29,7 @@ const PAIRS: [Pair; 24] = [
     ("AB", "BA", true, "AB", "AB"),
     ("A", "B", true, "", "AB"),
     ("AR", "A", true, "A", "AR"),
-    // `R` comes behind `A` in the one and behind `B` in the other
+    // `R` comes after `A` in the one and after `B` in the other
     ("AR", "BR", false, "", "ARB"),
     // `A` is common, and the two reads commute
     ("AR", "AS", true, "A", "ARS"),
@@ -42,7 +43,7 @@ const PAIRS: [Pair; 24] = [
     // a checkpoint conflicts with all
     ("K", "W", false, "", "KW"),
     ("WK", "W", true, "W", "WK"),
-    // `K` comes behind `W` in the one and behind `Y` in the other
+    // `K` comes after `W` in the one and after `Y` in the other
     ("WK", "YK", false, "", "WKY"),
     ("KW", "KY", true, "K", "KWY"),
     // `K` and `B` are common, and `A` and `R` conflict
@@ -58,15 +59,16 @@ const PAIRS: [Pair; 24] = [
 #[test]
 fn pairs_have_the_bounds_that_were_worked_out(rt: HostRuntime) -> Result<(), Fail> {
     for pair in &PAIRS {
-        check(&rt, rt.alloc(), pair)?;
+        check::<SeqHistory, _>(&rt, rt.alloc(), pair)?;
+        check::<History, _>(&rt, rt.alloc(), pair)?;
     }
     Ok(())
 }
 
-fn check(rt: &impl Abort, alloc: Global, pair: &Pair) -> Result<(), Fail> {
+fn check<H: Hist, R: Abort>(rt: &R, alloc: Global, pair: &Pair) -> Result<(), Fail> {
     let (first, second, want, met, joined) = *pair;
-    let a = history(alloc, first)?;
-    let b = history(alloc, second)?;
+    let a: H = history(alloc, first)?;
+    let b: H = history(alloc, second)?;
     assert_eq!(rt; compatible(&a, &b), want);
     assert_eq!(rt; compatible(&b, &a), want);
     assert!(rt; is_meet(alloc, &a, &b, met)?);
@@ -75,12 +77,12 @@ fn check(rt: &impl Abort, alloc: Global, pair: &Pair) -> Result<(), Fail> {
     Ok(())
 }
 
-fn is_meet(alloc: Global, a: &SeqHistory, b: &SeqHistory, word: &str) -> Result<bool, Fail> {
+fn is_meet<H: Hist>(alloc: Global, a: &H, b: &H, word: &str) -> Result<bool, Fail> {
     let want = history(alloc, word)?;
     Ok(meet(alloc, a, b)?.same(&want))
 }
 
-fn is_join(alloc: Global, a: &SeqHistory, b: &SeqHistory, word: &str) -> Result<bool, Fail> {
+fn is_join<H: Hist>(alloc: Global, a: &H, b: &H, word: &str) -> Result<bool, Fail> {
     let want = history(alloc, word)?;
     Ok(join(alloc, a, b)?.same(&want))
 }
@@ -111,9 +113,16 @@ fn a_mask_names_places(rt: HostRuntime) -> Result<(), Fail> {
     Ok(())
 }
 
-// Whether the elements that the mask names have this meet.
+// Whether the elements that the mask names have this meet, in both representations.
 fn is_meet_of(alloc: Global, words: &[&str], mask: u8, word: &str) -> Result<bool, Fail> {
-    let list = histories(alloc, words)?;
+    Ok(
+        meets::<SeqHistory>(alloc, words, mask, word)?
+            && meets::<History>(alloc, words, mask, word)?,
+    )
+}
+
+fn meets<H: Hist>(alloc: Global, words: &[&str], mask: u8, word: &str) -> Result<bool, Fail> {
+    let list: Vec<H> = histories(alloc, words)?;
     let want = history(alloc, word)?;
     if mask == 0 || list.len() > 7 || mask >= 1 << list.len() {
         return Ok(false);
@@ -127,19 +136,24 @@ fn the_join_of_many_is_one_in_every_order(rt: HostRuntime) -> Result<(), Fail> {
     assert!(rt; is_join_of(alloc, &[], "")?);
     assert!(rt; is_join_of(alloc, &["KAR", "KAS", "KY"], "KARSY")?);
     assert!(rt; is_join_of(alloc, &["KY", "KAS", "KAR"], "KARSY")?);
-    // where the list is not compatible in pairs, its order decides
+    // if the list is not compatible in pairs, its order decides
     assert!(rt; is_join_of(alloc, &["W", "V"], "WV")?);
     assert!(rt; is_join_of(alloc, &["V", "W"], "VW")?);
     Ok(())
 }
 
+// Whether the elements have this join, in both representations.
 fn is_join_of(alloc: Global, words: &[&str], word: &str) -> Result<bool, Fail> {
-    let list = histories(alloc, words)?;
+    Ok(joins::<SeqHistory>(alloc, words, word)? && joins::<History>(alloc, words, word)?)
+}
+
+fn joins<H: Hist>(alloc: Global, words: &[&str], word: &str) -> Result<bool, Fail> {
+    let list: Vec<H> = histories(alloc, words)?;
     let want = history(alloc, word)?;
     Ok(join_all(alloc, &list)?.same(&want))
 }
 
-fn histories(alloc: Global, words: &[&str]) -> Result<Vec<SeqHistory>, Fail> {
+fn histories<H: Hist>(alloc: Global, words: &[&str]) -> Result<Vec<H>, Fail> {
     let mut list = Vec::new(alloc);
     for word in words {
         list.push(history(alloc, word)?)?;

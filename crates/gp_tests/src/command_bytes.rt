@@ -36,7 +36,7 @@ fn a_put_has_21_bytes(rt: HostRuntime) -> Result<(), Fail> {
     Ok(())
 }
 
-// The bytes of a command behind others.
+// The bytes of a command after others.
 fn written(rt: &impl Abort, alloc: Global, command: &Command) -> Result<Vec<u8>, Fail> {
     let mut bytes = [9].to_vec(alloc)?;
     let id = command.id();

@@ -1,21 +1,29 @@
-//! The calls of histories.
-use crate::alphabet::{command, history, letter};
+//! The calls of histories, in both representations.
+use crate::alphabet::{command, history, letters};
 use gp_history::{Hist, SeqHistory};
+use gp_index::History;
 use std::alloc::Global;
 use std::process::Abort;
 use std::test::Fail;
 
+// A letter, whether it is pushed, and how many commands there are then.
+const PUSHES: [(u8, bool, usize); 5] = [
+    (b'W', true, 1),
+    (b'V', true, 2),
+    (b'W', false, 2),
+    (b'K', true, 3),
+    (b'V', false, 3),
+];
+
 #[test]
 fn a_history_has_what_was_pushed_once(rt: HostRuntime) -> Result<(), Fail> {
-    let alloc = rt.alloc();
-    let mut history = SeqHistory::empty(alloc)?;
-    for (letter, pushed, len) in [
-        (b'W', true, 1),
-        (b'V', true, 2),
-        (b'W', false, 2),
-        (b'K', true, 3),
-        (b'V', false, 3),
-    ] {
+    push_all::<SeqHistory, _>(&rt, rt.alloc())?;
+    push_all::<History, _>(&rt, rt.alloc())
+}
+
+fn push_all<H: Hist, R: Abort>(rt: &R, alloc: Global) -> Result<(), Fail> {
+    let mut history = H::empty(alloc)?;
+    for (letter, pushed, len) in PUSHES {
         let command = command(alloc, letter)?;
         assert_eq!(rt; history.has(&command), !pushed);
         assert_eq!(rt; history.push(command)?, pushed);
@@ -28,112 +36,188 @@ fn a_history_has_what_was_pushed_once(rt: HostRuntime) -> Result<(), Fail> {
 fn a_sequence_stands_as_it_was_pushed(rt: HostRuntime) -> Result<(), Fail> {
     let alloc = rt.alloc();
     for (word, want) in [("", ""), ("KWVAR", "KWVAR"), ("WVWYV", "WVY")] {
-        let history = history(alloc, word)?;
-        assert_eq!(rt; letters(alloc, &history)?.as_slice(), want.as_bytes());
+        assert!(rt; stands_as::<SeqHistory>(alloc, word, want)?);
+        assert!(rt; stands_as::<History>(alloc, word, want)?);
     }
     Ok(())
 }
 
-fn letters(alloc: Global, history: &SeqHistory) -> Result<Vec<u8>, Fail> {
-    let mut letters = Vec::new(alloc);
-    for place in 0..history.len() {
-        letters.push(letter(history.at(place)))?;
-    }
-    Ok(letters)
+fn stands_as<H: Hist>(alloc: Global, word: &str, want: &str) -> Result<bool, Fail> {
+    has_letters(alloc, &history::<H>(alloc, word)?, want)
+}
+
+// Whether these letters stand in the sequence, in this order.
+fn has_letters<H: Hist>(alloc: Global, history: &H, want: &str) -> Result<bool, Fail> {
+    let letters = letters(alloc, history)?;
+    Ok(letters.as_slice() == want.as_bytes())
 }
 
 #[test]
-fn a_copy_is_equal_and_stands_by_itself(rt: HostRuntime) -> Result<(), Fail> {
-    let mut history = history(rt.alloc(), "KWA")?;
+fn a_copy_stands_by_itself(rt: HostRuntime) -> Result<(), Fail> {
+    grow_apart::<SeqHistory, _>(&rt, rt.alloc())?;
+    grow_apart::<History, _>(&rt, rt.alloc())
+}
+
+// Each of three copies grows, and the others stay as they are.
+fn grow_apart<H: Hist, R: Abort>(rt: &R, alloc: Global) -> Result<(), Fail> {
+    let mut original: H = history(alloc, "WK")?;
+    let mut copy = original.copy()?;
+    let last = copy.copy()?;
+    assert!(rt; copy.same(&original));
+    assert!(rt; original.push(command(alloc, b'Y')?)?);
+    assert!(rt; has_letters(alloc, &copy, "WK")?);
+    assert!(rt; copy.push(command(alloc, b'L')?)?);
+    assert!(rt; has_letters(alloc, &original, "WKY")?);
+    assert!(rt; has_letters(alloc, &copy, "WKL")?);
+    assert!(rt; has_letters(alloc, &last, "WK")?);
+    Ok(())
+}
+
+#[test]
+fn a_clear_leaves_the_copies(rt: HostRuntime) -> Result<(), Fail> {
+    clear_one::<SeqHistory, _>(&rt, rt.alloc())?;
+    clear_one::<History, _>(&rt, rt.alloc())
+}
+
+fn clear_one<H: Hist, R: Abort>(rt: &R, alloc: Global) -> Result<(), Fail> {
+    let mut history: H = history(alloc, "KWA")?;
     let copy = history.copy()?;
-    assert!(rt; copy.same(&history));
     history.clear();
     assert_eq!(rt; history.len(), 0);
-    assert_eq!(rt; copy.len(), 3);
+    assert!(rt; has_letters(alloc, &copy, "KWA")?);
+    assert!(rt; history.push(command(alloc, b'W')?)?);
+    assert!(rt; has_letters(alloc, &history, "W")?);
     Ok(())
 }
 
 #[test]
 fn a_place_is_found_from_anywhere(rt: HostRuntime) -> Result<(), Fail> {
-    let alloc = rt.alloc();
-    let history = history(alloc, "KWVAR")?;
     for (letter, want) in [
         (b'K', Some(0)),
         (b'V', Some(2)),
         (b'R', Some(4)),
         (b'Y', None),
     ] {
-        let command = command(alloc, letter)?;
-        for near in 0..7 {
-            assert_eq!(rt; history.place_of(&command, near), want);
-        }
+        find_from_all::<SeqHistory, _>(&rt, rt.alloc(), letter, want)?;
+        find_from_all::<History, _>(&rt, rt.alloc(), letter, want)?;
     }
     Ok(())
 }
+
+fn find_from_all<H: Hist, R: Abort>(
+    rt: &R,
+    alloc: Global,
+    letter: u8,
+    want: Option<usize>,
+) -> Result<(), Fail> {
+    let history: H = history(alloc, "KWVAR")?;
+    let command = command(alloc, letter)?;
+    for near in 0..7 {
+        assert_eq!(rt; history.place_of(&command, near), want);
+    }
+    Ok(())
+}
+
+// Two histories, whether the first is a prefix of the second, and whether they are equal.
+type Comparison = (&'static str, &'static str, bool, bool);
+
+const COMPARISONS: [Comparison; 24] = [
+    ("", "", true, true),
+    ("", "W", true, false),
+    ("W", "WV", true, false),
+    ("V", "WV", false, false),
+    ("WV", "VW", false, false),
+    ("AB", "BA", true, true),
+    ("B", "AB", true, false),
+    ("RS", "SR", true, true),
+    ("R", "AR", false, false),
+    ("WY", "YW", true, true),
+    ("Y", "WYV", true, false),
+    ("K", "YK", false, false),
+    ("YK", "KY", false, false),
+    ("YKAB", "YKBAW", true, false),
+    // an epoch in another order
+    ("WYK", "YWK", true, true),
+    ("WYK", "YWKA", true, false),
+    ("WYKA", "YWK", false, false),
+    // another epoch, or another end of it
+    ("WKA", "VKA", false, false),
+    ("K", "L", false, false),
+    ("KL", "LK", false, false),
+    // the second epoch
+    ("KABL", "KBALW", true, false),
+    ("KAL", "KBL", false, false),
+    ("KL", "KAL", false, false),
+    // after the last checkpoint
+    ("KLWV", "KLVW", false, false),
+];
 
 #[test]
 fn histories_are_compared_by_their_order(rt: HostRuntime) -> Result<(), Fail> {
-    // two histories, whether the first is a prefix of the second, and whether they are equal
-    for (first, second, prefix, same) in [
-        ("", "", true, true),
-        ("", "W", true, false),
-        ("W", "WV", true, false),
-        ("V", "WV", false, false),
-        ("WV", "VW", false, false),
-        ("AB", "BA", true, true),
-        ("B", "AB", true, false),
-        ("RS", "SR", true, true),
-        ("R", "AR", false, false),
-        ("WY", "YW", true, true),
-        ("Y", "WYV", true, false),
-        ("K", "YK", false, false),
-        ("YK", "KY", false, false),
-        ("YKAB", "YKBAW", true, false),
-    ] {
-        compare(&rt, rt.alloc(), first, second, prefix, same)?;
+    for comparison in &COMPARISONS {
+        compare::<SeqHistory, _>(&rt, rt.alloc(), comparison)?;
+        compare::<History, _>(&rt, rt.alloc(), comparison)?;
     }
     Ok(())
 }
 
-fn compare(
-    rt: &impl Abort,
-    alloc: Global,
-    first: &str,
-    second: &str,
-    prefix: bool,
-    same: bool,
-) -> Result<(), Fail> {
-    let first = history(alloc, first)?;
-    let second = history(alloc, second)?;
-    assert_eq!(rt; first.is_prefix(&second), prefix);
-    assert_eq!(rt; first.same(&second), same);
-    assert_eq!(rt; second.same(&first), same);
+fn compare<H: Hist, R: Abort>(rt: &R, alloc: Global, of: &Comparison) -> Result<(), Fail> {
+    let first: H = history(alloc, of.0)?;
+    let second: H = history(alloc, of.1)?;
+    assert_eq!(rt; first.is_prefix(&second), of.2);
+    assert_eq!(rt; first.same(&second), of.3);
+    assert_eq!(rt; second.same(&first), of.3);
     Ok(())
 }
 
 #[test]
-fn the_next_least_commands_walk_the_canonical_order(rt: HostRuntime) -> Result<(), Fail> {
-    let alloc = rt.alloc();
-    for (word, want) in [
-        ("", ""),
-        ("BA", "AB"), // commuting commands by their order
-        ("WA", "WA"), // the addition comes behind the write
-        ("YWA", "WAY"), // the write of `x` frees the addition, which is less than that of `y`
-        ("SRBA", "RSAB"), // reads before additions, each by their order
-        ("YKA", "YKA"), // nothing passes a checkpoint
-        ("VYKBA", "VYKAB"),
-        ("KYW", "KWY"),
-    ] {
-        let history = history(alloc, word)?;
-        let canonical = canonical(&rt, alloc, &history)?;
-        assert_eq!(rt; letters(alloc, &canonical)?.as_slice(), want.as_bytes());
+fn histories_are_compared_by_their_epochs(rt: HostRuntime) -> Result<(), Fail> {
+    for comparison in &COMPARISONS {
+        compare_epochs(&rt, rt.alloc(), comparison)?;
     }
+    Ok(())
+}
+
+// The test of histories with an index, in place of that of the trait.
+fn compare_epochs(rt: &impl Abort, alloc: Global, of: &Comparison) -> Result<(), Fail> {
+    let first: History = history(alloc, of.0)?;
+    let second: History = history(alloc, of.1)?;
+    assert_eq!(rt; first.is_prefix(&second), of.2);
+    assert_eq!(rt; first.is_prefix(&second) && second.is_prefix(&first), of.3);
+    Ok(())
+}
+
+// A word, and its letters in canonical order.
+const ORDERS: [(&str, &str); 8] = [
+    ("", ""),
+    ("BA", "AB"), // commuting commands by their order
+    ("WA", "WA"), // the addition comes after the write
+    ("YWA", "WAY"), // the write of `x` frees the addition, which is less than that of `y`
+    ("SRBA", "RSAB"), // reads before additions, each by their order
+    ("YKA", "YKA"), // nothing passes a checkpoint
+    ("VYKBA", "VYKAB"),
+    ("KYW", "KWY"),
+];
+
+#[test]
+fn the_next_least_commands_walk_the_canonical_order(rt: HostRuntime) -> Result<(), Fail> {
+    for (word, want) in ORDERS {
+        walk::<SeqHistory, _>(&rt, rt.alloc(), word, want)?;
+        walk::<History, _>(&rt, rt.alloc(), word, want)?;
+    }
+    Ok(())
+}
+
+fn walk<H: Hist, R: Abort>(rt: &R, alloc: Global, word: &str, want: &str) -> Result<(), Fail> {
+    let history: H = history(alloc, word)?;
+    let canonical = canonical(rt, alloc, &history)?;
+    assert!(rt; has_letters(alloc, &canonical, want)?);
     Ok(())
 }
 
 // The same history in its canonical sequence.
-fn canonical(rt: &impl Abort, alloc: Global, history: &SeqHistory) -> Result<SeqHistory, Fail> {
-    let mut taken = SeqHistory::empty(alloc)?;
+fn canonical<H: Hist>(rt: &impl Abort, alloc: Global, history: &H) -> Result<H, Fail> {
+    let mut taken = H::empty(alloc)?;
     for _ in 0..history.len() {
         assert!(rt; taken.is_prefix(history));
         if let Some(next) = history.next_least(&taken) {

@@ -1,9 +1,12 @@
-//! Tests, as tables by subject: examples that were worked out by hand, edges of refusals, and each
-//! call that can want memory once where there is enough.
+//! Tests, as tables by subject: examples that were worked out by hand, edges of refusals, the two
+//! representations of histories against each other, and each call that can want memory, once with enough
+//! of it.
 #![tactic(auto)]
 
 #[cfg(test)]
 mod alphabet;
+#[cfg(test)]
+mod both_representations;
 #[cfg(test)]
 mod bounds_of_histories;
 #[cfg(test)]
@@ -11,8 +14,14 @@ mod command_bytes;
 #[cfg(test)]
 mod conflicting_commands;
 #[cfg(test)]
+mod cuts_of_histories;
+#[cfg(test)]
 mod histories_of_commands;
 #[cfg(test)]
+mod indexed_histories;
+#[cfg(test)]
 mod keys_and_drafts;
+#[cfg(test)]
+mod long_histories;
 #[cfg(test)]
 mod rounds_and_quorums;

@@ -4,7 +4,7 @@ use Rattle.std.specs.Prelude.{slice_get, nat_eq, Option}
 use Rattle.std.specs.Option.{option_and_then}
 use Rattle.std.proofs.Math.Dec.{eqb-suc-zero, eqb-zero-suc, eqb-suc-suc}
 use Rattle.std.proofs.lemmas.Bool.Decides.{eqb_tells}
-use Rattle.gp_msg.specs.Messages.{Message}
+use Rattle.gp_msg.specs.Messages.{Stamped}
 use Rattle.gp_world.specs.Nodes.{states_below}
 use Rattle.gp_world.specs.Acting.{changed, sent_of}
 
@@ -39,10 +39,10 @@ slice_get-states_below (suc n) f i l =
     ]
 
 -- what a state sends
-pub sent_of-states_below : {S : Type 0} (n : ℕ) (f : ℕ → S) (i : ℕ) (h : S → S × Option Message) → i < n → sent_of (states_below n f) i h ≡ (h (f i)).1
+pub sent_of-states_below : {S : Type 0} (n : ℕ) (f : ℕ → S) (i : ℕ) (h : S → S × Option Stamped) → i < n → sent_of (states_below n f) i h ≡ (h (f i)).1
 sent_of-states_below n f i h l = ap (option_and_then (λ x. (h x).1)) (slice_get-states_below n f i l)
 
--- a change behind a list with one more
+-- a change after a list with one more
 changed-push : {S : Type 0} (xs : List S) (x : S) (i : ℕ) (h : S → S) → changed (xs ++ x ∷ []) i h ≡ changed xs i h ++ cond (nat_eq (length xs) i) (h x) x ∷ []
 changed-push [] x zero h = refl
 changed-push [] x (suc i) h = ap (λ b. cond b (h x) x ∷ []) (sym (eqb-zero-suc i))

@@ -6,21 +6,21 @@ use Rattle.gp_msg.specs.declared.node.Node.{Node}
 use Rattle.gp_msg.specs.declared.node.Node.TheVariants.{Proposer, Coordinator, Acceptor, Learner}
 use Rattle.gp_msg.specs.Messages.{Entry}
 use Rattle.gp_proposer.specs.State.{ProposerState}
-use Rattle.gp_coordinator.specs.State.{CoordinatorState}
-use Rattle.gp_coordinator.specs.Codes as coordinator
-use Rattle.gp_acceptor.specs.State.{AcceptorState}
-use Rattle.gp_acceptor.specs.State as acceptor
-use Rattle.gp_learner.specs.State.{LearnerState}
-use Rattle.gp_learner.specs.State as learner
+use Rattle.gp_coordinator.specs.Epochs.{CoordinatorInEpoch}
+use Rattle.gp_coordinator.specs.Epochs as coordinator
+use Rattle.gp_acceptor.specs.Epochs.{AcceptorInEpoch}
+use Rattle.gp_acceptor.specs.Epochs as acceptor
+use Rattle.gp_learner.specs.Epochs.{LearnerInEpoch}
+use Rattle.gp_learner.specs.Epochs as learner
 use Rattle.gp_run.specs.Nodes as run
 use Rattle.gp_run.specs.States.{proposer_at, coordinator_at, acceptor_at, learner_at}
 
 -- the states of the nodes of each kind, by number
 pub record NodesState : Type 0 where
   pub proposers : List ProposerState
-  pub coordinators : List CoordinatorState
-  pub acceptors : List AcceptorState
-  pub learners : List LearnerState
+  pub coordinators : List CoordinatorInEpoch
+  pub acceptors : List AcceptorInEpoch
+  pub learners : List LearnerInEpoch
 
 -- the code of a proposer
 abbrev pub proposer_code : Coded ProposerState
@@ -29,18 +29,18 @@ proposer_code = code_by (ℕ × ℕ) (coded× coded_ℕ coded_ℕ) (λ s. (s.num
 -- the code of all nodes
 abbrev pub nodes_code : Coded NodesState
 nodes_code =
-    code_by (List ProposerState × (List CoordinatorState × (List AcceptorState × List LearnerState)))
-    (coded× (coded_list proposer_code) (coded× (coded_list coordinator.state_code) (coded× (coded_list acceptor.state_code) (coded_list learner.state_code))))
+    code_by (List ProposerState × (List CoordinatorInEpoch × (List AcceptorInEpoch × List LearnerInEpoch)))
+    (coded× (coded_list proposer_code) (coded× (coded_list coordinator.epoch_code) (coded× (coded_list acceptor.epoch_code) (coded_list learner.epoch_code))))
     (λ n. (n.proposers, (n.coordinators, (n.acceptors, n.learners))))
     (λ p. record { proposers = p.0; coordinators = p.1.0; acceptors = p.1.1.0; learners = p.1.1.1 })
     (λ _. refl)
 
--- the states of the numbers below n
+-- the states that f gives for the numbers below n
 abbrev pub states_below : {S : Type 0} → ℕ → (ℕ → S) → List S
 states_below zero f = []
 states_below (suc n) f = states_below n f ++ f n ∷ []
 
--- the nodes of a configuration in a run
+-- the nodes of a configuration after a run
 abbrev pub nodes_at : Counts → List Entry → NodesState
 nodes_at config es = record {
   proposers = states_below run.proposers (λ p. proposer_at p es);
@@ -49,7 +49,7 @@ nodes_at config es = record {
   learners = states_below config.learners (λ l. learner_at config l es);
 }
 
--- the node is one of these
+-- the node is one of these nodes
 abbrev pub IsThere : NodesState → Node → Type 0
 IsThere n (Proposer p) = p < length n.proposers
 IsThere n (Coordinator c) = c < length n.coordinators

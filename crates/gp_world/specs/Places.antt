@@ -1,4 +1,4 @@
--- Where the messages of some records stand. The records come oldest first.
+-- The places of the messages of some records, which come the oldest first.
 use Rattle.std.specs.Prelude.{ℕ, List, map, slice_get, Option, Some, None}
 use Rattle.gp_msg.specs.declared.message.Msg.{Msg}
 use Rattle.gp_msg.specs.declared.record.Record.{Record}
@@ -16,7 +16,7 @@ first_at records place = first_message (slice_get records place)
 abbrev pub messages_at : List Record → List ℕ → List (Option Msg)
 messages_at records places = map (first_at records) places
 
--- messages that are all there
+-- messages each of which is there
 abbrev pub all_there : List Msg → List (Option Msg)
 all_there ms = map (λ m. Some m) ms
 

@@ -1,11 +1,11 @@
 //! The acceptors of a world.
-ghost use Rattle.std.specs.Prelude.{◌≡◌, ◌<◌, length, map, IfOk, OnOk, OnErr};
+ghost use Rattle.std.specs.Prelude.{◌≡◌, ◌<◌, ◌^◌, ◌-◌, length, map, IfOk, OnOk, OnErr};
 ghost use Rattle.std.specs.Option.{option_map, option_to_list, option_copied};
-ghost use Rattle.gp_msg.specs.Messages.{message_of, part_of};
-ghost use Rattle.gp_acceptor.specs.State.{opening};
-ghost use Rattle.gp_acceptor.specs.Table.{acceptor_take, acceptor_fall, durable};
+ghost use Rattle.gp_msg.specs.Messages.{message_of, part_of, epoch_of};
+ghost use Rattle.gp_acceptor.specs.Epochs.{opening};
+ghost use Rattle.gp_acceptor.specs.Epochs as table;
 ghost use Rattle.gp_world.specs.Nodes.{states_below};
-ghost use Rattle.gp_world.specs.Acting.{changed, sent_of, acceptor_left};
+ghost use Rattle.gp_world.specs.Acting.{changed, sent_of, acceptor_left, HasRoom};
 
 use gp_acceptor::Acceptor;
 use gp_command::NoMemory;
@@ -13,7 +13,7 @@ use gp_msg::{Durable, Kept, Msg, Outs};
 use gp_round::Config;
 use std::alloc::Global;
 
-/// All acceptors, to which nothing has happened.
+/// All acceptors of a configuration, before anything happened.
 #[tactic(auto, using(crate::proofs::Numbering::states_more))]
 pub fn new_all(alloc: Global, config: &Config) -> Result<Vec<Acceptor>, NoMemory>
     ensures opening { IfOk result (λ all. all.items ≡ states_below config.now.acceptors (opening config.now)) }
@@ -26,18 +26,21 @@ pub fn new_all(alloc: Global, config: &Config) -> Result<Vec<Acceptor>, NoMemory
     Ok(all)
 }
 
-/// An acceptor takes a message. Where memory runs out nothing changes.
+/// An acceptor takes a message. If memory runs out, nothing changes.
 #[tactic(auto, using(crate::proofs::Changing::changed_at, crate::proofs::Changing::sent_from))]
 pub fn take(acceptors: &mut [Acceptor], a: u32, m: &Msg) -> Result<Outs, NoMemory>
-    requires { a < length acceptors.old }
-    ensures next { OnOk result (acceptors.new ≡ changed acceptors.old a (λ s. (acceptor_take s (message_of m.now)).0)) }
-    ensures sent { IfOk result (λ outs. map message_of outs ≡ option_to_list (sent_of acceptors.old a (λ s. acceptor_take s (message_of m.now)))) }
+    requires there { a < length acceptors.old }
+    requires room { epoch_of (message_of m.now) < 2 ^ 32 - 1 }
+    ensures next { OnOk result (acceptors.new ≡ changed acceptors.old a (λ s. (table.take s (message_of m.now)).0)) }
+    ensures sent { IfOk result (λ outs. map message_of outs
+        ≡ option_to_list (sent_of acceptors.old a (λ s. table.take s (message_of m.now)))) }
     ensures unchanged { OnErr result (acceptors.new ≡ acceptors.old) }
 {
     acceptors[a as usize].take(m)
 }
 
-/// An acceptor falls. Where memory runs out nothing changes.
+/// An acceptor falls, and keeps the step that `kept` names, of which `m` is the message. If memory runs
+/// out, nothing changes.
 #[tactic(auto, using(crate::proofs::Changing::changed_at))]
 pub fn fall(
     acceptors: &mut [Acceptor],
@@ -45,8 +48,10 @@ pub fn fall(
     kept: Option<Kept>,
     m: Option<&Msg>,
 ) -> Result<(), NoMemory>
-    requires { a < length acceptors.old }
-    ensures next { OnOk result (acceptors.new ≡ changed acceptors.old a (λ s. acceptor_fall s (acceptor_left s kept (option_map message_of (option_copied m.entry))))) }
+    requires there { a < length acceptors.old }
+    requires room { HasRoom (option_map message_of (option_copied m)) }
+    ensures next { OnOk result (acceptors.new
+        ≡ changed acceptors.old a (λ s. table.fall s (acceptor_left s kept (option_map message_of (option_copied m.entry))))) }
     ensures unchanged { OnErr result (acceptors.new ≡ acceptors.old) }
 {
     let durable = durable_left(&acceptors[a as usize], kept, m)?;
@@ -54,12 +59,13 @@ pub fn fall(
     Ok(())
 }
 
-// What an acceptor that falls goes on with: its durable part, or that after the step which it keeps.
+// The durable part after a fall: that of the acceptor, or that after the step which the fall keeps.
 fn durable_left(
     acceptor: &Acceptor,
     kept: Option<Kept>,
     m: Option<&Msg>,
 ) -> Result<Durable, NoMemory>
+    requires { HasRoom (option_map message_of (option_copied m)) }
     ensures { IfOk result (λ d. part_of d ≡ acceptor_left acceptor.now kept (option_map message_of (option_copied m.entry))) }
 {
     match (kept, m) {

@@ -1,20 +1,21 @@
 //! The learners of a world.
-ghost use Rattle.std.specs.Prelude.{◌≡◌, ◌<◌, [], length, map, slice_get, Some, IfOk, OnOk, OnErr};
-ghost use Rattle.std.specs.Option.{option_map};
+ghost use Rattle.std.specs.Prelude.{◌≡◌, ◌<◌, ◌^◌, ◌-◌, length, map, slice_get, Some, IfOk, OnOk, OnErr};
+ghost use Rattle.std.specs.Option.{option_map, option_to_list};
 ghost use Rattle.gp_history.specs.Sequence.{history_of};
-ghost use Rattle.gp_msg.specs.Messages.{message_of};
-ghost use Rattle.gp_learner.specs.Table.{opening, learner_take, learner_fall};
+ghost use Rattle.gp_msg.specs.Messages.{message_of, epoch_of};
+ghost use Rattle.gp_learner.specs.Epochs.{opening};
+ghost use Rattle.gp_learner.specs.Epochs as learner;
 ghost use Rattle.gp_world.specs.Nodes.{states_below};
-ghost use Rattle.gp_world.specs.Acting.{changed};
+ghost use Rattle.gp_world.specs.Acting.{changed, sent_of};
 
 use gp_command::NoMemory;
-use gp_history::SeqHistory;
+use gp_index::History;
 use gp_learner::Learner;
 use gp_msg::{Msg, Outs};
 use gp_round::Config;
 use std::alloc::Global;
 
-/// All learners, to which nothing has happened.
+/// All learners of a configuration, before anything happened.
 #[tactic(auto, using(crate::proofs::Numbering::states_more))]
 pub fn new_all(alloc: Global, config: &Config) -> Result<Vec<Learner>, NoMemory>
     ensures { IfOk result (λ all. all.items ≡ states_below config.now.learners (opening config.now)) }
@@ -26,28 +27,30 @@ pub fn new_all(alloc: Global, config: &Config) -> Result<Vec<Learner>, NoMemory>
     Ok(all)
 }
 
-/// A learner takes a message. Where memory runs out nothing changes.
-#[tactic(auto, using(crate::proofs::Changing::changed_at))]
+/// A learner takes a message. If memory runs out, nothing changes.
+#[tactic(auto, using(crate::proofs::Changing::changed_at, crate::proofs::Changing::sent_from))]
 pub fn take(learners: &mut [Learner], l: u32, m: &Msg) -> Result<Outs, NoMemory>
-    requires { l < length learners.old }
-    ensures next { OnOk result (learners.new ≡ changed learners.old l (λ s. learner_take s (message_of m.now))) }
-    ensures sent { IfOk result (λ outs. map message_of outs ≡ []) }
+    requires there { l < length learners.old }
+    requires room { epoch_of (message_of m.now) < 2 ^ 32 - 1 }
+    ensures next { OnOk result (learners.new ≡ changed learners.old l (λ s. (learner.take s (message_of m.now)).0)) }
+    ensures sent { IfOk result (λ outs. map message_of outs
+        ≡ option_to_list (sent_of learners.old l (λ s. learner.take s (message_of m.now)))) }
     ensures unchanged { OnErr result (learners.new ≡ learners.old) }
 {
     learners[l as usize].take(m)
 }
 
-/// A learner falls. It takes no memory.
+/// A learner falls: it returns to its opening state. It takes no memory.
 #[tactic(auto, using(crate::proofs::Changing::changed_at))]
 pub fn fall(learners: &mut [Learner], l: u32)
     requires { l < length learners.old }
-    ensures { learners.new ≡ changed learners.old l learner_fall }
+    ensures { learners.new ≡ changed learners.old l learner.fall }
 {
     learners[l as usize].fall();
 }
 
-/// What a learner learned. It takes no memory.
-pub fn learned(learners: &[Learner], l: u32) -> &SeqHistory
+/// The history that a learner shows. It takes no memory.
+pub fn learned(learners: &[Learner], l: u32) -> &History
     requires { l < length learners.now }
     ensures { option_map (λ s. s.learned) (slice_get learners.now l) ≡ Some (history_of result.now) }
 {

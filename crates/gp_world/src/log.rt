@@ -1,8 +1,10 @@
-//! The records of a run, and where each message stands.
-ghost use Rattle.std.specs.Prelude.{◌≡◌, ◌<◌, ◌≤◌, ◌++◌, ◌∷◌, [], length, vec_len, vec_capacity, slice_get, OnOk};
+//! The records of a run, and the place of each message.
+ghost use Rattle.std.specs.Prelude.{◌≡◌, ◌<◌, ◌≤◌, ◌++◌, ◌∷◌, [], length, vec_len, vec_capacity, slice_get, map, OnOk};
 ghost use Rattle.std.specs.Option.{option_copied, option_and_then};
 ghost use Rattle.gp_run.specs.Refusals.{message_named};
+ghost use Rattle.gp_msg.specs.Messages.{message_of};
 ghost use Rattle.gp_run.specs.Messages.{messages_in};
+ghost use Rattle.gp_run.specs.TopCount.{rounds_of, greatest_count, top_of_messages};
 ghost use Rattle.gp_world.specs.Places.{messages_at, message_at, all_there};
 
 use crate::refusals::message_named;
@@ -10,13 +12,16 @@ use gp_command::NoMemory;
 use gp_msg::{Event, Msg, Record, Records};
 use std::alloc::Global;
 
-/// The records of a run, the oldest first, each with at most one message.
+/// The records of a run, the oldest first.
 #[derive(Drop, Debug)]
 pub struct Log {
     pub records: Vec<Record>,
-    /// The place of the record that has message k.
+    /// At place k, the place of the record that has message k.
     pub places: Vec<usize>,
+    /// The greatest count of a round in a message, and 0 if there is none.
+    pub top: u32,
     ghost placed: { messages_at records.items places.items ≡ all_there (messages_in records.items) },
+    ghost topped: { top ≡ top_of_messages (map message_of (messages_in records.items)) },
 }
 
 impl Log {
@@ -27,6 +32,7 @@ impl Log {
         Log {
             records: Vec::new(alloc),
             places: Vec::new(alloc),
+            top: 0,
         }
     }
 
@@ -38,7 +44,7 @@ impl Log {
         self.places.len() as u64
     }
 
-    /// Message k, if it stands.
+    /// Message k, from 0, if it was sent.
     #[tactic(auto, using(crate::proofs::Placing::found_at))]
     pub fn message(&self, k: u64) -> Option<&Msg>
         ensures { option_copied result ≡ slice_get (messages_in self.now.records.items) k }
@@ -46,7 +52,7 @@ impl Log {
         at_place(&self.records, &self.places, k)
     }
 
-    /// The message that an event names, if it stands.
+    /// The message that an event names, if it names one that was sent.
     pub fn named(&self, event: &Event) -> Option<&Msg>
         ensures { option_copied result ≡ option_and_then (slice_get (messages_in self.now.records.items)) (message_named event.now) }
     {
@@ -56,7 +62,7 @@ impl Log {
         }
     }
 
-    /// Takes the memory for one more record.
+    /// Reserves memory for one more record. If memory runs out, the records are as before.
     pub fn reserve(&mut self) -> Result<(), NoMemory>
         ensures records { self.new.records.items ≡ self.old.records.items }
         ensures room_for_a_record { OnOk result (vec_len self.new.records < vec_capacity self.new.records) }
@@ -67,13 +73,14 @@ impl Log {
         Ok(())
     }
 
-    /// Puts a record behind the others. It takes no memory.
+    /// Adds a record after the others. It takes no memory.
     pub fn post(&mut self, last: Record)
         requires room_for_a_record { vec_len self.old.records < vec_capacity self.old.records }
         requires room_for_a_place { vec_len self.old.places < vec_capacity self.old.places }
         requires at_most_one { length last.out ≤ 1 }
         ensures { self.new.records.items ≡ self.old.records.items ++ last ∷ [] }
     {
+        self.top = self.top.max(top_of_messages(last.out.as_slice()));
         if !last.out.as_slice().is_empty() {
             let _ = self.places.push(self.records.len());
         }
@@ -84,15 +91,38 @@ impl Log {
     pub fn into_records(self) -> Records
         ensures { result ≡ self.records.items }
     {
-        let Log { records, places: _ } = self;
+        let Log { records, .. } = self;
         Records::from(records)
     }
 }
 
-// The message of the record at place k.
+// The message k, found by its place.
 fn at_place<'a>(records: &'a [Record], places: &[usize], k: u64) -> Option<&'a Msg>
     ensures { option_copied result ≡ message_at records.now (slice_get places.now k) }
 {
     let place = *places.get(k as usize)?;
     records.get(place)?.out.as_slice().first()
+}
+
+// The greatest count of a round in some messages, and 0 if there is none.
+fn top_of_messages(out: &[Msg]) -> u32
+    ensures { result ≡ top_of_messages (map message_of out.now) }
+{
+    let mut top = 0;
+    for m in out {
+        top = top.max(top_of_message(m));
+    }
+    top
+}
+
+// The greatest count of a round in a message, and 0 if there is none.
+#[tactic(auto, using(crate::proofs::Showing::one_top, crate::proofs::Showing::two_tops))]
+fn top_of_message(m: &Msg) -> u32
+    ensures { result ≡ greatest_count (rounds_of (message_of m.now)) }
+{
+    match m {
+        Msg::Propose { .. } | Msg::Final { .. } => 0,
+        Msg::P1a { round, .. } | Msg::P2a { round, .. } | Msg::P2b { round, .. } => round.count,
+        Msg::P1b { round, voted, .. } => round.count.max(voted.count),
+    }
 }

@@ -1,17 +1,17 @@
 //! All nodes of a configuration.
-ghost use Rattle.std.specs.Prelude.{◌≡◌, ◌<◌, [], length, map, slice_get, Some, IfOk, OnOk, OnErr};
+ghost use Rattle.std.specs.Prelude.{◌≡◌, ◌<◌, ◌^◌, ◌-◌, [], length, map, slice_get, Some, IfOk, OnOk, OnErr};
 ghost use Rattle.std.specs.Option.{option_map, option_to_list, option_copied};
 ghost use Rattle.gp_history.specs.Sequence.{history_of};
-ghost use Rattle.gp_msg.specs.Messages.{message_of};
+ghost use Rattle.gp_msg.specs.Messages.{message_of, epoch_of};
 ghost use Rattle.gp_run.specs.TopCount.{greatest_count};
 ghost use Rattle.gp_world.specs.Nodes.{nodes_at, IsThere};
-ghost use Rattle.gp_world.specs.Acting.{after_event, sent_at_event, after_take, sent_at_take, after_fall, CanAct};
+ghost use Rattle.gp_world.specs.Acting.{after_event, sent_at_event, after_take, sent_at_take, after_fall, CanAct, HasRoom};
 
 use crate::{acceptors, coordinators, learners, proposers};
 use gp_acceptor::Acceptor;
 use gp_command::NoMemory;
 use gp_coordinator::Coordinator;
-use gp_history::SeqHistory;
+use gp_index::History;
 use gp_learner::Learner;
 use gp_msg::{Event, Kept, Msg, Node, Outs};
 use gp_proposer::Proposer;
@@ -19,7 +19,7 @@ use gp_round::Config;
 use std::alloc::Global;
 use std::marker::Model;
 
-/// The nodes of a configuration, each kind by its numbers.
+/// The nodes of a configuration, each kind in the order of its numbers.
 #[derive(Drop, Debug)]
 pub struct Nodes {
     alloc: Global,
@@ -54,12 +54,14 @@ impl Nodes {
         })
     }
 
-    /// The event happens at its node, where `m` is the message that it names. Where memory runs out
-    /// nothing changes.
+    /// An event happens at its node; `m` is the message that it names, and the answer is what the node
+    /// sends. If memory runs out, nothing changes.
     pub fn act(&mut self, event: &Event, m: Option<&Msg>) -> Result<Outs, NoMemory>
-        requires { CanAct self.old event.now }
-        ensures next { OnOk result (self.new ≡ after_event self.old event.now (option_map message_of (option_copied m.entry))) }
-        ensures sent { IfOk result (λ outs. map message_of outs ≡ option_to_list (sent_at_event self.old event.now (option_map message_of (option_copied m.entry)))) }
+        requires { CanAct self.old event.now (option_map message_of (option_copied m)) }
+        ensures next { OnOk result (self.new
+            ≡ after_event self.old event.now (option_map message_of (option_copied m.entry))) }
+        ensures sent { IfOk result (λ outs. map message_of outs
+            ≡ option_to_list (sent_at_event self.old event.now (option_map message_of (option_copied m.entry)))) }
         ensures unchanged { OnErr result (self.new ≡ self.old) }
     {
         match event {
@@ -80,26 +82,28 @@ impl Nodes {
         }
     }
 
-    /// What a learner learned. It takes no memory.
-    pub fn learned(&self, l: u32) -> &SeqHistory
+    /// The history that a learner shows. It takes no memory.
+    pub fn learned(&self, l: u32) -> &History
         requires { l < length self.now.learners }
         ensures { option_map (λ s. s.learned) (slice_get self.now.learners l) ≡ Some (history_of result.now) }
     {
         learners::learned(&self.learners, l)
     }
 
-    /// The greatest count of a round of a coordinator. It takes no memory.
+    /// The greatest count of the round of a coordinator. It takes no memory.
     pub fn top_count(&self) -> u32
-        ensures { result ≡ greatest_count (map (λ s. s.round) self.now.coordinators) }
+        ensures { result ≡ greatest_count (map (λ s. s.state.round) self.now.coordinators) }
     {
         coordinators::top_count(&self.coordinators)
     }
 
     // A node takes a message.
     fn take(&mut self, node: Node, m: &Msg) -> Result<Outs, NoMemory>
-        requires { IsThere self.old node }
+        requires there { IsThere self.old node }
+        requires room { epoch_of (message_of m.now) < 2 ^ 32 - 1 }
         ensures next { OnOk result (self.new ≡ after_take self.old node (message_of m.now)) }
-        ensures sent { IfOk result (λ outs. map message_of outs ≡ option_to_list (sent_at_take self.old node (message_of m.now))) }
+        ensures sent { IfOk result (λ outs. map message_of outs
+            ≡ option_to_list (sent_at_take self.old node (message_of m.now))) }
         ensures unchanged { OnErr result (self.new ≡ self.old) }
     {
         match node {
@@ -110,10 +114,12 @@ impl Nodes {
         }
     }
 
-    // A node falls, and keeps what it is told to keep.
+    // A node falls, and keeps the step that `kept` names.
     fn fall(&mut self, node: Node, kept: Option<Kept>, m: Option<&Msg>) -> Result<(), NoMemory>
-        requires { IsThere self.old node }
-        ensures next { OnOk result (self.new ≡ after_fall self.old node kept (option_map message_of (option_copied m.entry))) }
+        requires there { IsThere self.old node }
+        requires room { HasRoom (option_map message_of (option_copied m)) }
+        ensures next { OnOk result (self.new
+            ≡ after_fall self.old node kept (option_map message_of (option_copied m.entry))) }
         ensures unchanged { OnErr result (self.new ≡ self.old) }
     {
         match node {

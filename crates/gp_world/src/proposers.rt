@@ -5,7 +5,7 @@ ghost use Rattle.gp_msg.specs.Messages.{message_of};
 ghost use Rattle.gp_proposer.specs.Table.{opening, proposer_offer};
 ghost use Rattle.gp_run.specs.Nodes.{proposers};
 ghost use Rattle.gp_world.specs.Nodes.{states_below};
-ghost use Rattle.gp_world.specs.Acting.{changed, sent_of, CanOffer};
+ghost use Rattle.gp_world.specs.Acting.{changed, sent_of, offering, CanOffer};
 
 use crate::refusals::PROPOSERS;
 use gp_command::{Draft, NoMemory};
@@ -13,7 +13,7 @@ use gp_msg::Outs;
 use gp_proposer::{Proposer, Unoffered};
 use std::alloc::Global;
 
-/// All proposers, none of which has had an offer.
+/// All proposers, before anything happened.
 #[tactic(auto, using(crate::proofs::Numbering::states_more))]
 pub fn new_all(alloc: Global) -> Result<Vec<Proposer>, NoMemory>
     ensures { IfOk result (λ all. all.items ≡ states_below proposers opening) }
@@ -25,7 +25,7 @@ pub fn new_all(alloc: Global) -> Result<Vec<Proposer>, NoMemory>
     Ok(all)
 }
 
-/// A proposer is given a draft. Where memory runs out nothing changes.
+/// A proposer is offered a draft. If memory runs out, nothing changes.
 #[tactic(auto, using(crate::proofs::Changing::changed_at, crate::proofs::Changing::sent_from))]
 pub fn offer(
     proposers: &mut [Proposer],
@@ -36,7 +36,8 @@ pub fn offer(
     requires there { p < length proposers.old }
     requires can_offer { CanOffer proposers.old p }
     ensures next { OnOk result (proposers.new ≡ changed proposers.old p (λ s. (proposer_offer s draft.now).0)) }
-    ensures sent { IfOk result (λ outs. map message_of outs ≡ option_to_list (sent_of proposers.old p (λ s. proposer_offer s draft.now))) }
+    ensures sent { IfOk result (λ outs. map message_of outs
+        ≡ option_to_list (sent_of proposers.old p (λ s. offering s draft.now))) }
     ensures unchanged { OnErr result (proposers.new ≡ proposers.old) }
 {
     let draft = draft.copy()?;

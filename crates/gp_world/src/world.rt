@@ -12,20 +12,20 @@ ghost use Rattle.gp_run.specs.Runs.{entry_after};
 ghost use Rattle.gp_run.specs.TopCount.{top_count};
 ghost use Rattle.gp_world.specs.State.{entries_of};
 ghost use Rattle.gp_world.specs.Adding.{AddsRecordOf};
-ghost use Rattle.gp_world.specs.Refused.{answer_of};
+ghost use Rattle.gp_world.specs.Refused.{IsAnswerTo, refusal_in};
 
 use crate::log::Log;
 use crate::nodes::Nodes;
 use crate::refusals::{StepRefused, check, node_of};
 use gp_command::NoMemory;
-use gp_history::SeqHistory;
+use gp_index::History;
 use gp_msg::{Event, Msg, Record, Records};
 use gp_round::Config;
 use std::alloc::Global;
 use std::marker::Model;
 
-/// All nodes of a configuration, with the records of what they did. Each list of records that a world
-/// has is a legal run, whatever events it was given.
+/// All nodes of a configuration, with the records of what they did. The records of a world are a legal
+/// run, whatever events it was given, and what learners show in it agrees.
 #[derive(Drop, Debug)]
 pub struct World {
     config: Config,
@@ -45,7 +45,7 @@ impl Model for World {
 }
 
 impl World {
-    /// A world where nothing has happened.
+    /// A world in which nothing has happened.
     pub fn new(alloc: Global, config: Config) -> Result<World, NoMemory>
         ensures { IfOk result (λ w. w ≡ record { config = config; records = [] }) }
     {
@@ -56,17 +56,18 @@ impl World {
         })
     }
 
-    /// The event happens: one record is added, which is legal after those before, and the answer is
-    /// how many messages there are then. An event that does not fit is refused for the first cause in
-    /// the order of `StepRefused`. After a refusal, and where memory runs out, the world is as before.
+    /// An event happens: one record is added, and the answer is the number of messages after it. An
+    /// event that does not fit is refused for the first cause in the order of `StepRefused`. After a
+    /// refusal, and if memory runs out, the world is as before.
     pub fn step(&mut self, event: Event) -> Result<u64, StepRefused>
         requires { length self.old.records < 2 ^ 31 }
         ensures added { OnOk result (AddsRecordOf self.old self.new event) }
-        ensures entry { OnOk result (entries_of self.new ≡ entry_after self.old.config (entries_of self.old) event ∷ entries_of self.old) }
+        ensures entry { OnOk result (entries_of self.new
+            ≡ entry_after self.old.config (entries_of self.old) event ∷ entries_of self.old) }
         ensures count { IfOk result (λ n. n ≡ length (messages (entries_of self.new))) }
 
-        // An event that does not fit is refused for its first cause, and one that fits for want of memory alone.
-        ensures why { MatchResult result (λ _. refusal self.old.config (entries_of self.old) event ≡ None) (λ e. MatchOption (refusal self.old.config (entries_of self.old) event) (e ≡ StepRefused.NoMemory) (λ r. e ≡ answer_of r)) }
+        // An event that does not fit is refused for its first cause. One that fits fails only if memory runs out.
+        ensures why { MatchResult result (λ _. refusal_in self.old event ≡ None) (λ e. IsAnswerTo (refusal_in self.old event) e) }
         ensures unchanged { OnErr result (self.new ≡ self.old) }
 
         ensures legal { Legal self.new.config (entries_of self.new) }
@@ -76,7 +77,7 @@ impl World {
         Ok(self.happen(event)?)
     }
 
-    /// Message k, from 0, of all that were sent; there is none where fewer were sent. It takes no memory.
+    /// Message k, from 0, of all that were sent, if there are as many. It takes no memory.
     pub fn message(&self, k: u64) -> Option<&Msg>
         ensures message { option_copied result ≡ slice_get (messages_in self.now.records) k }
         ensures history { option_map message_of (option_copied result) ≡ slice_get (messages (entries_of self.now)) k }
@@ -84,16 +85,16 @@ impl World {
         self.log.message(k)
     }
 
-    /// How many messages were sent. It takes no memory.
+    /// The number of messages that were sent. It takes no memory.
     pub fn messages(&self) -> u64
         ensures { result ≡ length (messages (entries_of self.now)) }
     {
         self.log.messages()
     }
 
-    /// What a learner of the configuration shows: the history that it learned since it last fell. It takes no
+    /// The history that a learner shows: what it learned since it last fell, over all epochs. It takes no
     /// memory.
-    pub fn learned(&self, learner: u32) -> &SeqHistory
+    pub fn learned(&self, learner: u32) -> &History
         requires { learner < self.now.config.learners }
         ensures learned { history_of result.now ≡ learned_at self.now.config learner (entries_of self.now) }
         ensures agrees { Agrees self.now.config (entries_of self.now) }
@@ -101,7 +102,7 @@ impl World {
         self.nodes.learned(learner)
     }
 
-    /// What happened, the oldest record first. It takes no memory.
+    /// The records of what happened, the oldest first. It takes no memory.
     pub fn records(&self) -> &[Record]
         ensures value { result.now ≡ self.now.records }
         ensures legal { Legal self.now.config (entries_of self.now) }
@@ -117,12 +118,11 @@ impl World {
         &self.config
     }
 
-    /// The greatest count of a round in any message or node, and 0 before a round was begun. It takes no
-    /// memory.
+    /// The greatest count of a round in a message or a node, and 0 if there is none. It takes no memory.
     pub fn top_count(&self) -> u32
         ensures { result ≡ top_count self.now.config (entries_of self.now) }
     {
-        self.nodes.top_count()
+        self.log.top.max(self.nodes.top_count())
     }
 
     /// The records alone. It takes no memory.
@@ -134,12 +134,13 @@ impl World {
         self.log.into_records()
     }
 
-    // An event that fits happens. Where memory runs out nothing changes.
+    // An event that fits happens. If memory runs out, nothing changes.
     fn happen(&mut self, event: Event) -> Result<u64, NoMemory>
         requires few { length self.old.records < 2 ^ 31 }
         requires unrefused { refusal self.old.config (entries_of self.old) event ≡ None }
         ensures added { OnOk result (AddsRecordOf self.old self.new event) }
-        ensures entry { OnOk result (entries_of self.new ≡ entry_after self.old.config (entries_of self.old) event ∷ entries_of self.old) }
+        ensures entry { OnOk result (entries_of self.new
+            ≡ entry_after self.old.config (entries_of self.old) event ∷ entries_of self.old) }
         ensures count { IfOk result (λ n. n ≡ length (messages (entries_of self.new))) }
         ensures unchanged { OnErr result (self.new ≡ self.old) }
         ensures legal { Legal self.new.config (entries_of self.new) }

@@ -1,0 +1,5 @@
+pub mod Starts
+pub mod Searches
+pub mod Parted
+pub mod Cut
+pub mod Ascending

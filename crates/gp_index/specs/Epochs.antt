@@ -1,0 +1,36 @@
+-- A sequence divided after each of its checkpoints.
+use Rattle.std.specs.Prelude.{◌≡◌, ℕ, zero, suc, ◌<◌, ◌≤◌, cond, List, [], ◌∷◌, take, drop}
+use Rattle.gp_command.specs.declared.command.Command.{Command}
+use Rattle.gp_history.specs.History.{IsPrefix}
+use Rattle.gp_history.specs.Sequence.{history_of}
+
+-- how many checkpoints there are
+abbrev pub checkpoints : List Command → ℕ
+checkpoints [] = 0
+checkpoints (x ∷ xs) = cond x.draft.checkpoint (suc (checkpoints xs)) (checkpoints xs)
+
+-- where epoch i starts: after the i-th checkpoint, and at 0 for i = 0
+abbrev pub epoch_start : List Command → ℕ → ℕ
+epoch_start xs zero = 0
+epoch_start [] (suc i) = 0
+epoch_start (x ∷ xs) (suc i) = suc (cond x.draft.checkpoint (epoch_start xs i) (epoch_start xs (suc i)))
+
+-- the starts of all epochs but the first, of a sequence that stands after n commands
+abbrev pub starts_from : ℕ → List Command → List ℕ
+starts_from n [] = []
+starts_from n (x ∷ xs) = cond x.draft.checkpoint (suc n ∷ starts_from (suc n) xs) (starts_from (suc n) xs)
+
+-- epoch i, with the checkpoint at its end
+abbrev pub epoch : List Command → ℕ → List Command
+epoch xs i = drop (epoch_start xs i) (take (epoch_start xs (suc i)) xs)
+
+-- what stands after the n-th checkpoint
+abbrev pub behind_epochs : List Command → ℕ → List Command
+behind_epochs xs n = drop (epoch_start xs n) xs
+
+-- the second has as many checkpoints as the first or more, the epochs that these end are equal as histories, and what the
+-- first has after them is a prefix of what the second has there
+pub record IsCutPrefix (xs ys : List Command) : Type 0 where
+  pub enough : checkpoints xs ≤ checkpoints ys
+  pub epochs : (i : ℕ) → i < checkpoints xs → history_of (epoch xs i) ≡ history_of (epoch ys i)
+  pub rest : IsPrefix (history_of (behind_epochs xs (checkpoints xs))) (history_of (behind_epochs ys (checkpoints xs)))

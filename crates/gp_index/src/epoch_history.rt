@@ -1,0 +1,295 @@
+//! A history with an index, whose copies share one list.
+ghost use Rattle.std.specs.Prelude.{◌≡◌, ◌↔◌, ℕ, ◌≤◌, ◌<◌, ◌^◌, ◌+◌, ◌++◌, ◌∷◌, [], false, true, IsTrue, IsNone, IfOk, Some, length, take};
+ghost use Rattle.gp_history.specs.History.{has, IsPrefix};
+ghost use Rattle.gp_history.specs.Sequence.{history_of, no_repeat, place_in};
+ghost use Rattle.std.specs.Option.{option_copied};
+ghost use Rattle.gp_history.specs.Canonical.{next_least, is_ready};
+ghost use Rattle.gp_index.specs.Index.{IsIndex};
+ghost use Rattle.gp_index.specs.Epochs.{checkpoints, epoch_start, epoch, behind_epochs};
+
+use crate::parts::Parts;
+use crate::windows::{is_prefix, is_same};
+use gp_command::{Command, NoMemory};
+use gp_history::walks::{common_start, is_behind};
+use gp_history::{Hist, Unpushed};
+use std::alloc::Global;
+use std::marker::Model;
+use std::sync::Arc;
+
+/// A history kept as one of its linear orders, with an index of the place of each command and the
+/// places where checkpoints divide the order into epochs.
+///
+/// Copies share one list until one of them changes. A contract sees a history as the list of its
+/// commands, without duplicates.
+#[derive(Drop, Debug)]
+pub struct EpochHistory {
+    alloc: Global,
+    parts: Option<Arc<Parts>>,
+}
+
+impl Model for EpochHistory {
+    ghost use Rattle.std.specs.Prelude.{List, [], unwrap_or};
+    ghost use Rattle.std.specs.Option.{option_map};
+    ghost use Rattle.std.specs.Arc.{arc_value};
+    ghost use Rattle.gp_command.specs.declared.command.Command.{Command};
+
+    ghost Value = { List Command };
+
+    ghost view = { λ h. unwrap_or (option_map arc_value h.parts) [] };
+}
+
+impl EpochHistory {
+    /// The number of epochs: one more than the number of checkpoints. It takes no memory.
+    pub fn epochs(&self) -> usize
+        ensures { result ≡ checkpoints self.now + 1 }
+    {
+        self.ended() + 1
+    }
+
+    /// The place where epoch `i` starts, which is the place after checkpoint `i`, counted from 1. Epoch 0
+    /// starts at 0. An epoch without commands starts at the length. It takes no memory.
+    pub fn epoch_start(&self, i: usize) -> usize
+        requires { i ≤ checkpoints self.now }
+        ensures { result ≡ epoch_start self.now i }
+    {
+        match &self.parts {
+            Some(parts) => parts.epoch_start(i),
+            None => 0,
+        }
+    }
+
+    /// The place of a command, or `None` if the history lacks it. It takes no memory.
+    pub fn find(&self, c: &Command) -> Option<usize>
+        ensures { result ≡ place_in self.now c.now }
+    {
+        match &self.parts {
+            Some(parts) => parts.find(c),
+            None => None,
+        }
+    }
+
+    /// Whether it is a prefix of another history, tested epoch by epoch. It takes no memory.
+    pub fn is_prefix(&self, of: &EpochHistory) -> bool
+        ensures { IsTrue result ↔ IsPrefix (history_of self.now) (history_of of.now) }
+    {
+        let ended = self.ended();
+        if of.ended() < ended || !has_epochs(self, of, ended) {
+            return false;
+        }
+        has_rest(self, of, ended)
+    }
+
+    /// The least command that is not taken while all that comes before it is. From the empty history
+    /// on this walks the canonical sequence; there is none where everything is taken. The commands are
+    /// tried in ascending order. It takes no memory.
+    pub fn next_least(&self, taken: &EpochHistory) -> Option<&Command>
+        requires { IsPrefix (history_of taken.now) (history_of self.now) }
+        ensures least { option_copied result ≡ next_least (history_of self.now) (history_of taken.now) }
+        ensures none { IsNone result ↔ (history_of self.now ≡ history_of taken.now) }
+    {
+        least_ready(self, taken)
+    }
+
+    // The number of epochs that a checkpoint ends.
+    fn ended(&self) -> usize
+        ensures value { result ≡ checkpoints self.now }
+        ensures few { result + 1 < 2 ^ 64 }
+        ensures distinct { IsTrue (no_repeat self.now) }
+    {
+        match &self.parts {
+            Some(parts) => parts.ended(),
+            None => 0,
+        }
+    }
+
+    // The places of its commands, in ascending order of these.
+    #[tactic(auto, using(crate::proofs::Ascending::index_of_nothing))]
+    fn order(&self) -> &[u32]
+        ensures index { IsIndex self.now result.now }
+        ensures distinct { IsTrue (no_repeat self.now) }
+    {
+        match &self.parts {
+            Some(parts) => parts.order(),
+            None => &[],
+        }
+    }
+
+    fn as_slice(&self) -> &[Command]
+        ensures value { result.now ≡ self.now }
+        ensures distinct { IsTrue (no_repeat self.now) }
+    {
+        match &self.parts {
+            Some(parts) => parts.as_slice(),
+            None => &[],
+        }
+    }
+
+    // Its commands, shared with nobody.
+    fn own_parts(&self) -> Result<Parts, NoMemory>
+        ensures { IfOk result (λ parts. parts ≡ self.now) }
+    {
+        match &self.parts {
+            Some(parts) => parts.copy(),
+            None => Ok(Parts::new(self.alloc)),
+        }
+    }
+
+    // Its commands and one more, shared with nobody.
+    fn with(&self, c: &Command) -> Result<Arc<Parts>, NoMemory>
+        requires { has (history_of self.now) c.now ≡ false }
+        ensures { IfOk result (λ parts. parts.value ≡ self.now ++ c.now ∷ []) }
+    {
+        let mut parts = self.own_parts()?;
+        parts.push(c.copy()?)?;
+        Ok(Arc::new(self.alloc, parts)?)
+    }
+}
+
+impl Hist for EpochHistory {
+    ghost sequence = { λ h. h };
+
+    fn empty(alloc: Global) -> Result<EpochHistory, NoMemory> {
+        Ok(EpochHistory { alloc, parts: None })
+    }
+
+    fn push(&mut self, c: Command) -> Result<bool, Unpushed> {
+        if let Some(shared) = &mut self.parts {
+            if let Some(parts) = Arc::get_mut(shared) {
+                return parts.push(c);
+            }
+        }
+        if self.has(&c) {
+            return Ok(false);
+        }
+        match self.with(&c) {
+            Ok(parts) => {
+                self.parts = Some(parts);
+                Ok(true)
+            }
+            Err(NoMemory) => Err(Unpushed { command: c }),
+        }
+    }
+
+    #[tactic(auto, using(crate::proofs::Searches::has_if_found))]
+    fn has(&self, c: &Command) -> bool {
+        self.find(c).is_some()
+    }
+
+    #[tactic(auto, using(gp_history::proofs::Size::size_of_sequence))]
+    fn len(&self) -> usize {
+        self.as_slice().len()
+    }
+
+    fn at(&self, place: usize) -> &Command {
+        &self.as_slice()[place]
+    }
+
+    fn place_of(&self, c: &Command, near: usize) -> Option<usize> {
+        match &self.parts {
+            Some(parts) => parts.place_of(c, near),
+            None => None,
+        }
+    }
+
+    fn copy(&self) -> Result<EpochHistory, NoMemory> {
+        let parts = match &self.parts {
+            Some(parts) => Some(parts.clone()?),
+            None => None,
+        };
+        Ok(EpochHistory {
+            alloc: self.alloc,
+            parts,
+        })
+    }
+
+    fn clear(&mut self) {
+        self.parts = None;
+    }
+}
+
+// The least command of a history that is ready. Most of what was taken is met in its own order.
+fn least_ready<'a>(h: &'a EpochHistory, taken: &EpochHistory) -> Option<&'a Command>
+    ensures { option_copied result ≡ next_least (history_of h.now) (history_of taken.now) }
+{
+    let order = h.order();
+    let taken_order = taken.order();
+    let from = common_start(h, taken);
+    let mut next = 0;
+    for k in 0..order.len() {
+        let place = order[k] as usize;
+        let c = h.at(place);
+        if is_named(taken, taken_order, next, c) {
+            next += 1;
+        } else if is_ready(h, place, taken, c, from) {
+            return Some(c);
+        }
+    }
+    None
+}
+
+// Whether an entry names a command.
+fn is_named(h: &EpochHistory, order: &[u32], k: usize, c: &Command) -> bool
+    requires { IsIndex h.now order.now }
+    ensures { result ≡ true → has (history_of h.now) c.now ≡ true }
+{
+    k < order.len() && h.at(order[k] as usize) == c
+}
+
+// Whether all that comes before a command was taken, and it was not.
+fn is_ready(h: &EpochHistory, place: usize, taken: &EpochHistory, c: &Command, from: usize) -> bool
+    requires there { place_in h.now c.now ≡ Some place }
+    requires within { place < length h.now }
+    requires alike { take from h.now ≡ take from taken.now }
+    ensures { result ≡ is_ready (history_of h.now) (history_of taken.now) c.now }
+{
+    !taken.has(c) && is_behind(h, place, h, place, taken, c, from)
+}
+
+// Whether the first n epochs of both are equal.
+fn has_epochs(a: &EpochHistory, b: &EpochHistory, n: usize) -> bool
+    requires first { n ≤ checkpoints a.now }
+    requires second { n ≤ checkpoints b.now }
+    ensures { IsTrue result ↔ ((i : ℕ) → i < n → history_of (epoch a.now i) ≡ history_of (epoch b.now i)) }
+{
+    for i in 0..n {
+        if !is_same(epoch(a, i, i + 1), epoch(b, i, i + 1)) {
+            return false;
+        }
+    }
+    true
+}
+
+// The commands of an epoch, with the checkpoint at its end.
+#[tactic(auto, using(crate::proofs::Starts::start_within, crate::proofs::Starts::start_rises))]
+fn epoch(h: &EpochHistory, i: usize, next: usize) -> &[Command]
+    requires ended { i < checkpoints h.now }
+    requires next { next ≡ i + 1 }
+    ensures value { result.now ≡ epoch h.now i }
+    ensures distinct { IsTrue (no_repeat (epoch h.now i)) }
+{
+    let commands = h.as_slice();
+    let start = h.epoch_start(i);
+    let end = h.epoch_start(next);
+    &commands[start..end]
+}
+
+// Whether the commands of the first after n checkpoints are a prefix of those of the second.
+fn has_rest(a: &EpochHistory, b: &EpochHistory, n: usize) -> bool
+    requires first { n ≤ checkpoints a.now }
+    requires second { n ≤ checkpoints b.now }
+    ensures { IsTrue result ↔ IsPrefix (history_of (behind_epochs a.now n)) (history_of (behind_epochs b.now n)) }
+{
+    is_prefix(behind_epochs(a, n), behind_epochs(b, n))
+}
+
+// The commands after n checkpoints.
+#[tactic(auto, using(crate::proofs::Starts::start_within))]
+fn behind_epochs(h: &EpochHistory, n: usize) -> &[Command]
+    requires { n ≤ checkpoints h.now }
+    ensures value { result.now ≡ behind_epochs h.now n }
+    ensures distinct { IsTrue (no_repeat (behind_epochs h.now n)) }
+{
+    let commands = h.as_slice();
+    let start = h.epoch_start(n);
+    &commands[start..]
+}

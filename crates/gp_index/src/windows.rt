@@ -1,0 +1,104 @@
+//! Prefixes of sequences that are parts of histories. Nothing here takes memory.
+ghost use Rattle.std.specs.Prelude.{◌≡◌, ◌↔◌, ◌≤◌, ◌+◌, ◌<◌, ℕ, length, IsTrue, IfSome, IfNone, Some, false};
+ghost use Rattle.std.specs.List.{list_all};
+ghost use Rattle.gp_history.specs.History.{IsPrefix};
+ghost use Rattle.gp_history.specs.Sequence.{history_of, no_repeat, place_in};
+ghost use Rattle.gp_history.specs.Walks.{behind, fits, stands_at};
+
+use crate::index::stands_at;
+use gp_command::{Command, conflicts};
+
+/// Whether the history of the first is a prefix of the history of the second.
+#[tactic(auto, using(gp_history::proofs::PrefixTest::fits_is_prefix))]
+pub fn is_prefix(a: &[Command], b: &[Command]) -> bool
+    requires first { IsTrue (no_repeat a.now) }
+    requires second { IsTrue (no_repeat b.now) }
+    ensures { IsTrue result ↔ IsPrefix (history_of a.now) (history_of b.now) }
+{
+    all_fit(a, b)
+}
+
+/// Whether both are linear orders of one history.
+pub fn is_same(a: &[Command], b: &[Command]) -> bool
+    requires first { IsTrue (no_repeat a.now) }
+    requires second { IsTrue (no_repeat b.now) }
+    ensures { IsTrue result ↔ (history_of a.now ≡ history_of b.now) }
+{
+    a.len() == b.len() && is_prefix(a, b)
+}
+
+// Whether each command of the first is in the second, with nothing new before it.
+fn all_fit(a: &[Command], b: &[Command]) -> bool
+    requires first { IsTrue (no_repeat a.now) }
+    requires second { IsTrue (no_repeat b.now) }
+    ensures { result ≡ list_all (fits a.now b.now) a.now }
+{
+    for i in 0..a.len() {
+        let d = &a[i];
+        match place_of(d, b, i) {
+            Some(j) => {
+                if !is_behind(b, j, a, i, d) {
+                    return false;
+                }
+            }
+            None => return false,
+        }
+    }
+    true
+}
+
+// Whether all that comes before `d` in `a` comes before it in `b`; it stands at `i` in `a` and at `j` in `b`.
+fn is_behind(a: &[Command], i: usize, b: &[Command], j: usize, d: &Command) -> bool
+    requires second { IsTrue (no_repeat b.now) }
+    requires left { place_in a.now d.now ≡ Some i }
+    requires right { place_in b.now d.now ≡ Some j }
+    requires within { i < length a.now }
+    ensures { result ≡ list_all (behind (history_of a.now) (history_of b.now) (history_of a.now) d.now) a.now }
+{
+    for p in 0..i {
+        let c = &a[p];
+        if conflicts(c, d) {
+            match place_of(c, b, p) {
+                Some(place) if place < j => {}
+                _ => return false,
+            }
+        }
+    }
+    true
+}
+
+// The place of a command. The search goes outward from the place `near`.
+fn place_of(c: &Command, commands: &[Command], near: usize) -> Option<usize>
+    requires { IsTrue (no_repeat commands.now) }
+    ensures { result ≡ place_in commands.now c.now }
+{
+    let start = near.min(commands.len());
+    for distance in 0..commands.len() {
+        if let Some(place) = place_at_distance(c, commands, start, distance) {
+            return Some(place);
+        }
+    }
+    None
+}
+
+// The place of a command, if it is `distance` after `start` or as far before it.
+fn place_at_distance(
+    c: &Command,
+    commands: &[Command],
+    start: usize,
+    distance: usize,
+) -> Option<usize>
+    requires within { start ≤ length commands.now }
+    requires near { distance ≤ length commands.now }
+    ensures found { IfSome result (λ place. IsTrue (stands_at c.now commands.now place)) }
+    ensures not_behind { IfNone result (stands_at c.now commands.now (start + distance) ≡ false) }
+    ensures not_ahead { IfNone result ((i : ℕ) → i + distance + 1 ≡ start → stands_at c.now commands.now i ≡ false) }
+{
+    if stands_at(c, commands, start + distance) {
+        return Some(start + distance);
+    }
+    if distance < start && stands_at(c, commands, start - distance - 1) {
+        return Some(start - distance - 1);
+    }
+    None
+}

@@ -1,0 +1,154 @@
+//! What a learner keeps of its epoch.
+ghost use Rattle.std.specs.Prelude.{◌≡◌, ◌<◌, [], nat_lt, map, Some, IfOk, OnOk, OnErr, IsNone, unwrap_or};
+ghost use Rattle.std.specs.Option.{option_map};
+ghost use Rattle.gp_history.specs.Sequence.{history_of};
+ghost use Rattle.gp_msg.specs.Messages.{Voted};
+ghost use Rattle.gp_safe.specs.Held.{newer};
+ghost use Rattle.gp_learner.specs.Table.{opening, hearing, learner_take, learned_with, heard, vote_of, votes_held};
+
+use crate::votes::{HeldVote, Votes, held_of, hold};
+use gp_command::NoMemory;
+use gp_history::Hist;
+use gp_index::History;
+use gp_round::{Config, Round};
+use gp_safe::{join_news, newer};
+use std::alloc::Global;
+use std::collections::BTreeMap;
+use std::marker::Model;
+
+/// The votes that a learner holds in its epoch, and what it learned from them, its part.
+#[derive(Drop, Debug)]
+pub struct Part {
+    alloc: Global,
+    config: Config,
+    number: u32,
+    votes: BTreeMap<(Round, u32), HeldVote>,
+    learned: History,
+}
+
+impl Model for Part {
+    ghost use Rattle.gp_history.specs.Sequence.{history_of};
+    ghost use Rattle.gp_learner.specs.State.{LearnerState, state_code};
+    ghost use Rattle.gp_learner.specs.UpToDate.{IsUpToDate};
+
+    ghost Value = { LearnerState };
+
+    ghost coded = { state_code };
+
+    ghost view = { λ l. record { config = l.config; number = l.number; votes = l.votes.entries; learned = history_of l.learned } };
+
+    ghost invariant = { λ l. IsUpToDate l.config.acceptors l.votes.entries (history_of l.learned) };
+}
+
+impl Part {
+    /// The state in which nothing was heard.
+    #[tactic(auto, using(crate::proofs::Learning::history_of_nothing, crate::proofs::StaysUpToDate::up_to_date_at_start))]
+    pub fn new(alloc: Global, config: &Config, number: u32) -> Result<Part, NoMemory>
+        ensures { IfOk result (λ l. l ≡ opening config.now number) }
+    {
+        Ok(Part {
+            alloc,
+            config: *config,
+            number,
+            votes: BTreeMap::new(alloc),
+            learned: History::empty(alloc)?,
+        })
+    }
+
+    /// What it learned in its epoch so far. It takes no memory.
+    pub fn learned(&self) -> &History
+        ensures { history_of result.now ≡ self.now.learned }
+    {
+        &self.learned
+    }
+
+    /// The learner's number. It takes no memory.
+    pub fn number(&self) -> u32
+        ensures { result ≡ self.now.number }
+    {
+        self.number
+    }
+
+    /// Whether an acceptor is one of the configuration. It takes no memory.
+    pub fn knows(&self, acceptor: u32) -> bool
+        ensures { result ≡ nat_lt acceptor self.now.config.acceptors }
+    {
+        acceptor < self.config.acceptors()
+    }
+
+    /// Returns to the state in which nothing was heard. It takes no memory.
+    #[tactic(auto, using(crate::proofs::Learning::history_of_nothing, crate::proofs::StaysUpToDate::up_to_date_at_start))]
+    pub fn clear(&mut self)
+        ensures { self.new ≡ opening self.old.config self.old.number }
+    {
+        self.votes.clear();
+        self.learned.clear();
+    }
+
+    /// An equal part.
+    pub fn copy(&self) -> Result<Part, NoMemory>
+        ensures { IfOk result (λ copy. copy ≡ self.now) }
+    {
+        Ok(Part {
+            alloc: self.alloc,
+            config: self.config,
+            number: self.number,
+            votes: self.votes.clone()?,
+            learned: self.learned.copy()?,
+        })
+    }
+
+    /// A copy of a vote, if it is to be held. If it is not, it changes nothing: what the quorums of its round
+    /// voted for is learned already.
+    pub fn to_hold(
+        &self,
+        round: Round,
+        acceptor: u32,
+        vote: &History,
+    ) -> Result<Option<History>, NoMemory>
+        requires known { acceptor < self.now.config.acceptors }
+        ensures vote { IfOk result (λ v. option_map history_of v ≡ newer (vote_of self.now.votes round acceptor) (history_of vote.now)) }
+        ensures idle { IfOk result (λ v. IsNone v → learner_take self.now (Voted round acceptor (history_of vote.now)) ≡ self.now) }
+    {
+        newer(held_of(&self.votes, round, acceptor), vote)
+    }
+
+    /// What is learned when a vote is held too. There is none if that is what was learned before.
+    pub fn learned_with(
+        &self,
+        round: Round,
+        acceptor: u32,
+        vote: &History,
+    ) -> Result<Option<History>, NoMemory>
+        requires { acceptor < self.now.config.acceptors }
+        ensures { IfOk result (λ l. unwrap_or (option_map history_of l) self.now.learned ≡ learned_with self.now.learned (heard self.now.config.acceptors round (vote_of (votes_held self.now.votes round acceptor (Some (history_of vote.now))) round))) }
+    {
+        let votes = Votes {
+            votes: &self.votes,
+            round,
+        };
+        let n = self.config.acceptors();
+        let size = self.config.quorum(round.mode);
+        join_news(self.alloc, &self.learned, &votes, acceptor, vote, n, size)
+    }
+
+    /// Holds a vote, with what is learned then; none stands for what was learned before. If memory runs out,
+    /// nothing changes.
+    pub fn hold(
+        &mut self,
+        round: Round,
+        acceptor: u32,
+        vote: History,
+        learned: Option<History>,
+    ) -> Result<(), NoMemory>
+        requires learned { unwrap_or (option_map history_of learned) self.old.learned ≡ learned_with self.old.learned (heard self.old.config.acceptors round (vote_of (votes_held self.old.votes round acceptor (Some (history_of vote))) round)) }
+        ensures next { OnOk result (self.new ≡ hearing self.old round (votes_held self.old.votes round acceptor (Some (history_of vote)))) }
+        ensures unchanged { OnErr result (self.new ≡ self.old) }
+    {
+        hold(&mut self.votes, round, acceptor, vote)?;
+        if let Some(learned) = learned {
+            self.learned = learned;
+        }
+        Ok(())
+    }
+}

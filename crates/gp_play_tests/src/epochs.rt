@@ -1,0 +1,270 @@
+//! Scripts with a checkpoint, which closes its epoch once it is learned.
+use crate::stage::{goes_on, plays};
+use gp_msg::Msg;
+use gp_text::play;
+use std::alloc::Global;
+use std::test::Fail;
+
+// a checkpoint between two puts that commute: what precedes it is learned with it, and the rest is not
+pub const CHECKPOINT_BETWEEN_PUTS: &[u8] = b"\
+nodes 3 1 1
+offer p0 put a 1
+offer p1 checkpoint
+offer p2 put b 2
+begin c0 1 single
+take c0 2
+take c0 1
+take c0 0
+take a0 3
+take a1 3
+take c0 4
+take c0 5
+take a0 6
+take a1 6
+take l0 7
+take l0 8
+";
+
+const CHECKPOINT_BETWEEN_PUTS_PRINTS: &[u8] = b"\
+l0 learned 2: p2.1 p1.1
+l0 state: b=2
+l0 replies: p2.1=ok p1.1=ok
+events 15 messages 10
+";
+
+// the same with two learners
+const CHECKPOINT_FOR_TWO: &[u8] = b"\
+nodes 3 1 2
+offer p0 put a 1
+offer p1 checkpoint
+offer p2 put b 2
+begin c0 1 single
+take c0 2
+take c0 1
+take c0 0
+take a0 3
+take a1 3
+take c0 4
+take c0 5
+take a0 6
+take a1 6
+take l0 7
+take l0 8
+";
+
+// the learner that heard no vote takes the Final
+const THE_OTHER_LEARNER_TAKES_THE_FINAL: &[u8] = b"\
+take l1 9
+";
+
+const BOTH_LEARNED: &[u8] = b"\
+l0 learned 2: p2.1 p1.1
+l0 state: b=2
+l0 replies: p2.1=ok p1.1=ok
+l1 learned 2: p2.1 p1.1
+l1 state: b=2
+l1 replies: p2.1=ok p1.1=ok
+events 16 messages 10
+";
+
+// all take the Final, and the put that is pending is learned in the next epoch
+const THE_NEXT_EPOCH: &[u8] = b"\
+take c0 9
+take a0 9
+take a1 9
+begin c0 1 single
+take a0 10
+take a1 10
+take c0 11
+take c0 12
+take a0 13
+take a1 13
+take l0 14
+take l0 15
+";
+
+const THE_NEXT_EPOCH_PRINTS: &[u8] = b"\
+l0 learned 3: p2.1 p1.1 p0.1
+l0 state: a=1 b=2
+l0 replies: p2.1=ok p1.1=ok p0.1=ok
+events 27 messages 16
+";
+
+// a coordinator takes a message of each kind, in the epoch of the messages and in the one after it
+const A_COORDINATOR_TAKES: &[u8] = b"\
+take c0 0
+take c0 3
+take c0 4
+take c0 6
+take c0 7
+take c0 9
+take c0 0
+take c0 1
+take c0 3
+take c0 4
+take c0 6
+take c0 7
+take c0 9
+";
+
+// nothing more is sent
+const A_COORDINATOR_TAKES_PRINTS: &[u8] = b"\
+l0 learned 2: p2.1 p1.1
+l0 state: b=2
+l0 replies: p2.1=ok p1.1=ok
+events 28 messages 10
+";
+
+// an acceptor does
+const AN_ACCEPTOR_TAKES: &[u8] = b"\
+take a0 0
+take a0 3
+take a0 4
+take a0 6
+take a0 7
+take a0 9
+take a0 0
+take a0 3
+take a0 4
+take a0 6
+take a0 7
+take a0 9
+";
+
+const AN_ACCEPTOR_TAKES_PRINTS: &[u8] = b"\
+l0 learned 2: p2.1 p1.1
+l0 state: b=2
+l0 replies: p2.1=ok p1.1=ok
+events 27 messages 10
+";
+
+// a proposer does, and a learner, which has learned what the Final has
+const A_PROPOSER_AND_A_LEARNER_TAKE: &[u8] = b"\
+take p0 0
+take p0 3
+take p0 4
+take p0 6
+take p0 7
+take p0 9
+take l1 0
+take l1 3
+take l1 4
+take l1 6
+take l1 7
+take l1 9
+take l1 0
+take l1 3
+take l1 4
+take l1 6
+take l1 8
+take l1 9
+";
+
+const A_PROPOSER_AND_A_LEARNER_TAKE_PRINTS: &[u8] = b"\
+l0 learned 2: p2.1 p1.1
+l0 state: b=2
+l0 replies: p2.1=ok p1.1=ok
+l1 learned 2: p2.1 p1.1
+l1 state: b=2
+l1 replies: p2.1=ok p1.1=ok
+events 33 messages 10
+";
+
+#[test]
+fn what_follows_a_checkpoint_is_not_learned_with_it(rt: HostRuntime) -> Result<(), Fail> {
+    assert!(rt;
+        plays(
+            rt.alloc(),
+            CHECKPOINT_BETWEEN_PUTS,
+            0,
+            CHECKPOINT_BETWEEN_PUTS_PRINTS
+        )?
+    );
+    Ok(())
+}
+
+// Whether message 9 of the script is the Final of epoch 0 that learner 0 sent.
+fn closes_its_epoch(alloc: Global) -> bool {
+    match play(alloc, CHECKPOINT_BETWEEN_PUTS) {
+        Ok(played) => matches!(
+            played.world.message(9),
+            Some(Msg::Final {
+                epoch: 0,
+                learner: 0,
+                ..
+            })
+        ),
+        Err(_) => false,
+    }
+}
+
+#[test]
+fn a_checkpoint_that_is_learned_is_sent_in_a_final(rt: HostRuntime) -> Result<(), Fail> {
+    assert!(rt; closes_its_epoch(rt.alloc()));
+    Ok(())
+}
+
+#[test]
+fn a_learner_takes_the_final_of_another(rt: HostRuntime) -> Result<(), Fail> {
+    assert!(rt;
+        goes_on(
+            rt.alloc(),
+            CHECKPOINT_FOR_TWO,
+            THE_OTHER_LEARNER_TAKES_THE_FINAL,
+            BOTH_LEARNED
+        )?
+    );
+    Ok(())
+}
+
+#[test]
+fn the_next_epoch_learns_what_was_left(rt: HostRuntime) -> Result<(), Fail> {
+    assert!(rt;
+        goes_on(
+            rt.alloc(),
+            CHECKPOINT_BETWEEN_PUTS,
+            THE_NEXT_EPOCH,
+            THE_NEXT_EPOCH_PRINTS
+        )?
+    );
+    Ok(())
+}
+
+#[test]
+fn a_coordinator_takes_each_kind_of_message(rt: HostRuntime) -> Result<(), Fail> {
+    assert!(rt;
+        goes_on(
+            rt.alloc(),
+            CHECKPOINT_BETWEEN_PUTS,
+            A_COORDINATOR_TAKES,
+            A_COORDINATOR_TAKES_PRINTS
+        )?
+    );
+    Ok(())
+}
+
+#[test]
+fn an_acceptor_takes_each_kind_of_message(rt: HostRuntime) -> Result<(), Fail> {
+    assert!(rt;
+        goes_on(
+            rt.alloc(),
+            CHECKPOINT_BETWEEN_PUTS,
+            AN_ACCEPTOR_TAKES,
+            AN_ACCEPTOR_TAKES_PRINTS
+        )?
+    );
+    Ok(())
+}
+
+#[test]
+fn a_proposer_and_a_learner_take_each_kind_of_message(rt: HostRuntime) -> Result<(), Fail> {
+    assert!(rt;
+        goes_on(
+            rt.alloc(),
+            CHECKPOINT_FOR_TWO,
+            A_PROPOSER_AND_A_LEARNER_TAKE,
+            A_PROPOSER_AND_A_LEARNER_TAKE_PRINTS
+        )?
+    );
+    Ok(())
+}

@@ -1,0 +1,130 @@
+//! The same calls on both representations, and what each of them answers.
+use crate::alphabet::{LETTERS, command, history, letter};
+use gp_command::Command;
+use gp_history::{Hist, SeqHistory};
+use gp_index::History;
+use std::alloc::Global;
+use std::process::Abort;
+use std::test::Fail;
+
+// What a call answered. A command is told by its letter.
+#[derive(Clone, Copy, Debug, PartialEq, Eq)]
+enum Seen {
+    Pushed(bool),
+    Has(bool),
+    Length(usize),
+    At(u8),
+    Place(Option<usize>),
+    Prefix(bool),
+    Same(bool),
+    Next(Option<u8>),
+}
+
+const WORDS: [&str; 10] = [
+    "",
+    "W",
+    "WKYK",
+    "KWVAR",
+    "WVWYV",
+    "SRBAVWY",
+    "AKBLYW",
+    "LKRSLA",
+    "YWYKVWABL",
+    "VYKBAKL",
+];
+
+// What each word is compared with.
+const OTHERS: [&str; 6] = ["", "WK", "WKY", "YWK", "AKBL", "VYKAB"];
+
+#[test]
+fn both_answer_alike(rt: HostRuntime) -> Result<(), Fail> {
+    for word in WORDS {
+        are_alike(&rt, rt.alloc(), word)?;
+    }
+    Ok(())
+}
+
+fn are_alike(rt: &impl Abort, alloc: Global, word: &str) -> Result<(), Fail> {
+    let listed = see_all::<SeqHistory>(rt, alloc, word)?;
+    let indexed = see_all::<History>(rt, alloc, word)?;
+    assert_eq!(rt; listed.as_slice(), indexed.as_slice(), "of {word}");
+    Ok(())
+}
+
+// Every call, on the history of a word.
+fn see_all<H: Hist>(rt: &impl Abort, alloc: Global, word: &str) -> Result<Vec<Seen>, Fail> {
+    let mut seen = Vec::new(alloc);
+    let mut history: H = see_pushes(alloc, word, &mut seen)?;
+    see_places(&history, &mut seen)?;
+    see_letters(alloc, &history, &mut seen)?;
+    see_others(alloc, &history, &mut seen)?;
+    see_next(rt, alloc, &history, &mut seen)?;
+    let copy = history.copy()?;
+    history.clear();
+    see_places(&copy, &mut seen)?;
+    see_places(&history, &mut seen)?;
+    see_letters(alloc, &history, &mut seen)?;
+    Ok(seen)
+}
+
+fn see_pushes<H: Hist>(alloc: Global, word: &str, seen: &mut Vec<Seen>) -> Result<H, Fail> {
+    let mut history = H::empty(alloc)?;
+    for letter in word.as_bytes() {
+        let pushed = history.push(command(alloc, *letter)?)?;
+        seen.push(Seen::Pushed(pushed))?;
+    }
+    Ok(history)
+}
+
+fn see_places<H: Hist>(history: &H, seen: &mut Vec<Seen>) -> Result<(), Fail> {
+    seen.push(Seen::Length(history.len()))?;
+    for place in 0..history.len() {
+        seen.push(Seen::At(letter(history.at(place))))?;
+    }
+    Ok(())
+}
+
+fn see_letters<H: Hist>(alloc: Global, history: &H, seen: &mut Vec<Seen>) -> Result<(), Fail> {
+    for letter in LETTERS {
+        see_letter(history, &command(alloc, letter)?, seen)?;
+    }
+    Ok(())
+}
+
+// A command, and its place from every place and from two places after the end.
+fn see_letter<H: Hist>(history: &H, c: &Command, seen: &mut Vec<Seen>) -> Result<(), Fail> {
+    seen.push(Seen::Has(history.has(c)))?;
+    for near in 0..12 {
+        seen.push(Seen::Place(history.place_of(c, near)))?;
+    }
+    Ok(())
+}
+
+fn see_others<H: Hist>(alloc: Global, of: &H, seen: &mut Vec<Seen>) -> Result<(), Fail> {
+    for word in OTHERS {
+        let other: H = history(alloc, word)?;
+        seen.push(Seen::Prefix(of.is_prefix(&other)))?;
+        seen.push(Seen::Prefix(other.is_prefix(of)))?;
+        seen.push(Seen::Same(of.same(&other)))?;
+    }
+    Ok(())
+}
+
+// The canonical order, and a call after its end: no word has more than nine letters.
+fn see_next<H: Hist>(
+    rt: &impl Abort,
+    alloc: Global,
+    history: &H,
+    seen: &mut Vec<Seen>,
+) -> Result<(), Fail> {
+    let mut taken = H::empty(alloc)?;
+    for _ in 0..10 {
+        assert!(rt; taken.is_prefix(history));
+        let next = history.next_least(&taken);
+        seen.push(Seen::Next(next.map(letter)))?;
+        if let Some(c) = next {
+            taken.push(c.copy()?)?;
+        }
+    }
+    Ok(())
+}

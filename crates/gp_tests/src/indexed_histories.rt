@@ -1,0 +1,119 @@
+//! The further calls of histories with an index.
+use crate::alphabet::{LETTERS, command, history, letters};
+use gp_command::{Access, Command, CommandId, Draft, Key, Touch};
+use gp_history::Hist;
+use gp_index::{EpochHistory, History};
+use std::alloc::Global;
+use std::process::Abort;
+use std::test::Fail;
+
+// The first command of a proposer.
+fn first_of(proposer: u32, draft: Draft) -> Command {
+    let number = 1;
+    Command::new(CommandId { proposer, number }, draft)
+}
+
+fn put(alloc: Global, key: &[u8], body: &[u8]) -> Result<Draft, Fail> {
+    let key = Key::new(key)?;
+    let access = Access::Write;
+    Ok(Draft::new(alloc, &[Touch { key, access }], body)?)
+}
+
+// A write, a checkpoint, a write of another key, and the checkpoint again.
+fn pushed(rt: &impl Abort, alloc: Global) -> Result<EpochHistory, Fail> {
+    let mut history = EpochHistory::empty(alloc)?;
+    let close = first_of(1, Draft::checkpoint(alloc, b"checkpoint")?);
+    assert!(rt; history.push(first_of(0, put(alloc, b"a", b"put a 1")?))?);
+    assert!(rt; history.push(close.copy()?)?);
+    assert!(rt; history.push(first_of(2, put(alloc, b"b", b"put b 2")?))?);
+    assert!(rt; !history.push(close)?);
+    Ok(history)
+}
+
+#[test]
+fn a_checkpoint_starts_an_epoch(rt: HostRuntime) -> Result<(), Fail> {
+    let alloc = rt.alloc();
+    let history = pushed(&rt, alloc)?;
+    assert_eq!(rt; history.epochs(), 2);
+    assert_eq!(rt; history.epoch_start(1), 2);
+    assert_eq!(rt; history.len(), 3);
+    let last = first_of(2, put(alloc, b"b", b"put b 2")?);
+    assert_eq!(rt; history.find(&last), Some(2));
+    Ok(())
+}
+
+// A word, and where its epochs start.
+type Starts = (&'static str, &'static [usize]);
+
+const STARTS: [Starts; 10] = [
+    ("", &[0]),
+    ("WY", &[0]),
+    ("K", &[0, 1]),
+    ("WK", &[0, 2]),
+    ("WKY", &[0, 2]),
+    ("KL", &[0, 1, 2]),
+    ("WKVAL", &[0, 2, 5]),
+    ("WKVLYR", &[0, 2, 4]),
+    // a command that is pushed again stays where it is
+    ("WKWKV", &[0, 2]),
+    ("KLKWL", &[0, 1, 2]),
+];
+
+#[test]
+fn epochs_start_after_the_checkpoints(rt: HostRuntime) -> Result<(), Fail> {
+    for (word, want) in STARTS {
+        assert!(rt; starts_at(rt.alloc(), word, want)?, "of {word}");
+    }
+    Ok(())
+}
+
+fn starts_at(alloc: Global, word: &str, want: &[usize]) -> Result<bool, Fail> {
+    let history: History = history(alloc, word)?;
+    Ok(starts(alloc, &history)?.as_slice() == want)
+}
+
+fn starts(alloc: Global, history: &History) -> Result<Vec<usize>, Fail> {
+    let mut starts = Vec::new(alloc);
+    for i in 0..history.epochs() {
+        starts.push(history.epoch_start(i))?;
+    }
+    Ok(starts)
+}
+
+#[test]
+fn a_command_is_found_by_the_index(rt: HostRuntime) -> Result<(), Fail> {
+    let alloc = rt.alloc();
+    for word in ["", "W", "LYKVWSRBA", "AKBLY", "YWYKWV"] {
+        assert!(rt; finds_all(alloc, word)?, "in {word}");
+    }
+    Ok(())
+}
+
+// Whether each letter is found in its place among the letters of the history, and no other is.
+fn finds_all(alloc: Global, word: &str) -> Result<bool, Fail> {
+    let history: History = history(alloc, word)?;
+    let letters = letters(alloc, &history)?;
+    for letter in LETTERS {
+        let want = letters.iter().position(|at| *at == letter);
+        if history.find(&command(alloc, letter)?) != want {
+            return Ok(false);
+        }
+    }
+    Ok(true)
+}
+
+#[test]
+fn copies_have_their_own_index(rt: HostRuntime) -> Result<(), Fail> {
+    let alloc = rt.alloc();
+    let mut original: History = history(alloc, "WK")?;
+    let mut copy = original.copy()?;
+    assert!(rt; original.push(command(alloc, b'Y')?)?);
+    assert!(rt; copy.push(command(alloc, b'L')?)?);
+    assert!(rt; starts(alloc, &original)?.as_slice() == [0, 2].as_slice());
+    assert!(rt; starts(alloc, &copy)?.as_slice() == [0, 2, 3].as_slice());
+    assert_eq!(rt; original.find(&command(alloc, b'Y')?), Some(2));
+    assert_eq!(rt; copy.find(&command(alloc, b'Y')?), None);
+    assert_eq!(rt; copy.find(&command(alloc, b'L')?), Some(2));
+    assert_eq!(rt; original.find(&command(alloc, b'L')?), None);
+    Ok(())
+}

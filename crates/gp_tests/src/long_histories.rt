@@ -1,0 +1,177 @@
+//! Histories of 256 commands, in both representations.
+use crate::alphabet::touching;
+use gp_bounds::{compatible, join, meet};
+use gp_command::{Access, Command, CommandId, Draft};
+use gp_history::{Hist, SeqHistory};
+use gp_index::History;
+use std::alloc::Global;
+use std::process::Abort;
+use std::test::Fail;
+
+// What the 256 commands do.
+#[derive(Clone, Copy, Debug)]
+enum Shape {
+    /// Each writes one key.
+    OneKey,
+    /// Each writes a key of its own.
+    OwnKeys,
+    /// Each adds to one key.
+    Additions,
+    /// Every sixteenth is a checkpoint, and each other one writes a key of its own.
+    Checkpoints,
+    /// Reads, additions and writes of four keys, and a checkpoint for every 64.
+    Mixed,
+}
+
+// By number they stand in one order, and by steps of 77 in another: 0, 77, 154, 231, 52, 129, 206, 27, 104,
+// 181, 2, 79 and so on.
+const SCRAMBLED: u8 = 77;
+
+// Command n of a shape. The order of the commands is by proposer first, and so not that of the numbers.
+fn command(alloc: Global, shape: Shape, n: u8) -> Result<Command, Fail> {
+    let id = CommandId {
+        proposer: n as u32 % 8,
+        number: n as u32 / 8 + 1,
+    };
+    Ok(Command::new(id, draft(alloc, shape, n)?))
+}
+
+fn draft(alloc: Global, shape: Shape, n: u8) -> Result<Draft, Fail> {
+    match shape {
+        Shape::OneKey => touching(alloc, b"x", Access::Write),
+        Shape::OwnKeys => touching(alloc, &own_key(n), Access::Write),
+        Shape::Additions => touching(alloc, b"x", Access::Add),
+        Shape::Checkpoints if n % 16 == 15 => Ok(Draft::checkpoint(alloc, b"")?),
+        Shape::Checkpoints => touching(alloc, &own_key(n), Access::Write),
+        Shape::Mixed if n % 64 == 63 => Ok(Draft::checkpoint(alloc, b"")?),
+        Shape::Mixed => touching(alloc, &own_key(n % 4), access(n / 4)),
+    }
+}
+
+fn own_key(n: u8) -> [u8; 2] {
+    [b'a' + n / 16, b'a' + n % 16]
+}
+
+fn access(n: u8) -> Access {
+    match n % 3 {
+        0 => Access::Read,
+        1 => Access::Add,
+        _ => Access::Write,
+    }
+}
+
+// The first commands of a shape, from command 0 in these steps.
+fn pushed<H: Hist>(alloc: Global, shape: Shape, step: u8, count: usize) -> Result<H, Fail> {
+    let mut history = H::empty(alloc)?;
+    let mut n: u8 = 0;
+    for _ in 0..count {
+        history.push(command(alloc, shape, n)?)?;
+        n = n.wrapping_add(step);
+    }
+    Ok(history)
+}
+
+// By number, and scrambled.
+fn both_orders<H: Hist>(alloc: Global, shape: Shape) -> Result<(H, H), Fail> {
+    Ok((
+        pushed(alloc, shape, 1, 256)?,
+        pushed(alloc, shape, SCRAMBLED, 256)?,
+    ))
+}
+
+// A shape, whether both orders are one history, and how many commands the meet has if they are two.
+type Row = (Shape, bool, usize);
+
+// Of one key, command 0 comes first in both orders, and 1 after it in the one and after 77 in the other.
+// Before the first checkpoint stand 0 to 14 in the one order and the first eleven numbers in the other,
+// of which 0 and 2 are common.
+const ROWS: [Row; 4] = [
+    (Shape::OneKey, false, 1),
+    (Shape::OwnKeys, true, 256),
+    (Shape::Additions, true, 256),
+    (Shape::Checkpoints, false, 2),
+];
+
+#[test]
+fn long_histories_are_compared(rt: HostRuntime) -> Result<(), Fail> {
+    for (shape, same, met) in ROWS {
+        compare::<SeqHistory, _>(&rt, rt.alloc(), shape, same, met)?;
+        compare::<History, _>(&rt, rt.alloc(), shape, same, met)?;
+    }
+    Ok(())
+}
+
+fn compare<H: Hist, R: Abort>(
+    rt: &R,
+    alloc: Global,
+    shape: Shape,
+    same: bool,
+    met: usize,
+) -> Result<(), Fail> {
+    let (a, b): (H, H) = both_orders(alloc, shape)?;
+    assert_eq!(rt; a.is_prefix(&b), same);
+    assert_eq!(rt; b.is_prefix(&a), same);
+    assert_eq!(rt; a.same(&b), same);
+    assert_eq!(rt; compatible(&a, &b), same);
+    assert_eq!(rt; meet(alloc, &a, &b)?.len(), met);
+    assert!(rt; join(alloc, &a, &b)?.same(&a));
+    Ok(())
+}
+
+#[test]
+fn one_key_walks_alike(rt: HostRuntime) -> Result<(), Fail> {
+    walk_alike(&rt, rt.alloc(), Shape::OneKey)
+}
+
+#[test]
+fn own_keys_walk_alike(rt: HostRuntime) -> Result<(), Fail> {
+    walk_alike(&rt, rt.alloc(), Shape::OwnKeys)
+}
+
+#[test]
+fn additions_walk_alike(rt: HostRuntime) -> Result<(), Fail> {
+    walk_alike(&rt, rt.alloc(), Shape::Additions)
+}
+
+#[test]
+fn checkpoints_walk_alike(rt: HostRuntime) -> Result<(), Fail> {
+    walk_alike(&rt, rt.alloc(), Shape::Checkpoints)
+}
+
+#[test]
+fn mixed_commands_walk_alike(rt: HostRuntime) -> Result<(), Fail> {
+    walk_alike(&rt, rt.alloc(), Shape::Mixed)
+}
+
+// Both representations walk alike over both orders, over their meet and over a join.
+fn walk_alike(rt: &impl Abort, alloc: Global, shape: Shape) -> Result<(), Fail> {
+    let listed = walk_all::<SeqHistory>(alloc, shape)?;
+    let indexed = walk_all::<History>(alloc, shape)?;
+    assert!(rt; listed.len() > 768);
+    assert_eq!(rt; listed.as_slice(), indexed.as_slice(), "of {shape:?}");
+    Ok(())
+}
+
+fn walk_all<H: Hist>(alloc: Global, shape: Shape) -> Result<Vec<CommandId>, Fail> {
+    let mut walked = Vec::new(alloc);
+    let (a, b): (H, H) = both_orders(alloc, shape)?;
+    let front: H = pushed(alloc, shape, 1, 128)?;
+    walk(alloc, &a, &mut walked)?;
+    walk(alloc, &b, &mut walked)?;
+    walk(alloc, &meet(alloc, &a, &b)?, &mut walked)?;
+    walk(alloc, &join(alloc, &front, &b)?, &mut walked)?;
+    Ok(walked)
+}
+
+// Appends the identities of the commands in canonical order.
+fn walk<H: Hist>(alloc: Global, history: &H, walked: &mut Vec<CommandId>) -> Result<(), Fail> {
+    let mut taken = H::empty(alloc)?;
+    for _ in 0..history.len() {
+        let Some(next) = history.next_least(&taken) else {
+            return Ok(());
+        };
+        taken.push(next.copy()?)?;
+        walked.push(next.id())?;
+    }
+    Ok(())
+}
