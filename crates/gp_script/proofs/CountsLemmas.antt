@@ -1,13 +1,14 @@
 -- The line of a configuration.
 use Rattle.std.proofs.Common.{◌≡◌, ◌≢◌, ℕ, ◌<◌, ◌≤◌, ◌^◌, false, List, [], ◌∷◌, ◌++◌, length, Ok, refl, sym, ap, subst, ◌∙◌, arith, append_assoc}
 use Rattle.std.specs.Prelude.{decimal, codes}
+use Rattle.std.proofs.lemmas.Fmt.{length-decimal-le}
 use Rattle.gp_round.specs.Counts.{Counts}
 use Rattle.gp_round.specs.Ranges.{AreInRange}
 use Rattle.gp_words.specs.Bytes.{Lacks}
 use Rattle.gp_words.specs.Lines.{is_line_feed}
 use Rattle.gp_words.specs.Spacing.{joined}
 use Rattle.gp_words.specs.Tokens.{tokens_of, has_empty}
-use Rattle.gp_words.proofs.NumberLemmas.{decimal_spaceless, decimal_feedless, decimal_short}
+use Rattle.gp_words.proofs.NumberLemmas.{decimal_spaceless, decimal_feedless}
 use Rattle.gp_words.proofs.TokenLemmas.{tokens_split, joined_tokens}
 use Rattle.gp_script.specs.Names.{count_of}
 use Rattle.gp_script.specs.Forms.{Form, NodesLine, OfferLine, BeginLine, TakeLine, FallLine, ShowLine, form_of}
@@ -122,14 +123,13 @@ nodes_feedless c range =
     feedless_apart (a ++ codes " " ++ k) (decimal c.learners)
     (feedless_apart a k (decimal_feedless c.acceptors f.acceptors) (decimal_feedless c.coordinators f.coordinators)) (decimal_feedless c.learners f.learners)
 
-pub nodes_short : (c : Counts) → AreInRange c.acceptors c.coordinators c.learners → length (nodes_text c) ≤ 90
+pub nodes_short : (c : Counts) → AreInRange c.acceptors c.coordinators c.learners → length (nodes_text c) ≤ 11
 nodes_short c range =
-    let f = counts_fit c range in
     let a = decimal c.acceptors in
     let k = decimal c.coordinators in
     let outer = length_apart (a ++ codes " " ++ k) (decimal c.learners) in
     let inner = length_apart a k in
-    let first = decimal_short c.acceptors f.acceptors in
-    let second = decimal_short c.coordinators f.coordinators in
-    let third = decimal_short c.learners f.learners in
+    let first = length-decimal-le 1 c.acceptors (omega arith) (omega arith) (omega arith) in
+    let second = length-decimal-le 1 c.coordinators (omega arith) (omega arith) (omega arith) in
+    let third = length-decimal-le 1 c.learners (omega arith) (omega arith) (omega arith) in
     omega arith

@@ -3,7 +3,7 @@ use Rattle.std.proofs.Common.{◌≡◌, ◌≢◌, ℕ, ◌+◌, ◌<◌, ◌�
 use Rattle.std.specs.Prelude.{decimal, codes}
 use Rattle.std.specs.List.{AllByRecursion}
 use Rattle.std.proofs.lemmas.Bool.{and_from, ne_eqb}
-use Rattle.std.proofs.lemmas.Fmt.{decimal_nonempty}
+use Rattle.std.proofs.lemmas.Fmt.{decimal_nonempty, length-decimal-le}
 use Rattle.std.proofs.lemmas.List.{append-nil}
 use Rattle.std.proofs.lemmas.List.Folds.{list_all-append}
 use Rattle.gp_round.specs.Counts.{Counts}
@@ -33,7 +33,7 @@ use Rattle.gp_script.specs.declared.items.Item.TheVariants.{Offer, Begin, Take, 
 use Rattle.gp_script.specs.Forms.{Form, form_of}
 use Rattle.gp_script.specs.Items.{node_number}
 use Rattle.gp_script.specs.Admitted.{IsNode, CanKeep, IsAdmitted}
-use Rattle.gp_script.specs.Spelling.{node_word, mode_word, round_words, kept_words, item_line, SaysItem}
+use Rattle.gp_script.specs.Spelling.{node_word, mode_word, round_words, kept_words, item_line, longest_line, SaysItem}
 use Rattle.gp_script.specs.Rows.{kept_words_of, HasWords}
 use Rattle.gp_script.proofs.FormLemmas.{form_says, form_read}
 use Rattle.gp_script.proofs.ItemLemmas.{owned_own, owner_there, kept_line, line_for, item_read, item_again}
@@ -253,51 +253,58 @@ line_lacks (Show learner) f = decimal_feedless learner f
 pub line_feedless : (c : Counts) (item : Item) → AreInRange c.acceptors c.coordinators c.learners → IsAdmitted c item → Lacks is_line_feed (item_line item)
 line_feedless c item range a = line_lacks item (item_fits c item range a)
 
-node_short : (node : Node) → node_number node < 2 ^ 64 → length (node_word node) ≤ 21
-node_short (Proposer n) lt = let short = decimal_short n lt in omega arith
-node_short (Coordinator n) lt = let short = decimal_short n lt in omega arith
-node_short (Acceptor n) lt = let short = decimal_short n lt in omega arith
-node_short (Learner n) lt = let short = decimal_short n lt in omega arith
+-- ---- how long the line is
+
+-- a node has a letter and one digit
+node_short : (c : Counts) (node : Node) → AreInRange c.acceptors c.coordinators c.learners → IsNode c node → length (node_word node) ≤ 2
+node_short c (Proposer n) range lt = let digit = length-decimal-le 1 n (omega arith) (omega arith) (omega arith) in omega arith
+node_short c (Coordinator n) range lt = let digit = length-decimal-le 1 n (omega arith) (omega arith) (omega arith) in omega arith
+node_short c (Acceptor n) range lt = let digit = length-decimal-le 1 n (omega arith) (omega arith) (omega arith) in omega arith
+node_short c (Learner n) range lt = let digit = length-decimal-le 1 n (omega arith) (omega arith) (omega arith) in omega arith
 
 mode_short : (mode : Mode) → length (mode_word mode) ≤ 6
 mode_short Single = omega arith
 mode_short Multi = omega arith
 mode_short Fast = omega arith
 
-round_short : (round : Round) → round.count < 2 ^ 64 → length (round_words round) ≤ 27
-round_short round lt =
+-- a count has at most seven digits
+round_short : (many n : ℕ) (round : Round) → is_owner many n round ≡ true → length (round_words round) ≤ 14
+round_short many n round owner =
+    let most = (owned_own many n round owner).most in
     let sum = length_apart (decimal round.count) (mode_word round.mode) in
-    let count = decimal_short round.count lt in
+    let count = length-decimal-le 7 round.count (omega arith) (omega arith) (omega arith) in
     let mode = mode_short round.mode in
     omega arith
 
-kept_short : (what : Option Kept) → KeptFits what → length (kept_words what) ≤ 34
-kept_short None f = omega arith
-kept_short (Some (kept.Take message)) f = let short = decimal_short message f in omega arith
-kept_short (Some (kept.Begin round)) f = let short = round_short round f in omega arith
+kept_short : (c : Counts) (node : Node) (what : Option Kept) → CanKeep c node what → length (kept_words what) ≤ 26
+kept_short c node None can = omega arith
+kept_short c (Proposer n) (Some what) can = absurd can
+kept_short c (Coordinator n) (Some (kept.Take message)) can = let short = decimal_short message can in omega arith
+kept_short c (Coordinator n) (Some (kept.Begin round)) can = let short = round_short c.coordinators n round can in omega arith
+kept_short c (Acceptor n) (Some (kept.Take message)) can = let short = decimal_short message can in omega arith
+kept_short c (Acceptor n) (Some (kept.Begin round)) can = absurd can
+kept_short c (Learner n) (Some what) can = absurd can
 
-line_length : (item : Item) → ItemFits item → length (item_line item) ≤ 90
-line_length (Offer proposer op) f =
+-- the line of an admitted item has no more bytes than its row of the table allows
+pub line_short : (c : Counts) (item : Item) → AreInRange c.acceptors c.coordinators c.learners → IsAdmitted c item → length (item_line item) ≤ longest_line item
+line_short c (Offer proposer op) range a =
     let sum = length_apart (node_word (Proposer proposer)) (op_text op) in
-    let node = node_short (Proposer proposer) f.0 in
-    let op = text_short op f.1 in
+    let node = node_short c (Proposer proposer) range a.0 in
+    let op = text_short op a.1 in
     omega arith
-line_length (Begin coordinator round) f =
+line_short c (Begin coordinator round) range a =
     let sum = length_apart (node_word (Coordinator coordinator)) (round_words round) in
-    let node = node_short (Coordinator coordinator) f.0 in
-    let words = round_short round f.1 in
+    let node = node_short c (Coordinator coordinator) range (owner_there c.coordinators coordinator round a) in
+    let words = round_short c.coordinators coordinator round a in
     omega arith
-line_length (Take node message) f =
+line_short c (Take node message) range a =
     let sum = length_apart (node_word node) (decimal message) in
-    let node = node_short node f.0 in
-    let number = decimal_short message f.1 in
+    let node = node_short c node range a.0 in
+    let number = decimal_short message a.1 in
     omega arith
-line_length (Fall node what) f =
+line_short c (Fall node what) range a =
     let sum = length-append (node_word node) (kept_words what) in
-    let node = node_short node f.0 in
-    let words = kept_short what f.1 in
+    let words = kept_short c node what a.1 in
+    let node = node_short c node range a.0 in
     omega arith
-line_length (Show learner) f = let node = node_short (Learner learner) f in omega arith
-
-pub line_short : (c : Counts) (item : Item) → AreInRange c.acceptors c.coordinators c.learners → IsAdmitted c item → length (item_line item) ≤ 90
-line_short c item range a = line_length item (item_fits c item range a)
+line_short c (Show learner) range a = let node = node_short c (Learner learner) range a in omega arith

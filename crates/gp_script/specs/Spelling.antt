@@ -45,6 +45,14 @@ item_line (Take node message) = codes "take " ++ node_word node ++ codes " " ++ 
 item_line (Fall node what) = codes "fall " ++ node_word node ++ kept_words what
 item_line (Show learner) = codes "show " ++ node_word (Learner learner)
 
+-- the most bytes that a line of this row of the table has
+abbrev pub longest_line : Item → ℕ
+longest_line (Offer proposer op) = 71
+longest_line (Begin coordinator round) = 23
+longest_line (Take node message) = 28
+longest_line (Fall node what) = 33
+longest_line (Show learner) = 7
+
 -- the line that says a configuration
 abbrev pub nodes_text : Counts → List ℕ
 nodes_text c = codes "nodes " ++ decimal c.acceptors ++ codes " " ++ decimal c.coordinators ++ codes " " ++ decimal c.learners

@@ -10,7 +10,7 @@ use gp_msg::{Kept, Node};
 use gp_round::{Config, Mode, Round};
 use gp_store::{Op, op_of_form};
 
-/// What a line behind the `nodes` line says.
+/// What a line after the `nodes` line says.
 #[derive(Clone, Copy, Debug, PartialEq, Eq)]
 pub enum Item {
     /// A proposer is given an operation to offer.
@@ -88,7 +88,7 @@ fn fall_of(node: Node, form: KeptForm<'_>) -> Result<Item, Reason>
     Ok(Item::Fall { node, kept })
 }
 
-/// What a line behind the `nodes` line says, its tokens read from left to right. It takes no memory.
+/// What a line after the `nodes` line says, its tokens read from left to right. It takes no memory.
 #[tactic(auto, unfolding(crate::specs::Items::item_of))]
 pub fn item_of(config: &Config, line: Form<'_>) -> Result<Item, Reason>
     ensures { result ≡ item_of config.now (form_view line.entry) }

@@ -10,7 +10,7 @@ ghost use Rattle.gp_script.specs.Forms.{Form, form_of};
 ghost use Rattle.gp_script.specs.Items.{item_of, counts_of};
 ghost use Rattle.gp_script.specs.Admitted.{IsAdmitted};
 ghost use Rattle.gp_script.specs.Rows.{HasWords};
-ghost use Rattle.gp_script.specs.Spelling.{item_line, nodes_text, SaysItem, SaysCounts};
+ghost use Rattle.gp_script.specs.Spelling.{item_line, longest_line, nodes_text, SaysItem, SaysCounts};
 
 /// A line is one of the table exactly where it has the words of a row, and none of them is empty.
 pub fn a_line_has_the_words_of_its_row()
@@ -38,10 +38,11 @@ pub fn a_configuration_has_one_line()
     ensures range { (form : Form) (c : Counts) → counts_of form ≡ Ok c → AreInRange c.acceptors c.coordinators c.learners }
 {}
 
-/// A line that says an item or a configuration has no line feed inside, and at most 90 bytes.
+/// A line that says an item or a configuration has no line feed inside. An offer has at most 71 bytes, a line
+/// that says another item at most 33, and one that says a configuration at most 11.
 pub fn lines_are_short()
     ensures item_feedless { (c : Counts) (item : Item) → AreInRange c.acceptors c.coordinators c.learners → IsAdmitted c item → Lacks is_line_feed (item_line item) }
-    ensures item_short { (c : Counts) (item : Item) → AreInRange c.acceptors c.coordinators c.learners → IsAdmitted c item → length (item_line item) ≤ 90 }
+    ensures item_short { (c : Counts) (item : Item) → AreInRange c.acceptors c.coordinators c.learners → IsAdmitted c item → length (item_line item) ≤ longest_line item }
     ensures nodes_feedless { (c : Counts) → AreInRange c.acceptors c.coordinators c.learners → Lacks is_line_feed (nodes_text c) }
-    ensures nodes_short { (c : Counts) → AreInRange c.acceptors c.coordinators c.learners → length (nodes_text c) ≤ 90 }
+    ensures nodes_short { (c : Counts) → AreInRange c.acceptors c.coordinators c.learners → length (nodes_text c) ≤ 11 }
 {}

@@ -20,15 +20,15 @@ pub enum Reason {
     BadCount,
     /// A key is not 1 to 16 bytes of `a` to `z`, `0` to `9` and `_`.
     BadKey,
-    /// There is no such node, or one of its kind cannot stand here.
+    /// There is no such node, or one of its kind cannot be named here.
     NoNode,
     /// A node of this kind cannot crash so.
     BadFall,
     /// The message is not there yet.
     NoMessage,
-    /// It is the 257th offer.
+    /// It is the 1,025th offer.
     TooManyCommands,
-    /// It is the 8,193rd event.
+    /// It is the 16,385th event.
     TooManyEvents,
 }
 

@@ -10,7 +10,7 @@ use Rattle.std.proofs.lemmas.List.Sums.{sum_by-cons}
 use Rattle.gp_round.specs.Counts.{Counts}
 use Rattle.gp_round.specs.Ranges.{AreInRange}
 use Rattle.gp_msg.specs.declared.event.Event.{Event}
-use Rattle.gp_msg.specs.Messages.{Message, Entry}
+use Rattle.gp_msg.specs.Messages.{Stamped, Entry}
 use Rattle.gp_run.specs.Nodes.{node_of}
 use Rattle.gp_run.specs.Messages.{messages}
 use Rattle.gp_run.specs.Legal.{Legal, sent_by, sent_at}
@@ -20,6 +20,7 @@ use Rattle.gp_words.specs.Lines.{lines_of, text_of}
 use Rattle.gp_words.proofs.LineLemmas.{line_then, line_text}
 use Rattle.gp_script.specs.Spelling.{nodes_text}
 use Rattle.gp_script.proofs.CountsLemmas.{nodes_say, nodes_feedless, nodes_short}
+use Rattle.gp_text.specs.declared.limits.TheConstants.{MOST_OFFERS, MOST_EVENTS, MOST_BYTES}
 use Rattle.gp_text.specs.declared.played.Played.{Played}
 use Rattle.gp_text.specs.declared.played.Unplayed.{Unplayed}
 use Rattle.gp_text.specs.declared.played.Unplayed.TheVariants as unplayed
@@ -37,7 +38,7 @@ use Rattle.gp_text.proofs.SaidLegally.{reading_legal}
 -- ---- events that fit, one behind another
 
 -- a run has no more messages than events
-one_sent : (o : Option Message) → length (option_to_list o) ≤ 1
+one_sent : (o : Option Stamped) → length (option_to_list o) ≤ 1
 one_sent None = omega arith
 one_sent (Some m) = omega arith
 
@@ -54,18 +55,18 @@ AllSaid c sofar [] = Unit {0}
 AllSaid c sofar (e ∷ es) = IsSaid c sofar e × AllSaid c (with_event sofar e) es
 
 all_said : (c : Counts) (sofar : Sofar) (es : List Event) → AreInRange c.acceptors c.coordinators c.learners → AllFit c (run_of c sofar.events) es → All IsOfOperation es
-    → length sofar.events + length es ≤ 8192 → count_by is_offer sofar.events + count_by is_offer es ≤ 256 → AllSaid c sofar es
+    → length sofar.events + length es ≤ MOST_EVENTS → count_by is_offer sofar.events + count_by is_offer es ≤ MOST_OFFERS → AllSaid c sofar es
 all_said c sofar [] range fit drafted few offers = tt
 all_said c sofar (e ∷ es) range fit drafted few offers =
     let head = sum_by-cons (λ y. cond (is_offer y) 1 0) e es in
     let more = count_more is_offer sofar.events e in
     let grown = length-append sofar.events (e ∷ []) in
     let stand = few_messages c [] sofar.events in
-    let few_stand : messages_after c sofar.events ≤ 8192 = omega (arith, stand) in
-    let room : length sofar.events < 8192 = omega arith in
-    let fewer : count_by is_offer sofar.events + cond (is_offer e) 1 0 ≤ 256 = omega (arith, head) in
-    let next_few : length (sofar.events ++ e ∷ []) + length es ≤ 8192 = omega (arith, grown) in
-    let next_offers : count_by is_offer (sofar.events ++ e ∷ []) + count_by is_offer es ≤ 256 = omega (arith, head, more) in
+    let few_stand : messages_after c sofar.events ≤ MOST_EVENTS = omega (arith, stand) in
+    let room : length sofar.events < MOST_EVENTS = omega arith in
+    let fewer : count_by is_offer sofar.events + cond (is_offer e) 1 0 ≤ MOST_OFFERS = omega (arith, head) in
+    let next_few : length (sofar.events ++ e ∷ []) + length es ≤ MOST_EVENTS = omega (arith, grown) in
+    let next_offers : count_by is_offer (sofar.events ++ e ∷ []) + count_by is_offer es ≤ MOST_OFFERS = omega (arith, head, more) in
     let next_fit = subst (λ run. AllFit c run es) (sym (run_more c sofar.events e)) fit.1 in (
       event_said c sofar e range fit.0 (All-head IsOfOperation e es drafted) few_stand room fewer,
       all_said c (with_event sofar e) es range next_fit (All-tail IsOfOperation e es drafted) next_few next_offers,
@@ -80,11 +81,15 @@ says_line : (c : Counts) (sofar : Sofar) (e : Event) → IsSaid c sofar e → af
 unfolding after_line
 says_line c sofar e s = rw (line_text (event_line e) s.feedless, s.stays) s.says
 
-within_limit : (place : ℕ) (line : List ℕ) → place + length line ≤ 1048576 → holds_limit place line ≡ false
-within_limit place line le = rw (le-ltb 1048576 (place + length line) le) (and_right _ _ refl)
+within_limit : (place : ℕ) (line : List ℕ) → place + length line ≤ MOST_BYTES → holds_limit place line ≡ false
+within_limit place line le = rw (le-ltb MOST_BYTES (place + length line) le) (and_right _ _ refl)
 
--- the lines of events that are said, each of at most 91 bytes, say these events
-lines_say : (c : Counts) (n place : ℕ) (sofar : Sofar) (es : List Event) → AllSaid c sofar es → place + 91 * length es ≤ 1048576
+-- with its line feed, a line of these events has at most 34 bytes, and 38 more if it is an offer
+abbrev room_for : List Event → ℕ
+room_for es = 34 * length es + 38 * count_by is_offer es
+
+-- the lines of events that are said, where a script has room for them, say these events
+lines_say : (c : Counts) (n place : ℕ) (sofar : Sofar) (es : List Event) → AllSaid c sofar es → place + room_for es ≤ MOST_BYTES
     → follow c n place sofar (lines_of (lines_text es)) ≡ Whole c (record { events = sofar.events ++ es; shown = sofar.shown })
 lines_say c n place sofar [] said le =
     ap (follow c n place sofar) no_lines ∙ follow_end c n place sofar ∙ ap (λ es. Whole c (record { events = es; shown = sofar.shown })) (sym (append-nil sofar.events))
@@ -92,8 +97,9 @@ lines_say c n place sofar (e ∷ es) said le =
     let line = event_line e ++ 10 ∷ [] in
     let size : length line ≡ length (event_line e) + 1 = length-append (event_line e) (10 ∷ []) in
     let short = said.0.short in
-    let near : place + length line ≤ 1048576 = omega (arith, size, short) in
-    let next : (place + length line) + 91 * length es ≤ 1048576 = omega (arith, size, short) in
+    let head = sum_by-cons (λ y. cond (is_offer y) 1 0) e es in
+    let near : place + length line ≤ MOST_BYTES = omega (arith, size, short, head) in
+    let next : (place + length line) + room_for es ≤ MOST_BYTES = omega (arith, size, short, head) in
     let split : lines_of (lines_text (e ∷ es)) ≡ line ∷ lines_of (lines_text es) = ap lines_of (append_assoc (event_line e) (10 ∷ []) (lines_text es)) ∙ line_then (event_line e) (lines_text es) said.0.feedless in
     ap (follow c n place sofar) split
     ∙ follow_goes c n place sofar (with_event sofar e) line (lines_of (lines_text es)) (within_limit place line near) (says_line c sofar e said.0)
@@ -106,14 +112,14 @@ nodes_said : (c : Counts) → AreInRange c.acceptors c.coordinators c.learners �
 unfolding nodes_line
 nodes_said c range = let s = nodes_say c range in rw (s.of_tokens, s.said) refl
 
-trace_said : (c : Counts) (es : List Event) → AreInRange c.acceptors c.coordinators c.learners → AllSaid c nothing es → length es ≤ 8192 → reading (trace c es) ≡ Whole c (record { events = es; shown = [] })
+trace_said : (c : Counts) (es : List Event) → AreInRange c.acceptors c.coordinators c.learners → AllSaid c nothing es → length es ≤ MOST_EVENTS → count_by is_offer es ≤ MOST_OFFERS → reading (trace c es) ≡ Whole c (record { events = es; shown = [] })
 unfolding trace reading
-trace_said c es range said few =
+trace_said c es range said few offers =
     let line = nodes_text c ++ 10 ∷ [] in
     let size : length line ≡ length (nodes_text c) + 1 = length-append (nodes_text c) (10 ∷ []) in
     let short = nodes_short c range in
-    let near : 0 + length line ≤ 1048576 = omega (arith, size, short) in
-    let next : (0 + length line) + 91 * length es ≤ 1048576 = omega (arith, size, short) in
+    let near : 0 + length line ≤ MOST_BYTES = omega (arith, size, short) in
+    let next : (0 + length line) + room_for es ≤ MOST_BYTES = omega (arith, size, short) in
     let says : nodes_line (text_of line) ≡ Ok c = ap nodes_line (line_text (nodes_text c) (nodes_feedless c range)) ∙ nodes_said c range in
     let passed : is_passed (text_of line) ≡ false = ap is_passed (line_text (nodes_text c) (nodes_feedless c range)) in
     let split : lines_of (line ++ lines_text es) ≡ line ∷ lines_of (lines_text es) = ap lines_of (append_assoc (nodes_text c) (10 ∷ []) (lines_text es)) ∙ line_then (nodes_text c) (lines_text es) (nodes_feedless c range) in
@@ -137,9 +143,9 @@ fitting_read : (c : Counts) (es : List Event) → AreInRange c.acceptors c.coord
 fitting_read c es range fit within =
     let few = within.few in
     let few_offers = within.few_offers in
-    let no_events : 0 + length es ≤ 8192 = omega arith in
-    let no_offers : count_by is_offer [] + count_by is_offer es ≤ 256 = omega arith in
-    trace_said c es range (all_said c nothing es range fit within.operations no_events no_offers) few
+    let no_events : 0 + length es ≤ MOST_EVENTS = omega arith in
+    let no_offers : count_by is_offer [] + count_by is_offer es ≤ MOST_OFFERS = omega arith in
+    trace_said c es range (all_said c nothing es range fit within.operations no_events no_offers) few few_offers
 
 pub trace_read : (c : Counts) (run : List Entry) → AreInRange c.acceptors c.coordinators c.learners → Legal c run → IsWithinScript (events_of run) → reading (trace c (events_of run)) ≡ Whole c (record { events = events_of run; shown = [] })
 trace_read c run range legal within = fitting_read c (events_of run) range (own_events_fit c run legal) within
