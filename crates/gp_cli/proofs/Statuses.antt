@@ -14,7 +14,7 @@ use Rattle.gp_cli.specs.Serving.{Told, Wholly, AtFault, ForMemory, Ends, HoldsSc
 use Rattle.gp_cli.specs.declared.serving.Ran.{Ran}
 use Rattle.gp_cli.proofs.Causes.{read_legal}
 
--- behind a script that is short enough nothing is left
+-- after a script that is short enough nothing is left
 nothing_left : (before now : Option (List ℕ)) (bytes : List ℕ) → ReadsUpTo 1048577 before now bytes → length bytes ≤ 1048576 → IfSome now (λ rest. rest ≡ [])
 nothing_left None now bytes reads short = rw reads tt
 nothing_left (Some rest) now bytes reads short =
@@ -22,7 +22,7 @@ nothing_left (Some rest) now bytes reads short =
     let count = length-take 1048577 rest in
     rw reads.1 (drop_all 1048577 rest (omega (arith, taken, count, short)))
 
--- behind a whole script nothing is left
+-- after a whole script nothing is left
 whole_left : (rest left : Seen) (config : Counts) (said : Sofar) → HasRead rest left (Whole config said) → IfSome left.bytes (λ bytes. bytes ≡ [])
 whole_left rest left config said read = nothing_left rest.bytes left.bytes read.bytes read.taken (script_short read.bytes config said read.says)
 
@@ -93,19 +93,19 @@ read_is before now rest read tells has =
     let taken : (has.bytes ≡ take 1048577 rest) × (now.bytes ≡ Some (drop 1048577 rest)) = subst P tells has.taken in
     ap reading (sym taken.0) ∙ has.says
 
--- one status, or the one for want of memory, where the sink did not fail
+-- one status, or the one for memory that ran out, if the sink did not fail
 one_status : (before now : Seen) (text : List ℕ) (whole at_fault status : ℕ) → ¬ Rose before.faults now.faults → Told before now text whole at_fault status → (status ≡ whole) ⊎ (status ≡ 1)
 one_status before now text whole at_fault status well (Wholly is steady written) = inl is
 one_status before now text whole at_fault status well (AtFault is rose written) = absurd (well rose)
 one_status before now text whole at_fault status well (ForMemory is steady written) = inr is
 
--- the status for want of memory
+-- the status for memory that ran out
 starved_status : (before now : Seen) (text : List ℕ) (status : ℕ) → Told before now text 1 1 status → status ≡ 1
 starved_status before now text status (Wholly is steady written) = is
 starved_status before now text status (AtFault is rose written) = is
 starved_status before now text status (ForMemory is steady written) = is
 
--- a script that is whole is played, where nothing fails
+-- a script that is whole is played, if nothing fails
 pub whole_ends_well : (rest left before now : Seen) (ran : Ran) → Ends (IsReadCause rest left) before now ran → HoldsScript rest.bytes → ¬ Rose rest.faults left.faults → ¬ Rose before.faults now.faults
     → (ran.status ≡ 0) ⊎ (ran.status ≡ 1)
 whole_ends_well rest left before now ran ends holds read_well written_well = at rest.bytes refl holds ends.ending ends.cause ends.told
@@ -119,7 +119,7 @@ whole_ends_well rest left before now ran ends holds read_well written_well = at 
     at (Some bytes) is holds (Plays config said) cause told = one_status before now (text_of (Plays config said)) 0 5 ran.status written_well told
     at (Some bytes) is holds Starved cause told = inr (starved_status before now [] ran.status told)
 
--- the first refused line is told, where the source does not fail
+-- the first refused line is told, if the source does not fail
 pub refusal_ends_well : (rest left before now : Seen) (ran : Ran) → Ends (IsReadCause rest left) before now ran → HoldsBadLine rest.bytes → ¬ Rose rest.faults left.faults → (ran.status ≡ 3) ⊎ (ran.status ≡ 1)
 refusal_ends_well rest left before now ran ends holds read_well = at rest.bytes refl holds ends.ending ends.cause ends.told
   where

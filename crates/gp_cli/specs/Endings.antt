@@ -26,7 +26,7 @@ status_of (Refuses line reason before) = 3
 status_of (Plays config said) = 0
 status_of Starved = 1
 
--- its status where the sink failed
+-- its status if the sink failed
 abbrev pub status_at_fault : Ending → ℕ
 status_at_fault Misused = 2
 status_at_fault Unread = 4
@@ -63,7 +63,7 @@ IsConfigOf (Refuses line reason before) config = IsConfigIn before config
 IsConfigOf (Plays own said) config = config ≡ own
 IsConfigOf Starved config = Unit {0}
 
--- what is seen of a source or a sink: the bytes that are left or were written, where it tells them, and its count of faults
+-- what is seen of a source or a sink: the bytes that are left or were written, if it reveals them, and its number of faults
 pub record Seen : Type 0 where
   pub bytes : Option (List ℕ)
   pub faults : ℕ
@@ -78,7 +78,7 @@ pub record HasRead (before now : Seen) (read : Reading) : Type 0 where
   pub steady : now.faults ≡ before.faults
   pub says : reading bytes ≡ read
 
--- why a run ends so where a script is to be read, by the source before and now
+-- why a run ends so if a script is to be read, by the source before and now
 abbrev pub IsReadCause : Seen → Seen → Ending → Type 0
 IsReadCause before now Misused = ⊥
 IsReadCause before now Unread = Rose before.faults now.faults × LosesUpTo 1048577 before.bytes now.bytes
@@ -90,7 +90,7 @@ IsReadCause before now Starved = (now.faults ≡ before.faults) × LosesUpTo 104
 abbrev pub IsCause : List (List ℕ) → Seen → Seen → Ending → Type 0
 IsCause words before now ending = MatchBool (is_play words) (IsReadCause before now ending) ((ending ≡ Misused) × (now ≡ before))
 
--- why it ends so where the script is at hand, by its reading
+-- why it ends so if the script is at hand, by its reading
 abbrev pub IsScriptCause : Reading → Ending → Type 0
 IsScriptCause read Misused = ⊥
 IsScriptCause read Unread = ⊥

@@ -13,7 +13,7 @@ use Rattle.gp_cli.specs.Endings.{Ending, Seen, HasRead, status_of, status_at_fau
 use Rattle.gp_cli.specs.Texts.{refusal_text}
 use Rattle.gp_cli.specs.declared.serving.Ran.{Ran}
 
--- how a text went out, and with which status: all of it; or a part, since the sink failed; or a part, since memory ran out. Only where the sink failed a fault was counted.
+-- how a text went out, and with which status: all of it; or a part, because the sink failed; or a part, because memory ran out. A fault was counted only if the sink failed.
 pub data Told (before now : Seen) (text : List ℕ) (whole at_fault status : ℕ) : Type 0 where
   Wholly : status ≡ whole → now.faults ≡ before.faults → AppendsWhole before.bytes now.bytes text → Told before now text whole at_fault status
   AtFault : status ≡ at_fault → Rose before.faults now.faults → AppendsPart before.bytes now.bytes text → Told before now text whole at_fault status
@@ -29,12 +29,12 @@ pub record Ends (Cause : Ending → Type 0) (before now : Seen) (ran : Ran) : Ty
   pub agreement : IsInAgreement config (entries_in ran.trail)
   pub told : Told before now (text_of ending) (status_of ending) (status_at_fault ending) ran.status
 
--- the source tells its bytes, and up to one more than a script may have they are a script that is read whole
+-- the source reveals its bytes, and up to one more than a script may have they are a script that is read whole
 abbrev pub HoldsScript : Option (List ℕ) → Type 0
 HoldsScript None = ⊥
 HoldsScript (Some rest) = (config : Counts) × (said : Sofar) × (reading (take 1048577 rest) ≡ Whole config said)
 
--- the source tells its bytes, and up to one more than a script may have a line of them is refused
+-- the source reveals its bytes, and up to one more than a script may have a line of them is refused
 abbrev pub HoldsBadLine : Option (List ℕ) → Type 0
 HoldsBadLine None = ⊥
 HoldsBadLine (Some rest) = (line : ℕ) × (reason : Reason) × (said : Option Script) × (reading (take 1048577 rest) ≡ Refused line reason said)

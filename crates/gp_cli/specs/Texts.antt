@@ -1,4 +1,4 @@
--- What the program prints but for the output of a script.
+-- What the program prints besides the output of a script.
 use Rattle.std.specs.Prelude.{ℕ, Bool, false, List, [], ◌∷◌, ◌++◌, map, codes, decimal, String, string_bytes}
 use Rattle.std.specs.Str.{bytes_eq}
 use Rattle.std.specs.declared.alloc.Global.{Global}
@@ -15,11 +15,11 @@ is_play [] = false
 is_play (word ∷ []) = bytes_eq word (codes "play")
 is_play (word ∷ other ∷ others) = false
 
--- what is printed where the words are no command
+-- what is printed if the words are no command
 abbrev pub usage : List ℕ
 usage = codes "usage: mcgp play | run [LIMIT] | sim SEED COMMANDS | drive A L K | log K\n"
 
--- what is printed where the source failed
+-- what is printed if the source failed
 abbrev pub read_fault : List ℕ
 read_fault = codes "read fault\n"
 

@@ -1,4 +1,4 @@
-//! The top call.
+//! The commands of the program.
 ghost use Rattle.std.specs.Prelude.{◌≡◌, ◌≤◌, ◌⊎◌, [], true, false, IfSome};
 ghost use Rattle.gp_edge.specs.Faults.{Rose};
 ghost use Rattle.gp_round.specs.Counts.{Counts};
@@ -24,11 +24,11 @@ const MOST_BYTES: usize = 1_048_577;
 /// How a run of the program ended.
 #[derive(Drop)]
 pub struct Ran {
-    /// The exit status: 0 where the input was read to its end and all was written, 1 where memory ran
-    /// out, 2 where the words are no command, 3 where a line of the input is refused, 4 where the
-    /// source failed, 5 where the sink failed.
+    /// The exit status: 0 if the input was read to its end and all was written, 1 if memory ran out, 2 if
+    /// the words are no command, 3 if a line of the input is refused, 4 if the source failed, 5 if the
+    /// sink failed.
     pub status: u8,
-    /// The records of the run, the oldest first. There are none where it ended before any event.
+    /// The records of the run, the oldest first. There are none if it ended before any event.
     pub trail: Records,
 }
 
@@ -111,10 +111,10 @@ fn read_and_play<S: Source, K: Sink>(alloc: Global, source: &mut S, sink: &mut K
 /// Runs the command that the words name, reads its input from the source and writes its text to the
 /// sink.
 ///
-/// The one command so far is `play`. It reads a script to its end, or to one byte past the most that a
+/// The only command today is `play`. It reads a script to its end, or to one byte past the most that a
 /// script may have, plays it, and prints what its `show` lines ask for and the report. For other words
-/// the usage is printed, and nothing is read. A fault of the source is found before the script is
-/// looked at, and a refused line before anything is written.
+/// it prints the usage and reads nothing. If a read fails the script is not played. If a line is refused
+/// only the refusal is printed.
 pub fn serve<S: Source, K: Sink>(
     alloc: Global,
     words: &[String],
@@ -145,7 +145,7 @@ pub fn serve<S: Source, K: Sink>(
     ensures unread { result.status ≡ 4 → Rose (S.faults source.old) (S.faults source.new) }
     ensures unwritten { result.status ≡ 5 → Rose (K.faults sink.old) (K.faults sink.new) }
 
-    // A script that is whole is played and one with a bad line is refused, where nothing fails and there is memory.
+    // A whole script is played, and one with a bad line is refused, if nothing fails and there is memory.
     ensures complete { is_play (texts_of words.now) ≡ true → HoldsScript (S.rest source.old) → ¬ Rose (S.faults source.old) (S.faults source.new) → ¬ Rose (K.faults sink.old) (K.faults sink.new)
         → (result.status ≡ 0) ⊎ (result.status ≡ 1) }
     ensures refuses { is_play (texts_of words.now) ≡ true → HoldsBadLine (S.rest source.old) → ¬ Rose (S.faults source.old) (S.faults source.new) → (result.status ≡ 3) ⊎ (result.status ≡ 1) }

@@ -1,4 +1,4 @@
-//! The texts that are printed, and the status that comes with them.
+//! The texts that are printed, and the status that goes with each.
 ghost use Rattle.std.specs.Prelude.{◌≡◌, ◌≤◌, IfOk};
 ghost use Rattle.gp_cli.specs.Texts.{reason_text, refusal_text};
 ghost use Rattle.gp_cli.specs.Endings.{seen};
@@ -11,11 +11,11 @@ use gp_script::Reason;
 use gp_words::push_number;
 use std::alloc::Global;
 
-/// What is printed where the words are no command.
+/// What is printed if the words are no command.
 pub const USAGE: &[u8] =
     b"usage: mcgp play | run [LIMIT] | sim SEED COMMANDS | drive A L K | log K\n";
 
-/// What is printed where the source failed.
+/// What is printed if the source failed.
 pub const READ_FAULT: &[u8] = b"read fault\n";
 
 fn reason_text(reason: Reason) -> &'static [u8]
@@ -36,7 +36,7 @@ fn reason_text(reason: Reason) -> &'static [u8]
     }
 }
 
-/// What is printed where a line, by its number from 1, is the first that is refused.
+/// What is printed if a line, by its number from 1, is the first that is refused.
 pub fn refusal_text(alloc: Global, line: u64, reason: Reason) -> Result<Vec<u8>, NoMemory>
     ensures { IfOk result (λ text. text.items ≡ refusal_text line reason) }
 {
@@ -49,8 +49,8 @@ pub fn refusal_text(alloc: Global, line: u64, reason: Reason) -> Result<Vec<u8>,
     Ok(text)
 }
 
-/// Writes a text, and answers the status: `whole` once all of it was written, `at_fault` where the
-/// sink failed, and the one for want of memory where the sink found none.
+/// Writes a text, and answers the status: `whole` if all of it was written, `at_fault` if the sink failed,
+/// and 1 if the sink found no memory.
 pub fn tell<K: Sink>(sink: &mut K, text: &[u8], whole: u8, at_fault: u8) -> u8
     ensures told { Told (seen (K.written sink.old) (K.faults sink.old)) (seen (K.written sink.new) (K.faults sink.new))
         text.now whole at_fault result }
