@@ -41,7 +41,7 @@ impl Source for CalmSource {
 
     ghost faults = { λ s. 0 };
 
-    /// Fills the piece as far as there are bytes.
+    /// Fills the piece, or moves all bytes that are left if there are fewer.
     fn read(&mut self, into: &mut [u8]) -> Result<usize, Failed>
         ensures count { result ≡ Ok (min (length into.old) (length self.old)) }
         ensures moved { into.new ≡ overlaid (take (length into.old) self.old) into.old }
@@ -51,7 +51,7 @@ impl Source for CalmSource {
     }
 }
 
-/// A sink in memory that never fails, and takes whole pieces. A contract sees what was written.
+/// A sink in memory that never fails and takes whole pieces. A contract sees what was written.
 #[derive(Drop, Debug)]
 pub struct CalmSink {
     bytes: Vec<u8>,
@@ -66,7 +66,7 @@ impl Model for CalmSink {
 }
 
 impl CalmSink {
-    /// A sink to which nothing was written. It takes no memory yet, and is never refused.
+    /// A sink to which nothing was written. It never answers `NoMemory`.
     pub fn new(alloc: Global) -> Result<CalmSink, NoMemory>
         ensures { result ≡ Ok [] }
     {
@@ -88,7 +88,7 @@ impl Sink for CalmSink {
 
     ghost faults = { λ s. 0 };
 
-    /// Appends the whole piece. It is refused only where memory runs out.
+    /// Appends the whole piece, unless memory runs out.
     fn write(&mut self, from: &[u8]) -> Result<usize, Refused>
         ensures whole { IfOk result (λ n. n ≡ length from.now) }
         ensures refused { IfErr result (λ e. e ≡ refused.NoMemory) }

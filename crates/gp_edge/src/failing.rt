@@ -14,7 +14,7 @@ use gp_command::NoMemory;
 use std::alloc::Global;
 use std::marker::Model;
 
-/// A source in memory that fails at the calls it is told, and moves few bytes at a time.
+/// A source in memory of which chosen calls fail. A call moves few bytes.
 ///
 /// A contract sees the bytes that are left, the most bytes that a call moves, and the calls.
 #[derive(Drop, Debug)]
@@ -36,8 +36,8 @@ impl Model for MemSource {
 }
 
 impl MemSource {
-    /// A source with these bytes. One call moves at most `piece` bytes, and the calls whose numbers,
-    /// from 0, stand in `failing` are to fail.
+    /// A source with these bytes. A call moves at most `piece` bytes, and the calls whose numbers, from 0,
+    /// are in `failing` fail.
     pub fn new(
         alloc: Global,
         bytes: &[u8],
@@ -60,8 +60,8 @@ impl Source for MemSource {
 
     ghost faults = { λ s. s.calls.faults };
 
-    /// Gives as many of the next bytes as the piece and one call have room for, or fails, at a call
-    /// that is to fail, and changes no byte.
+    /// Moves as many of the next bytes as the piece and one call have room for. At a call that is to fail
+    /// it fails, and no byte is moved.
     fn read(&mut self, into: &mut [u8]) -> Result<usize, Failed>
         ensures failed { is_err result ≡ is_to_fail self.old.calls }
         ensures count { IfOk result (λ n. n ≡ length (given self.old (length into.old))) }
@@ -78,7 +78,7 @@ impl Source for MemSource {
     }
 }
 
-/// A sink in memory that fails at the calls it is told, and takes few bytes at a time.
+/// A sink in memory of which chosen calls fail. A call takes few bytes.
 ///
 /// A contract sees what was written, the most bytes that a call takes, and the calls.
 #[derive(Drop, Debug)]
@@ -100,8 +100,8 @@ impl Model for MemSink {
 }
 
 impl MemSink {
-    /// A sink to which nothing was written. One call takes at most `piece` bytes, and the calls whose
-    /// numbers, from 0, stand in `failing` are to fail.
+    /// A sink to which nothing was written. A call takes at most `piece` bytes, and the calls whose numbers,
+    /// from 0, are in `failing` fail.
     pub fn new(alloc: Global, piece: usize, failing: &[u64]) -> Result<MemSink, NoMemory>
         requires { 1 ≤ piece }
         ensures { IfOk result (λ sink. sink ≡ sink_of piece failing.now) }
@@ -126,8 +126,8 @@ impl Sink for MemSink {
 
     ghost faults = { λ s. s.calls.faults };
 
-    /// Appends as many of the first bytes as one call takes, or fails, at a call that is to fail. At
-    /// another call it is refused only where memory runs out; such a call is counted too.
+    /// Appends as many of the first bytes as one call takes. At a call that is to fail it fails, and at any
+    /// other it answers `NoMemory` if memory runs out. Both errors append nothing, and both calls count.
     fn write(&mut self, from: &[u8]) -> Result<usize, Refused>
         ensures accepted { OnOk result (is_to_fail self.old.calls ≡ false) }
         ensures refused { IfErr result (λ e. e ≡ refusal self.old) }

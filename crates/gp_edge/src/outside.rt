@@ -1,6 +1,6 @@
-//! A source over any reader and a sink over any writer, as standard input and output. A contract says
-//! that they move what the reader gives and what the writer takes, and no more: whether the reader
-//! gives all that there is is its own.
+//! A source over any reader and a sink over any writer, as standard input and output. Their contracts say
+//! which bytes go to and from the reader or writer. What these do with them is not claimed, and neither
+//! is how often they are called. Tests show that each call is one call of the reader or writer.
 ghost use Rattle.std.specs.Prelude.{◌≡◌, ◌≤◌, length, None, IfOk, IfErr, OnOk, OnErr};
 ghost use Rattle.std.specs.Io.KnownBytes.{ReadConsumes, WriteAppends};
 ghost use Rattle.gp_edge.specs.declared.refusal.Refused.TheVariants as refused;
@@ -12,8 +12,8 @@ use crate::source::Source;
 use std::io::{Read, Write};
 use std::marker::Model;
 
-/// A source over a reader. A contract sees the bytes that the reader has left, where it tells them, and
-/// how often it has failed.
+/// A source over a reader. A contract sees the bytes that the reader has left, if it reveals them, and how
+/// many reads have failed.
 #[derive(Drop, Debug)]
 pub struct ReadSource<R: Read> {
     reader: R,
@@ -29,14 +29,14 @@ impl<R: Read> Model for ReadSource<R> {
 }
 
 impl<R: Read> ReadSource<R> {
-    /// A source that has not failed.
+    /// A source of which no read has failed.
     pub fn new(reader: R) -> ReadSource<R>
         ensures { result ≡ record { bytes = R.remaining reader; faults = 0 } }
     {
         ReadSource { reader, faults: 0 }
     }
 
-    /// How often the reader has failed, up to 2^64 - 1.
+    /// How many reads of this source have failed, up to 2^64 - 1.
     pub fn faults(&self) -> u64
         ensures { result ≡ self.now.faults }
     {
@@ -49,7 +49,7 @@ impl<R: Read> Source for ReadSource<R> {
 
     ghost faults = { λ s. s.faults };
 
-    /// Gives what one read of the reader gives.
+    /// Reads from the reader, and fails if that fails. A test shows that the reader is asked once.
     fn read(&mut self, into: &mut [u8]) -> Result<usize, Failed>
         ensures within { IfOk result (λ n. n ≤ length into.old) }
         ensures bytes { ReadConsumes self.old.bytes self.new.bytes result into.new }
@@ -68,9 +68,8 @@ impl<R: Read> Source for ReadSource<R> {
     }
 }
 
-/// A sink over a writer, which should keep no bytes back, since the sink never flushes it. A contract
-/// sees the bytes that the writer holds, where it tells them, and how often it has failed or taken
-/// nothing.
+/// A sink over a writer. The writer should keep no bytes back, since nothing flushes it. A contract sees
+/// the bytes that the writer holds, if it reveals them, and how many writes have failed or taken nothing.
 #[derive(Drop, Debug)]
 pub struct WriteSink<W: Write> {
     writer: W,
@@ -86,14 +85,15 @@ impl<W: Write> Model for WriteSink<W> {
 }
 
 impl<W: Write> WriteSink<W> {
-    /// A sink that has not failed.
+    /// A sink of which no write has failed.
     pub fn new(writer: W) -> WriteSink<W>
         ensures { result ≡ record { bytes = W.contents writer; faults = 0 } }
     {
         WriteSink { writer, faults: 0 }
     }
 
-    /// How often the writer has failed or taken nothing, up to 2^64 - 1.
+    /// How many writes of this sink have failed, or have taken nothing of a piece that is not empty, up to
+    /// 2^64 - 1.
     pub fn faults(&self) -> u64
         ensures { result ≡ self.now.faults }
     {
@@ -106,7 +106,8 @@ impl<W: Write> Sink for WriteSink<W> {
 
     ghost faults = { λ s. s.faults };
 
-    /// Passes on what one write of the writer takes. It is never refused for want of memory.
+    /// Writes to the writer, and fails if that fails. It never answers `NoMemory`. A test shows that the
+    /// writer is asked once.
     fn write(&mut self, from: &[u8]) -> Result<usize, Refused>
         ensures within { IfOk result (λ n. n ≤ length from.now) }
         ensures bytes { WriteAppends self.old.bytes self.new.bytes result from.now }

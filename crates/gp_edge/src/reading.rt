@@ -7,13 +7,13 @@ use crate::refusal::Refused;
 use crate::source::Source;
 use std::alloc::Global;
 
-/// The most bytes that are asked for at once.
+// The most bytes that are asked for at once.
 const PIECE: usize = 4096;
 
-/// Reads the next bytes to the end of the input, but no more than `limit` of them.
+/// Reads the next bytes up to the end of the input, but no more than `limit` of them.
 ///
-/// It answers `Failed` where a read fails, and `NoMemory` where there is none for the bytes. What was
-/// read before a refusal is lost. Where the limit is 0 nothing is asked for.
+/// It answers `Failed` if a read fails, and may answer `NoMemory`. After either the bytes that were read
+/// are lost. If the limit is 0 the source stays as it was.
 pub fn read_up_to<S: Source>(
     alloc: Global,
     source: &mut S,

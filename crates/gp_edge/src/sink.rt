@@ -7,17 +7,16 @@ use crate::refusal::Refused;
 
 /// A sink of bytes, which are appended to what was written.
 pub trait Sink {
-    /// The bytes that were written, where the sink tells them.
+    /// The bytes that were written, if the sink reveals them.
     ghost written: { Self → Option (List ℕ) };
 
-    /// The count of faults, which never falls. At 2^64 - 1 it need not rise any more.
+    /// The number of faults, which never falls. At 2^64 - 1 it need not rise any more.
     ghost faults: { Self → ℕ };
 
     /// Appends the first bytes of the piece, and answers how many.
     ///
-    /// It fails, or takes nothing of a piece that is not empty, only where the count of faults rises,
-    /// or stands at 2^64 - 1. At every other call the count stays. Where it is refused, nothing was
-    /// written.
+    /// If it fails, or takes nothing of a piece that is not empty, the number of faults rises, unless it
+    /// is 2^64 - 1. After every other call it is unchanged. After an error nothing was written.
     fn write(&mut self, from: &[u8]) -> Result<usize, Refused>
         ensures within { IfOk result (λ n. n ≤ length from.now) }
         ensures next { AppendsFirst (written self.old) (written self.new) from.now result }

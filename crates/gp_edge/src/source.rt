@@ -7,17 +7,17 @@ use crate::refusal::Failed;
 
 /// A source of bytes, which are read from its front.
 pub trait Source {
-    /// The bytes that are left, where the source tells them.
+    /// The bytes that are left, if the source reveals them.
     ghost rest: { Self → Option (List ℕ) };
 
-    /// The count of faults, which never falls. At 2^64 - 1 it need not rise any more.
+    /// The number of faults, which never falls. At 2^64 - 1 it need not rise any more.
     ghost faults: { Self → ℕ };
 
     /// Puts the next bytes at the front of the piece, and answers how many. For a piece that is not
-    /// empty, 0 is the end of the input.
+    /// empty, 0 means the end of the input.
     ///
-    /// It fails only where the count of faults rises, or stands at 2^64 - 1. Then the rest stays. Where
-    /// it does not fail the count stays.
+    /// If it fails the number of faults rises, unless it is 2^64 - 1, and no byte is lost. Otherwise the
+    /// number is unchanged.
     fn read(&mut self, into: &mut [u8]) -> Result<usize, Failed>
         ensures within { IfOk result (λ n. n ≤ length into.old) }
         ensures next { GivesNext (rest self.old) (rest self.new) (length into.old) into.new result }

@@ -6,9 +6,10 @@ ghost use Rattle.gp_edge.specs.Writes.{AppendsWhole, AppendsPart};
 use crate::refusal::Refused;
 use crate::sink::Sink;
 
-/// Writes the text in as many calls as it takes, and in none where it is empty.
+/// Writes the whole text. If it is empty the sink stays as it was.
 ///
-/// It answers `Failed` where a call fails or takes nothing, and `NoMemory` where the sink found none.
+/// It answers `Failed` if a write fails or takes nothing, and `NoMemory` if the sink answers so. After
+/// either a part of the text was written.
 pub fn write_whole<K: Sink>(sink: &mut K, text: &[u8]) -> Result<(), Refused>
     ensures whole { OnOk result (AppendsWhole (K.written sink.old) (K.written sink.new) text.now) }
     ensures refused { OnErr result (AppendsPart (K.written sink.old) (K.written sink.new) text.now) }

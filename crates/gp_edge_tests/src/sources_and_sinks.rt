@@ -46,6 +46,38 @@ impl Write for Hesitant {
     }
 }
 
+// A reader and writer that moves nothing at its first call, and then a byte a call.
+#[derive(Drop)]
+struct Slow {
+    has_begun: bool,
+}
+
+impl Read for Slow {
+    fn read(&mut self, buf: &mut [u8]) -> io::Result<usize> {
+        let has_begun = self.has_begun;
+        self.has_begun = true;
+        match buf.first_mut() {
+            Some(byte) if has_begun => {
+                *byte = b'x';
+                Ok(1)
+            }
+            _ => Ok(0),
+        }
+    }
+}
+
+impl Write for Slow {
+    fn write(&mut self, buf: &[u8]) -> io::Result<usize> {
+        let most = if self.has_begun { 1 } else { 0 };
+        self.has_begun = true;
+        Ok(buf.len().min(most))
+    }
+
+    fn flush(&mut self) -> io::Result<()> {
+        Ok(())
+    }
+}
+
 // Whether a read into three bytes answers so, and then these bytes stand there.
 fn reads<S: Source>(source: &mut S, answer: Result<usize, Failed>, bytes: &[u8; 3]) -> bool {
     let mut piece = *b"---";
@@ -120,6 +152,27 @@ fn a_failed_write_is_not_tried_again(rt: HostRuntime) -> Result<(), Fail> {
     assert!(rt; sink.write(b"ab") == Err(Refused::Failed));
     assert!(rt; sink.faults() == 1);
     assert!(rt; sink.write(b"ab") == Ok(2));
+    assert!(rt; sink.faults() == 1);
+    Ok(())
+}
+
+#[test]
+fn a_read_asks_the_reader_once(rt: HostRuntime) -> Result<(), Fail> {
+    let mut source = ReadSource::new(Slow { has_begun: false });
+    assert!(rt; reads(&mut source, Ok(0), b"---"));
+    assert!(rt; reads(&mut source, Ok(1), b"x--"));
+    assert!(rt; reads(&mut source, Ok(1), b"x--"));
+    assert!(rt; source.faults() == 0);
+    Ok(())
+}
+
+#[test]
+fn a_write_asks_the_writer_once(rt: HostRuntime) -> Result<(), Fail> {
+    let mut sink = WriteSink::new(Slow { has_begun: false });
+    assert!(rt; sink.write(b"ab") == Ok(0));
+    assert!(rt; sink.faults() == 1);
+    assert!(rt; sink.write(b"ab") == Ok(1));
+    assert!(rt; sink.write(b"ab") == Ok(1));
     assert!(rt; sink.faults() == 1);
     Ok(())
 }
