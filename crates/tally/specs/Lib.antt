@@ -1,0 +1,3 @@
+pub mod Uses
+pub mod Rules
+pub mod Commuting

@@ -1,0 +1,55 @@
+//! A machine of one's own: a tally that clients raise and reset, run by replicas of one history.
+#![tactic(auto)]
+
+mod identities;
+mod tally;
+
+use crate::identities::has_distinct_ids;
+use crate::tally::{tally_of, touch};
+use gp_command::{Access, Command, CommandId, Draft, NoMemory};
+use gp_history::Hist;
+use gp_index::History;
+use std::alloc::Global;
+use std::io::{self, ErrorKind};
+
+// What clients do: who, which of the client's commands, and how it works on the tally.
+type Row = (u32, u32, Access);
+
+// Two clients raise the tally, one reads it, the other resets it, and the first raises it again.
+const COMMANDS: [Row; 5] = [
+    (0, 1, Access::Add),
+    (1, 1, Access::Add),
+    (0, 2, Access::Read),
+    (1, 2, Access::Write),
+    (0, 3, Access::Add),
+];
+
+fn history(alloc: Global, rows: &[Row]) -> Result<History, NoMemory> {
+    let mut learned = History::empty(alloc)?;
+    for (proposer, number, access) in rows.iter().copied() {
+        let Ok(draft) = Draft::new(alloc, &[touch(access)], b"") else {
+            return Err(NoMemory);
+        };
+        learned.push(Command::new(CommandId { proposer, number }, draft))?;
+    }
+    Ok(learned)
+}
+
+fn main(rt: HostRuntime) -> io::Result<()> {
+    // one history in two sequences, since two additions do not conflict
+    let mut otherwise = COMMANDS;
+    otherwise.swap(0, 1);
+    for rows in [COMMANDS, otherwise] {
+        let Ok(learned) = history(rt.alloc(), &rows) else {
+            return Err(io::Error::from(ErrorKind::OutOfMemory));
+        };
+        if !has_distinct_ids(&learned) {
+            return Err(io::Error::from(ErrorKind::InvalidData));
+        }
+        match tally_of(rt.alloc(), &learned) {
+            Ok(tally) => println!(rt; "{} commands, count {}", learned.len(), tally.count)?,
+            Err(NoMemory) => return Err(io::Error::from(ErrorKind::OutOfMemory)),
+        }
+    }
+    Ok(())
+}
