@@ -1,4 +1,4 @@
-//! `mcgp` once more, to run it on a script with a line that is refused.
+//! `mcgp` once more, to run it on a script that is played to its end.
 #![tactic(auto)]
 
 use gp_cli::{Ended, run_program};
