@@ -1,18 +1,17 @@
 -- Commands that do not conflict commute on the tally.
 use Rattle.std.proofs.Common.{◌≡◌, Bool, true, false, not, ◌&&◌, ◌||◌, List, [], ◌∷◌, Option, Some, None, refl, sym, ap, ◌∙◌, cond}
-use Rattle.std.specs.Prelude.{ℕ, codes, bytes_eq}
+use Rattle.std.specs.Prelude.{codes, bytes_eq}
 use Rattle.std.specs.Cmp.{eq_by_cmp_equiv}
 use Rattle.std.specs.List.{list_any}
 use Rattle.std.specs.Ordering.{eq_by_cmp}
-use Rattle.std.proofs.lemmas.Bool.{true≢false}
 use Rattle.std.proofs.lemmas.Slice.Eq.{bytes_eq-Decides}
 use Rattle.gp_command.specs.declared.command.Command.{Command}
 use Rattle.gp_command.specs.declared.touch.Access.{Access}
-use Rattle.gp_command.specs.declared.touch.Access.TheVariants.{Read, Add, Write}
+use Rattle.gp_command.specs.declared.touch.Access.TheVariants.{Read, Add}
 use Rattle.gp_command.specs.declared.touch.Touch.{Touch}
 use Rattle.gp_command.specs.Conflict.{same, conflict, is_clash, touches_clash}
 use Rattle.gp_command.specs.Key.{key_cmp, key_cmp_total}
-use Rattle.gp_replica.specs.Machines.{Commute, AreIndependent, state_after}
+use Rattle.gp_replica.specs.Machines.{AreIndependent, state_after}
 use Rattle.tally.specs.declared.tally.Tally.{Tally}
 use Rattle.tally.specs.Uses.{use_in}
 use Rattle.tally.specs.Rules.{after_use, reply_to_use, tally_rules}
