@@ -36,6 +36,7 @@ fn unknown_words_print_the_usage(rt: HostRuntime) -> Result<(), Fail> {
     assert!(rt; are_refused(alloc, &["play", "now"])?);
     assert!(rt; are_refused(alloc, &["log", "12"])?);
     assert!(rt; are_refused(alloc, &["Play"])?);
+    assert!(rt; are_refused(alloc, &["--help"])?);
     Ok(())
 }
 
