@@ -1,7 +1,7 @@
 //! What an acceptor keeps, and what it does.
 ghost use Rattle.std.specs.Prelude.{◌≡◌, ◌<◌, ◌^◌, ◌-◌, IfOk, OnOk, OnErr, map};
 ghost use Rattle.std.specs.Option.{option_to_list};
-ghost use Rattle.gp_msg.specs.Messages.{message_of, part_of, epoch_of};
+ghost use Rattle.gp_msg.specs.Messages.{message_of, part_of, closed_by};
 ghost use Rattle.gp_acceptor.specs.Epochs.{opening, durable, take, fall, entered};
 
 use crate::part::Part;
@@ -80,7 +80,7 @@ impl Acceptor {
     /// not have. After a Final that is not of an earlier epoch it is in the epoch after that one, in round
     /// zero: its votes are forgotten, and nothing is held.
     pub fn take(&mut self, m: &Msg) -> Result<Outs, NoMemory>
-        requires { epoch_of (message_of m.now) < 2 ^ 32 - 1 }
+        requires { closed_by (message_of m.now) < 2 ^ 32 - 1 }
         ensures next { OnOk result (self.new ≡ (take self.old (message_of m.now)).0) }
         ensures sent { IfOk result (λ outs. map message_of outs ≡ option_to_list (take self.old (message_of m.now)).1) }
         ensures unchanged { OnErr result (self.new ≡ self.old) }

@@ -3,7 +3,7 @@ ghost use Rattle.std.specs.Prelude.{◌≡◌, ◌<◌, ◌^◌, ◌-◌, IfOk, 
 ghost use Rattle.std.specs.Option.{option_to_list};
 ghost use Rattle.gp_history.specs.Sequence.{history_of};
 ghost use Rattle.gp_round.specs.Configs.{is_owner};
-ghost use Rattle.gp_msg.specs.Messages.{message_of, part_of, epoch_of};
+ghost use Rattle.gp_msg.specs.Messages.{message_of, part_of, closed_by};
 ghost use Rattle.gp_coordinator.specs.Epochs.{opening, begin, take, fall, durable, settled};
 
 use crate::part::Part;
@@ -93,7 +93,7 @@ impl Coordinator {
     /// earlier epoch, the coordinator enters the epoch after it, in round zero, and keeps what else is
     /// pending. If memory runs out, nothing changes.
     pub fn take(&mut self, m: &Msg) -> Result<Outs, NoMemory>
-        requires { epoch_of (message_of m.now) < 2 ^ 32 - 1 }
+        requires { closed_by (message_of m.now) < 2 ^ 32 - 1 }
         ensures next { OnOk result (self.new ≡ (take self.old (message_of m.now)).0) }
         ensures sent { IfOk result (λ outs. map message_of outs ≡ option_to_list (take self.old (message_of m.now)).1) }
         ensures unchanged { OnErr result (self.new ≡ self.old) }

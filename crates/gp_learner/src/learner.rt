@@ -3,10 +3,10 @@ ghost use Rattle.std.specs.Prelude.{◌≡◌, ◌<◌, ◌^◌, ◌-◌, ◌∷
 ghost use Rattle.std.specs.Option.{option_to_list};
 ghost use Rattle.gp_history.specs.Sequence.{history_of};
 ghost use Rattle.gp_epoch.specs.Cut.{cut};
-ghost use Rattle.gp_msg.specs.Messages.{message_of, epoch_of, Voted, Final};
+ghost use Rattle.gp_msg.specs.Messages.{message_of, Voted, Final};
 ghost use Rattle.gp_learner.specs.Table as table;
 ghost use Rattle.gp_learner.specs.Table.{learner_take};
-ghost use Rattle.gp_learner.specs.Epochs.{LearnerInEpoch, opening, take, hearing, passed, fall};
+ghost use Rattle.gp_learner.specs.Epochs.{LearnerInEpoch, opening, take, hearing, passed, fall, CanTake};
 
 use crate::part::Part;
 use gp_bounds::join;
@@ -82,7 +82,7 @@ impl Learner {
     /// learned. A Final that it takes is joined in the same way, and sends nothing. After either the learner
     /// is in the next epoch, and holds no vote.
     pub fn take(&mut self, m: &Msg) -> Result<Outs, NoMemory>
-        requires { epoch_of (message_of m.now) < 2 ^ 32 - 1 }
+        requires { CanTake self.old (message_of m.now) }
         ensures next { OnOk result (self.new ≡ (take self.old (message_of m.now)).0) }
         ensures sent { IfOk result (λ outs. map message_of outs ≡ option_to_list (take self.old (message_of m.now)).1) }
         ensures unchanged { OnErr result (self.new ≡ self.old) }

@@ -27,7 +27,7 @@ pub fn new_all(alloc: Global, config: &Config) -> Result<Vec<Acceptor>, NoMemory
 }
 
 /// An acceptor takes a message. If memory runs out, nothing changes.
-#[tactic(auto, using(crate::proofs::Changing::changed_at, crate::proofs::Changing::sent_from))]
+#[tactic(auto, using(crate::proofs::Changing::changed_at, crate::proofs::Changing::sent_from, crate::proofs::Rooms::closes_no_last))]
 pub fn take(acceptors: &mut [Acceptor], a: u32, m: &Msg) -> Result<Outs, NoMemory>
     requires there { a < length acceptors.old }
     requires room { epoch_of (message_of m.now) < 2 ^ 32 - 1 }
@@ -60,6 +60,7 @@ pub fn fall(
 }
 
 // The durable part after a fall: that of the acceptor, or that after the step which the fall keeps.
+#[tactic(auto, using(crate::proofs::Rooms::closes_no_last))]
 fn durable_left(
     acceptor: &Acceptor,
     kept: Option<Kept>,

@@ -40,7 +40,7 @@ pub fn begin(coordinators: &mut [Coordinator], c: u32, round: Round) -> Result<O
 }
 
 /// A coordinator takes a message. If memory runs out, nothing changes.
-#[tactic(auto, using(crate::proofs::Changing::changed_at, crate::proofs::Changing::sent_from))]
+#[tactic(auto, using(crate::proofs::Changing::changed_at, crate::proofs::Changing::sent_from, crate::proofs::Rooms::closes_no_last))]
 pub fn take(coordinators: &mut [Coordinator], c: u32, m: &Msg) -> Result<Outs, NoMemory>
     requires there { c < length coordinators.old }
     requires room { epoch_of (message_of m.now) < 2 ^ 32 - 1 }
@@ -108,7 +108,7 @@ fn fall_one(
 }
 
 // A coordinator falls after it has taken a message.
-#[tactic(auto, using(crate::proofs::Falling::falls_after))]
+#[tactic(auto, using(crate::proofs::Falling::falls_after, crate::proofs::Rooms::closes_no_last))]
 fn fall_after(coordinator: &mut Coordinator, m: &Msg) -> Result<(), NoMemory>
     requires { epoch_of (message_of m.now) < 2 ^ 32 - 1 }
     ensures next { OnOk result (coordinator.new

@@ -28,7 +28,7 @@ pub fn new_all(alloc: Global, config: &Config) -> Result<Vec<Learner>, NoMemory>
 }
 
 /// A learner takes a message. If memory runs out, nothing changes.
-#[tactic(auto, using(crate::proofs::Changing::changed_at, crate::proofs::Changing::sent_from))]
+#[tactic(auto, using(crate::proofs::Changing::changed_at, crate::proofs::Changing::sent_from, crate::proofs::Rooms::learner_can_take))]
 pub fn take(learners: &mut [Learner], l: u32, m: &Msg) -> Result<Outs, NoMemory>
     requires there { l < length learners.old }
     requires room { epoch_of (message_of m.now) < 2 ^ 32 - 1 }
