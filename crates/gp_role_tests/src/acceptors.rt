@@ -2,7 +2,7 @@
 use crate::acceptors::Step::{Crashes, IsCopied, Keeps, Takes};
 use crate::scene::Text::{self, Final, Nothing, P1a, P1b, P2a, P2b, Propose};
 use crate::scene::{
-    FAST_1, MULTI_1, MULTI_2, SINGLE_1, SINGLE_2, UNOWNED, ZERO, epoch_of, history, is_sent,
+    FAST_1, MULTI_1, MULTI_2, SINGLE_1, SINGLE_2, UNOWNED, ZERO, closed_by, history, is_sent,
     message, three,
 };
 use gp_acceptor::Acceptor;
@@ -107,7 +107,7 @@ static IN_A_COPY: [Step; 3] = [
     Takes(0, P2a(MULTI_1, 1, "a"), P2b(MULTI_1, 1, "a")),
 ];
 
-static IN_EPOCHS: [Step; 22] = [
+static IN_EPOCHS: [Step; 25] = [
     Takes(0, P1a(SINGLE_1), P1b(SINGLE_1, 1, ZERO, "")),
     Takes(0, P2a(SINGLE_1, 0, "a1"), P2b(SINGLE_1, 1, "a1")),
     // messages of a later epoch change nothing
@@ -136,6 +136,10 @@ static IN_EPOCHS: [Step; 22] = [
     Takes(5, Propose(b'Y'), Nothing),
     Takes(1, P1a(MULTI_2), Nothing),
     Takes(5, P1a(SINGLE_1), P1b(SINGLE_1, 1, ZERO, "")),
+    // the greatest epoch is one like the others
+    Takes(u32::MAX, P1a(SINGLE_2), Nothing),
+    Takes(u32::MAX - 1, Final(9, "c2"), Nothing),
+    Takes(u32::MAX, P1a(SINGLE_1), P1b(SINGLE_1, 1, ZERO, "")),
 ];
 
 static HELD_IN_EPOCHS: [Step; 10] = [
@@ -162,7 +166,7 @@ fn takes(
     want: Text,
 ) -> Result<(), Fail> {
     if let Some(m) = message(alloc, epoch, text)? {
-        assert!(rt; epoch_of(&m) < u32::MAX);
+        assert!(rt; closed_by(&m) < u32::MAX);
         let outs = acceptor.take(&m)?;
         assert!(rt;
             is_sent(alloc, &outs, epoch, want)?,

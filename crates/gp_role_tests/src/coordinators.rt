@@ -2,7 +2,7 @@
 use crate::coordinators::Step::{Crashes, IsCopied, Keeps, Takes};
 use crate::scene::Text::{self, Final, Nothing, P1a, P1b, P2a, P2b, Propose};
 use crate::scene::{
-    FAST_1, MULTI_1, MULTI_2, SINGLE_1, SINGLE_2, ZERO, epoch_of, is_sent, message, three,
+    FAST_1, MULTI_1, MULTI_2, SINGLE_1, SINGLE_2, ZERO, closed_by, is_sent, message, three,
 };
 use gp_coordinator::Coordinator;
 use gp_msg::Durable;
@@ -133,7 +133,7 @@ static OVER_A_FINAL: [Step; 18] = [
     Takes(1, Propose(b'd'), P2a(MULTI_1, 0, "bcd")),
 ];
 
-static OVER_FINALS: [Step; 22] = [
+static OVER_FINALS: [Step; 25] = [
     Takes(0, Propose(b'b'), Nothing),
     Takes(0, Propose(b'c'), Nothing),
     Takes(0, Final(0, "a1"), Nothing),
@@ -159,6 +159,10 @@ static OVER_FINALS: [Step; 22] = [
     Takes(6, P1a(MULTI_1), Nothing),
     Takes(6, P1b(MULTI_1, 0, ZERO, ""), Nothing),
     Takes(6, P1b(MULTI_1, 1, ZERO, ""), P2a(MULTI_1, 0, "b")),
+    // the greatest epoch is one like the others
+    Takes(u32::MAX, P1a(MULTI_2), Nothing),
+    Takes(u32::MAX - 1, Final(9, "b3"), Nothing),
+    Keeps(u32::MAX, ZERO),
 ];
 
 static DONE_OVER_A_CRASH: [Step; 11] = [
@@ -185,7 +189,7 @@ fn takes(
     want: Text,
 ) -> Result<(), Fail> {
     if let Some(m) = message(alloc, epoch, text)? {
-        assert!(rt; epoch_of(&m) < u32::MAX);
+        assert!(rt; closed_by(&m) < u32::MAX);
         let outs = coordinator.take(&m)?;
         assert!(rt;
             is_sent(alloc, &outs, epoch, want)?,

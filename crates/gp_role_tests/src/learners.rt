@@ -190,3 +190,19 @@ fn a_learned_checkpoint_closes_the_epoch(rt: HostRuntime) -> Result<(), Fail> {
 fn a_final_closes_the_epoch(rt: HostRuntime) -> Result<(), Fail> {
     plays(&rt, rt.alloc(), &OVER_FINALS)
 }
+
+// A Final of the greatest epoch is one of another epoch.
+fn passes_over_the_last_epoch(rt: &impl Abort, alloc: Global) -> Result<(), Fail> {
+    let mut learner = Learner::new(alloc, &three()?, 1)?;
+    if let Some(last) = message(alloc, u32::MAX, Final(0, "a1"))? {
+        let outs = learner.take(&last)?;
+        assert!(rt; outs.as_slice().is_empty());
+        assert!(rt; learner.learned().len() == 0);
+    }
+    Ok(())
+}
+
+#[test]
+fn a_final_of_the_greatest_epoch_is_of_another(rt: HostRuntime) -> Result<(), Fail> {
+    passes_over_the_last_epoch(&rt, rt.alloc())
+}

@@ -5,7 +5,7 @@
 //! digit is a checkpoint, which conflicts with every other command. A word stands for the history in
 //! which its letters were pushed in their order.
 ghost use Rattle.std.specs.Prelude.{◌≡◌};
-ghost use Rattle.gp_msg.specs.Messages.{message_of, epoch_of};
+ghost use Rattle.gp_msg.specs.Messages.{message_of, epoch_of, closed_by};
 
 use gp_command::{Access, Command, CommandId, Draft, Key, Touch};
 use gp_history::Hist;
@@ -160,6 +160,16 @@ pub fn epoch_of(m: &Msg) -> u32
         | Msg::P2a { epoch, .. }
         | Msg::P2b { epoch, .. }
         | Msg::Final { epoch, .. } => *epoch,
+    }
+}
+
+/// The epoch that a message closes, 0 of one that closes none.
+pub fn closed_by(m: &Msg) -> u32
+    ensures { result ≡ closed_by (message_of m.now) }
+{
+    match m {
+        Msg::Final { epoch, .. } => *epoch,
+        _ => 0,
     }
 }
 
