@@ -1,8 +1,15 @@
-//! Sources and sinks of bytes: in memory, and over readers and writers; and whole reads and writes.
+//! The traits of the outside: sources, sinks and disks, in memory and over readers, writers and files;
+//! gates; and whole reads and writes.
 #![tactic(auto)]
 
+mod call;
 mod calm;
+mod disk;
+mod disks;
 mod failing;
+mod file_disk;
+mod gate;
+mod medium;
 mod outside;
 mod reading;
 mod refusal;
@@ -12,8 +19,13 @@ mod source;
 mod unread;
 mod writing;
 
+pub use call::{Call, Piece};
 pub use calm::{CalmSink, CalmSource};
+pub use disk::Disk;
+pub use disks::{CalmDisk, MemDisk};
 pub use failing::{MemSink, MemSource};
+pub use file_disk::FileDisk;
+pub use gate::{Gate, Idle};
 pub use outside::{ReadSource, WriteSink};
 pub use reading::read_up_to;
 pub use refusal::{Failed, Refused};

@@ -1,0 +1,77 @@
+//! Where bytes are kept.
+ghost use Rattle.std.specs.Prelude.{ℕ, ◌≡◌, ◌≤◌, List, length, take, Option, Some, IfOk, OnOk};
+ghost use Rattle.gp_edge.specs.Disks.{IfRevealed, RevealsAlike, IfBothRevealed, put, ReadsAt, Torn, Shortened, Follows, NoMore, Only, Elapses, Counts};
+
+use crate::refusal::Refused;
+
+/// A disk: a place for bytes that may be lost in a crash until they are synced.
+///
+/// Between two syncs each range that was written, and what lies past the old end, may hold any bytes
+/// after a crash, and the bytes outside stay. After a write that was refused the same holds.
+pub trait Disk: Drop {
+    /// What reads give, where the disk tells it.
+    ghost content: { Self → Option (List ℕ) };
+
+    /// What a crash now may leave.
+    ghost image: { Self → List ℕ → Type 0 };
+
+    /// The moment, as a number that does not fall.
+    ghost moment: { Self → ℕ };
+
+    /// What a crash at some moment from that one on might have left.
+    ghost since: { Self → ℕ → List ℕ → Type 0 };
+
+    /// The count of faults, which never falls. At 2^64 - 1 it need not rise any more.
+    ghost faults: { Self → ℕ };
+
+    /// How many bytes there are.
+    fn len(&mut self) -> Result<u64, Refused>
+        ensures len { IfOk result (λ n. IfRevealed (content self.old) (λ s. n ≡ length s)) }
+        ensures content { content self.new ≡ content self.old }
+        ensures crash { NoMore (image self.old) (image self.new) }
+        ensures time { Elapses (moment self.old) (moment self.new) (since self.old) (since self.new) (image self.new) }
+        ensures count { Counts (faults self.old) (faults self.new) result };
+
+    /// Puts the bytes from the place `at` on at the front of the piece, and answers how many: fewer
+    /// than the piece has room for exactly at the end.
+    fn read_at(&mut self, at: u64, into: &mut [u8]) -> Result<usize, Refused>
+        ensures within { IfOk result (λ n. n ≤ length into.old) }
+        ensures bytes { IfOk result (λ n. IfRevealed (content self.old) (λ s. ReadsAt s at n into.old into.new)) }
+        ensures content { content self.new ≡ content self.old }
+        ensures crash { NoMore (image self.old) (image self.new) }
+        ensures time { Elapses (moment self.old) (moment self.new) (since self.old) (since self.new) (image self.new) }
+        ensures count { Counts (faults self.old) (faults self.new) result };
+
+    /// Writes the bytes from the place `at` on. Where the end lies before it the bytes between are zero.
+    fn write_at(&mut self, at: u64, from: &[u8]) -> Result<(), Refused>
+        ensures written { OnOk result (IfBothRevealed (λ s t. t ≡ put at from.now s) (content self.old) (content self.new)) }
+        ensures reveals { RevealsAlike (content self.old) (content self.new) }
+        ensures crash { Follows (Torn at (length from.now)) (image self.old) (image self.new) }
+        ensures time { Elapses (moment self.old) (moment self.new) (since self.old) (since self.new) (image self.new) }
+        ensures count { Counts (faults self.old) (faults self.new) result };
+
+    /// Leaves the first `len` bytes, and all of them where there are no more.
+    fn cut(&mut self, len: u64) -> Result<(), Refused>
+        ensures cut { OnOk result (IfBothRevealed (λ s t. t ≡ take len s) (content self.old) (content self.new)) }
+        ensures reveals { RevealsAlike (content self.old) (content self.new) }
+        ensures crash { Follows (Shortened len) (image self.old) (image self.new) }
+        ensures time { Elapses (moment self.old) (moment self.new) (since self.old) (since self.new) (image self.new) }
+        ensures count { Counts (faults self.old) (faults self.new) result };
+
+    /// After it, a crash leaves what reads give.
+    fn sync(&mut self) -> Result<(), Refused>
+        ensures durable { OnOk result (IfRevealed (content self.old) (λ s. Only s (image self.new))) }
+        ensures content { content self.new ≡ content self.old }
+        ensures crash { NoMore (image self.old) (image self.new) }
+        ensures time { Elapses (moment self.old) (moment self.new) (since self.old) (since self.new) (image self.new) }
+        ensures count { Counts (faults self.old) (faults self.new) result };
+
+    /// What a crash may leave now is among what it might have left since an earlier moment.
+    ghost counts_now: { (d : Self) (t : ℕ) (c : List ℕ) → t ≤ moment d → image d c → since d t c };
+
+    /// Since this moment there is no other.
+    ghost only_now: { (d : Self) (c : List ℕ) → since d (moment d) c → image d c };
+
+    /// What reads give, a crash may leave.
+    ghost shows: { (d : Self) (s : List ℕ) → content d ≡ Some s → image d s };
+}

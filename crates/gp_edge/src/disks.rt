@@ -1,0 +1,251 @@
+//! Disks in memory: one that never fails, and one of which chosen calls fail.
+ghost use Rattle.std.specs.Prelude.{◌≡◌, ◌≤◌, ◌-◌, true, false, IfOk, IfErr, OnOk, OnErr, Ok, Some, length, min};
+ghost use Rattle.gp_edge.specs.declared.call.Call.TheVariants as call;
+ghost use Rattle.gp_edge.specs.declared.refusal.Refused.TheVariants as refused;
+ghost use Rattle.gp_edge.specs.Calls.{is_to_fail};
+ghost use Rattle.gp_edge.specs.DiskLaws.{now_counts, now_only, shows_it};
+ghost use Rattle.gp_edge.specs.Disks.{ReadsAt, NoMore, Counts};
+ghost use Rattle.gp_edge.specs.Records.{content_of, Images, IsImage, LeftSince, GoesOn, noted, disk_with, mem_disk_of, asked, asked_with, disk_refusal};
+
+use crate::disk::Disk;
+use crate::medium::Medium;
+use crate::refusal::Refused;
+use crate::schedule::Schedule;
+use gp_command::NoMemory;
+use std::alloc::Global;
+use std::marker::Model;
+
+/// A disk in memory that never fails; a call is refused only if memory runs out.
+///
+/// A contract sees the bytes that it was made with and the record of all calls since that changed
+/// what it holds or what a crash may leave. What a crash at any moment may leave follows from these.
+#[derive(Drop, Debug)]
+pub struct CalmDisk {
+    medium: Medium,
+}
+
+impl Model for CalmDisk {
+    ghost use Rattle.gp_edge.specs.Records.{DiskRecord};
+
+    ghost Value = { DiskRecord };
+
+    ghost view = { λ d. d.medium };
+}
+
+impl CalmDisk {
+    /// A disk with these bytes, all of them synced.
+    pub fn new(alloc: Global, bytes: &[u8]) -> Result<CalmDisk, NoMemory>
+        ensures { IfOk result (λ disk. disk ≡ disk_with bytes.now) }
+    {
+        Ok(CalmDisk {
+            medium: Medium::new(alloc, bytes)?,
+        })
+    }
+
+    /// What reads give. It takes no memory.
+    pub fn content(&self) -> &[u8]
+        ensures { result.now ≡ content_of self.now }
+    {
+        self.medium.content()
+    }
+}
+
+impl Disk for CalmDisk {
+    ghost content = { λ d. Some (content_of d) };
+
+    ghost image = { λ d c. IsImage d.opening d.calls c };
+
+    ghost moment = { λ d. length d.calls };
+
+    ghost since = { λ d t c. LeftSince d.opening d.calls t c };
+
+    ghost faults = { λ d. 0 };
+
+    ghost counts_now = { λ d t c le now. now_counts d.opening d.calls t c le now };
+
+    ghost only_now = { λ d c left. now_only d.opening d.calls c left };
+
+    ghost shows = { λ d s e. shows_it d.opening s d.calls e };
+
+    /// It always answers.
+    fn len(&mut self) -> Result<u64, Refused>
+        ensures len { result ≡ Ok (length (content_of self.old)) }
+        ensures unchanged { self.new ≡ self.old }
+    {
+        Ok(self.medium.len())
+    }
+
+    /// It always answers.
+    fn read_at(&mut self, at: u64, into: &mut [u8]) -> Result<usize, Refused>
+        ensures count { result ≡ Ok (min (length into.old) (length (content_of self.old) - at)) }
+        ensures bytes { IfOk result (λ n. ReadsAt (content_of self.old) at n into.old into.new) }
+        ensures unchanged { self.new ≡ self.old }
+    {
+        Ok(self.medium.read_at(at, into))
+    }
+
+    /// It writes all bytes, or nothing if memory runs out.
+    fn write_at(&mut self, at: u64, from: &[u8]) -> Result<(), Refused>
+        ensures written { OnOk result (self.new ≡ noted (call.Write at from.now) self.old) }
+        ensures refused { IfErr result (λ e. e ≡ refused.NoMemory) }
+        ensures unchanged { OnErr result (self.new ≡ self.old) }
+        ensures time { GoesOn self.old self.new }
+    {
+        Ok(self.medium.write_at(at, from)?)
+    }
+
+    /// It cuts, or changes nothing if memory runs out.
+    fn cut(&mut self, len: u64) -> Result<(), Refused>
+        ensures cut { OnOk result (self.new ≡ noted (call.Cut len) self.old) }
+        ensures refused { IfErr result (λ e. e ≡ refused.NoMemory) }
+        ensures unchanged { OnErr result (self.new ≡ self.old) }
+        ensures time { GoesOn self.old self.new }
+    {
+        Ok(self.medium.cut(len)?)
+    }
+
+    /// It syncs, or changes nothing if memory runs out.
+    fn sync(&mut self) -> Result<(), Refused>
+        ensures synced { OnOk result (self.new ≡ noted call.Sync self.old) }
+        ensures refused { IfErr result (λ e. e ≡ refused.NoMemory) }
+        ensures unchanged { OnErr result (self.new ≡ self.old) }
+        ensures crash { NoMore (Images self.old) (Images self.new) }
+        ensures time { GoesOn self.old self.new }
+    {
+        Ok(self.medium.sync()?)
+    }
+}
+
+/// A disk in memory of which chosen calls fail. A call that fails changes no byte, and is not in the
+/// record of the calls.
+///
+/// A contract sees what it sees of a `CalmDisk`, and the calls that are to fail.
+#[derive(Drop, Debug)]
+pub struct MemDisk {
+    medium: Medium,
+    schedule: Schedule,
+}
+
+impl Model for MemDisk {
+    ghost use Rattle.gp_edge.specs.Records.{MemDiskState};
+
+    ghost Value = { MemDiskState };
+
+    ghost view = { λ d. record { disk = d.medium; calls = d.schedule } };
+}
+
+impl MemDisk {
+    /// A disk with these bytes, all of them synced. The calls whose numbers, from 0, are in `failing`
+    /// fail. Calls of all five kinds are counted.
+    pub fn new(alloc: Global, bytes: &[u8], failing: &[u64]) -> Result<MemDisk, NoMemory>
+        ensures { IfOk result (λ disk. disk ≡ mem_disk_of bytes.now failing.now) }
+    {
+        Ok(MemDisk {
+            medium: Medium::new(alloc, bytes)?,
+            schedule: Schedule::new(alloc, failing)?,
+        })
+    }
+
+    /// What reads give. It takes no memory.
+    pub fn content(&self) -> &[u8]
+        ensures { result.now ≡ content_of self.now.disk }
+    {
+        self.medium.content()
+    }
+}
+
+impl Disk for MemDisk {
+    ghost content = { λ d. Some (content_of d.disk) };
+
+    ghost image = { λ d c. IsImage d.disk.opening d.disk.calls c };
+
+    ghost moment = { λ d. length d.disk.calls };
+
+    ghost since = { λ d t c. LeftSince d.disk.opening d.disk.calls t c };
+
+    ghost faults = { λ d. d.calls.faults };
+
+    ghost counts_now = { λ d t c le now. now_counts d.disk.opening d.disk.calls t c le now };
+
+    ghost only_now = { λ d c left. now_only d.disk.opening d.disk.calls c left };
+
+    ghost shows = { λ d s e. shows_it d.disk.opening s d.disk.calls e };
+
+    /// At a call that is to fail it fails. At any other it answers.
+    fn len(&mut self) -> Result<u64, Refused>
+        ensures len { IfOk result (λ n. n ≡ length (content_of self.old.disk)) }
+        ensures accepted { OnOk result (is_to_fail self.old.calls ≡ false) }
+        ensures refused { OnErr result (is_to_fail self.old.calls ≡ true) }
+        ensures after { self.new ≡ asked self.old }
+        ensures count { Counts self.old.calls.faults self.new.calls.faults result }
+    {
+        if self.schedule.call() {
+            return Err(Refused::Failed);
+        }
+        Ok(self.medium.len())
+    }
+
+    /// At a call that is to fail it fails. At any other it answers.
+    fn read_at(&mut self, at: u64, into: &mut [u8]) -> Result<usize, Refused>
+        ensures bytes { IfOk result (λ n. ReadsAt (content_of self.old.disk) at n into.old into.new) }
+        ensures within { IfOk result (λ n. n ≤ length into.old) }
+        ensures accepted { OnOk result (is_to_fail self.old.calls ≡ false) }
+        ensures refused { OnErr result (is_to_fail self.old.calls ≡ true) }
+        ensures after { self.new ≡ asked self.old }
+        ensures count { Counts self.old.calls.faults self.new.calls.faults result }
+    {
+        if self.schedule.call() {
+            return Err(Refused::Failed);
+        }
+        Ok(self.medium.read_at(at, into))
+    }
+
+    /// At a call that is to fail it fails, and at any other it answers `NoMemory` if memory runs out.
+    /// Both errors change no byte.
+    fn write_at(&mut self, at: u64, from: &[u8]) -> Result<(), Refused>
+        ensures accepted { OnOk result (is_to_fail self.old.calls ≡ false) }
+        ensures refused { IfErr result (λ e. e ≡ disk_refusal self.old) }
+        ensures written { OnOk result (self.new ≡ asked_with (call.Write at from.now) self.old) }
+        ensures unchanged { OnErr result (self.new ≡ asked self.old) }
+        ensures time { GoesOn self.old.disk self.new.disk }
+        ensures count { Counts self.old.calls.faults self.new.calls.faults result }
+    {
+        if self.schedule.call() {
+            return Err(Refused::Failed);
+        }
+        Ok(self.medium.write_at(at, from)?)
+    }
+
+    /// At a call that is to fail it fails, and at any other it answers `NoMemory` if memory runs out.
+    /// Both errors change no byte.
+    fn cut(&mut self, len: u64) -> Result<(), Refused>
+        ensures accepted { OnOk result (is_to_fail self.old.calls ≡ false) }
+        ensures refused { IfErr result (λ e. e ≡ disk_refusal self.old) }
+        ensures cut { OnOk result (self.new ≡ asked_with (call.Cut len) self.old) }
+        ensures unchanged { OnErr result (self.new ≡ asked self.old) }
+        ensures time { GoesOn self.old.disk self.new.disk }
+        ensures count { Counts self.old.calls.faults self.new.calls.faults result }
+    {
+        if self.schedule.call() {
+            return Err(Refused::Failed);
+        }
+        Ok(self.medium.cut(len)?)
+    }
+
+    /// At a call that is to fail it fails, and at any other it answers `NoMemory` if memory runs out.
+    /// After both errors a crash may leave what it might have left before.
+    fn sync(&mut self) -> Result<(), Refused>
+        ensures accepted { OnOk result (is_to_fail self.old.calls ≡ false) }
+        ensures refused { IfErr result (λ e. e ≡ disk_refusal self.old) }
+        ensures synced { OnOk result (self.new ≡ asked_with call.Sync self.old) }
+        ensures unchanged { OnErr result (self.new ≡ asked self.old) }
+        ensures crash { NoMore (Images self.old.disk) (Images self.new.disk) }
+        ensures time { GoesOn self.old.disk self.new.disk }
+        ensures count { Counts self.old.calls.faults self.new.calls.faults result }
+    {
+        if self.schedule.call() {
+            return Err(Refused::Failed);
+        }
+        Ok(self.medium.sync()?)
+    }
+}
