@@ -1,0 +1,240 @@
+//! The log of one node.
+ghost use Rattle.std.specs.Prelude.{All, ◌≡◌, ◌≤◌, ◌<◌, ◌++◌, ◌∷◌, [], true, false, None, Some, OnOk, OnErr, IfOk, IfErr, length, slice_get, nat_eq};
+ghost use Rattle.std.specs.Option.{option_map};
+ghost use Rattle.gp_edge.specs.Disks.{IfRevealed, LeavesOnly};
+ghost use Rattle.gp_msg.specs.Messages.{part_of};
+ghost use Rattle.gp_vlog.specs.Bodies.{need};
+ghost use Rattle.gp_vlog.specs.Causes.{IsFullWhere, HasCause, HasOpenCause, IsNoPlace};
+ghost use Rattle.gp_vlog.specs.Files.{is_second, is_limit};
+ghost use Rattle.gp_vlog.specs.Opened.{disk_of, outcome_of};
+ghost use Rattle.gp_vlog.specs.Reading.{BreaksAt};
+ghost use Rattle.gp_vlog.specs.Logs.{IsReady, KeepsRules, OldOrAdded, OldOrRenewed, StaysWhole, entry_for, has_old, log_entries, last};
+
+use crate::device::{begin, load, write_and_mark};
+use crate::fault::{AppendFault, OpenFault};
+use crate::file::{Found, first_gate};
+use crate::plan::{is_full, planned};
+use gp_edge::Disk;
+use gp_msg::Durable;
+use std::alloc::Global;
+use std::marker::Model;
+
+/// The durable parts of one node, in order, on a disk.
+#[derive(Drop)]
+pub struct Log<D: Disk> {
+    alloc: Global,
+    disk: D,
+    limit: u32,
+    // whether the second area is the active one
+    second: bool,
+    entries: Vec<Durable>,
+    // whether the entries are of version 1
+    first_version: bool,
+    // the place of the closed gate in the active area
+    closed: u64,
+    ready: bool,
+}
+
+impl<D: Disk> Model for Log<D> {
+    ghost use Rattle.std.specs.Prelude.{◌+◌};
+    ghost use Rattle.gp_vlog.specs.Logs.{LogState, IsOnDisk, log_entries};
+
+    ghost Value = { LogState D };
+
+    ghost view = { λ l. record { disk = l.disk; limit = l.limit; entries = l.entries.items; is_old = l.first_version; size = 17 + l.closed; ready = l.ready } };
+
+    ghost invariant = { λ l. IsOnDisk D.content D.image l.disk l.limit l.second l.first_version (log_entries l.first_version l.entries.items) l.closed l.ready };
+}
+
+/// Why a log was not opened, and its disk.
+#[derive(Drop)]
+pub struct Unopened<D: Disk> {
+    pub why: OpenFault,
+    pub disk: D,
+}
+
+impl<D: Disk> Log<D> {
+    /// A new log without entries, on a disk whose bytes are lost. What a crash inside this call leaves
+    /// is not said.
+    pub fn create(alloc: Global, disk: D, limit: u32) -> Result<Log<D>, Unopened<D>>
+        requires low { 64 ≤ limit }
+        requires high { limit ≤ 67108864 }
+        ensures created { IfOk result (λ log. log.entries ≡ []) }
+        ensures limit { IfOk result (λ log. log.limit ≡ limit) }
+        ensures size { IfOk result (λ log. log.size ≡ 17) }
+        ensures new { IfOk result (λ log. log.is_old ≡ false) }
+        ensures ready { IfOk result (λ log. (log.ready ≡ true) × IsReady D.content D.image log) }
+        ensures log { IfErr result (λ e. IsNoPlace e.why) }
+        ensures cause { HasOpenCause (D.faults disk) (D.faults (disk_of result)) (outcome_of result) }
+    {
+        let mut disk = disk;
+        match begin(alloc, &mut disk, limit) {
+            Ok(()) => Ok(Log {
+                alloc,
+                disk,
+                limit,
+                second: false,
+                entries: Vec::new(alloc),
+                first_version: false,
+                closed: 0,
+                ready: true,
+            }),
+            Err(why) => Err(Unopened { why, disk }),
+        }
+    }
+
+    /// The log that a disk holds, with all its entries.
+    pub fn open(alloc: Global, disk: D) -> Result<Log<D>, Unopened<D>>
+        ensures ready { IfOk result (λ log. (log.ready ≡ true) × IsReady D.content D.image log) }
+        ensures rules { IfOk result (λ log. All KeepsRules log.entries) }
+        ensures broken { IfErr result (λ e. BreaksAt is_limit (D.content disk) e.why) }
+        ensures content { D.content (disk_of result) ≡ D.content disk }
+        ensures any_moment { LeavesOnly D.moment D.since disk (disk_of result) (D.image disk) }
+        ensures cause { HasOpenCause (D.faults disk) (D.faults (disk_of result)) (outcome_of result) }
+    {
+        let mut disk = disk;
+        match load(alloc, &mut disk, None) {
+            Ok(found) => Ok(Log {
+                alloc,
+                disk,
+                limit: found.limit,
+                second: found.second,
+                entries: found.entries,
+                first_version: found.first_version,
+                closed: found.closed,
+                ready: true,
+            }),
+            Err(why) => Err(Unopened { why, disk }),
+        }
+    }
+
+    /// Reads the log again from its disk. Where it is refused the log is not ready.
+    pub fn reopen(&mut self) -> Result<(), OpenFault>
+        ensures ready { OnOk result ((self.new.ready ≡ true) × IsReady D.content D.image self.new) }
+        ensures rules { OnOk result (All KeepsRules self.new.entries) }
+        ensures refused { OnErr result (self.new.ready ≡ false) }
+        ensures broken { IfErr result (BreaksAt (nat_eq self.old.limit) (D.content self.old.disk)) }
+        ensures limit { self.new.limit ≡ self.old.limit }
+        ensures content { D.content self.new.disk ≡ D.content self.old.disk }
+        ensures any_moment { LeavesOnly D.moment D.since self.old.disk self.new.disk (D.image self.old.disk) }
+        ensures cause { HasOpenCause (D.faults self.old.disk) (D.faults self.new.disk) result }
+    {
+        self.ready = false;
+        let found = load(self.alloc, &mut self.disk, Some(self.limit))?;
+        self.second = found.second;
+        self.entries = found.entries;
+        self.first_version = found.first_version;
+        self.closed = found.closed;
+        self.ready = true;
+        Ok(())
+    }
+
+    /// Whether it has an entry of version 1.
+    #[tactic(auto, using(crate::proofs::Openings::old_is_had))]
+    pub fn is_old(&self) -> bool
+        ensures value { result ≡ self.now.is_old }
+        ensures exact { result ≡ has_old (log_entries self.now.is_old self.now.entries) }
+    {
+        self.first_version
+    }
+
+    /// How many entries there are.
+    pub fn count(&self) -> usize
+        ensures { result ≡ length self.now.entries }
+    {
+        self.entries.len()
+    }
+
+    /// An entry.
+    pub fn entry(&self, i: usize) -> &Durable
+        requires { i < length self.now.entries }
+        ensures { slice_get self.now.entries i ≡ Some result.now }
+    {
+        &self.entries[i]
+    }
+
+    /// How many bytes of its limit it takes.
+    pub fn size(&self) -> u64
+        ensures { result ≡ self.now.size }
+    {
+        17 + self.closed
+    }
+
+    /// The disk that it is on.
+    pub fn into_disk(self) -> D
+        ensures { result ≡ self.disk }
+    {
+        let Log { disk, .. } = self;
+        disk
+    }
+
+    /// Whether it may be appended to.
+    pub fn is_ready(&self) -> bool
+        ensures value { result ≡ self.now.ready }
+        ensures ready { result ≡ true → IsReady D.content D.image self.now }
+    {
+        self.ready
+    }
+
+    /// Appends an entry behind the others. At `Ok` it is acknowledged: from then on a crash leaves a log
+    /// that has it.
+    pub fn append(&mut self, entry: &Durable) -> Result<(), AppendFault>
+        requires ready { self.old.ready ≡ true }
+        requires new { self.old.is_old ≡ false }
+        requires rules { KeepsRules entry.now }
+        ensures appended { OnOk result (self.new.entries ≡ self.old.entries ++ entry.now ∷ []) }
+        ensures version { OnOk result (self.new.is_old ≡ false) }
+        ensures ready { OnOk result (IsReady D.content D.image self.new) }
+        ensures any_moment { IfRevealed (D.content self.old.disk) (λ s. LeavesOnly D.moment D.since self.old.disk self.new.disk (OldOrAdded self.old.limit (log_entries false self.old.entries) (entry_for false entry.now))) }
+        ensures full { IsFullWhere self.old.limit self.old.size (need (option_map part_of (last self.old.entries)) (part_of entry.now)) result }
+        ensures left { StaysWhole self.old self.new result }
+        ensures limit { self.new.limit ≡ self.old.limit }
+        ensures cause { HasCause (D.faults self.old.disk) (D.faults self.new.disk) result }
+    {
+        let before = self.entries.last();
+        let outcome = planned(self.alloc, before, entry, 17 + self.closed, self.limit);
+        self.ready = is_full(&outcome);
+        let plan = outcome?;
+        let gate = first_gate(self.limit, self.second) + self.closed;
+        write_and_mark(&mut self.disk, gate + 1, &plan.bytes[1..], gate, 1)?;
+        self.entries.push(plan.entry)?;
+        self.closed += plan.need;
+        self.ready = true;
+        Ok(())
+    }
+
+    /// Makes an entry the only one. At `Ok` it is acknowledged.
+    pub fn renew(&mut self, entry: &Durable) -> Result<(), AppendFault>
+        requires ready { self.old.ready ≡ true }
+        requires rules { KeepsRules entry.now }
+        ensures renewed { OnOk result (self.new.entries ≡ entry.now ∷ []) }
+        ensures version { OnOk result (self.new.is_old ≡ false) }
+        ensures ready { OnOk result (IsReady D.content D.image self.new) }
+        ensures any_moment { IfRevealed (D.content self.old.disk) (λ s. LeavesOnly D.moment D.since self.old.disk self.new.disk (OldOrRenewed self.old.limit (log_entries self.old.is_old self.old.entries) (entry_for false entry.now))) }
+        ensures full { IsFullWhere self.old.limit 17 (need None (part_of entry.now)) result }
+        ensures left { StaysWhole self.old self.new result }
+        ensures limit { self.new.limit ≡ self.old.limit }
+        ensures cause { HasCause (D.faults self.old.disk) (D.faults self.new.disk) result }
+    {
+        let outcome = planned(self.alloc, None, entry, 17, self.limit);
+        self.ready = is_full(&outcome);
+        let plan = outcome?;
+        let other = first_gate(self.limit, !self.second);
+        let switch = switch_to(!self.second);
+        write_and_mark(&mut self.disk, other, &plan.bytes, 12, switch)?;
+        self.entries.clear();
+        self.entries.push(plan.entry)?;
+        self.first_version = false;
+        self.second = !self.second;
+        self.closed = plan.need;
+        self.ready = true;
+        Ok(())
+    }
+}
+
+// The byte that says whether the second area is the active one.
+fn switch_to(second: bool) -> u8
+    ensures { is_second result ≡ second }
+{
+    u8::from(second)
+}

@@ -1,0 +1,50 @@
+//! The rules of what an entry holds.
+ghost use Rattle.std.specs.Prelude.{All, ◌≡◌, true};
+ghost use Rattle.gp_command.specs.Spelling.{IsNumbered};
+ghost use Rattle.gp_vlog.specs.Logs.{KeepsRules};
+
+use crate::reading::is_round;
+use gp_history::Hist;
+use gp_index::History;
+use gp_msg::Durable;
+
+/// Whether a log may hold this durable part.
+pub fn keeps_rules(part: &Durable) -> bool
+    ensures { result ≡ true → KeepsRules part.now }
+{
+    match part {
+        Durable::Acceptor {
+            round,
+            voted,
+            vote,
+            ..
+        } => {
+            if !is_round(*round) {
+                return false;
+            }
+            if !is_round(*voted) {
+                return false;
+            }
+            if *round < *voted {
+                return false;
+            }
+            are_numbered(vote)
+        }
+        Durable::Coordinator { round, .. } => is_round(*round),
+    }
+}
+
+fn are_numbered(vote: &History) -> bool
+    ensures { result ≡ true → All (λ c. IsNumbered c.id) vote.now }
+{
+    for i in 0..vote.len() {
+        let id = vote.at(i).id();
+        if id.proposer >= 8 {
+            return false;
+        }
+        if id.number < 1 {
+            return false;
+        }
+    }
+    true
+}
