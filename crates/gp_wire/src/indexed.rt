@@ -1,0 +1,113 @@
+//! The list that lies in the slot of a wire.
+ghost use Rattle.std.specs.Prelude.{◌≡◌, ◌+◌, ◌≤◌, ◌++◌, ◌∷◌, [], length, slice_get, vec_len, vec_capacity, OnOk, OnErr, IfErr};
+ghost use Rattle.std.specs.Option.{option_copied};
+ghost use Rattle.gp_wire.specs.Messages.{messages_in};
+ghost use Rattle.gp_wire.specs.Places.{message_at, places_to};
+
+use gp_msg::{Msg, Record, Records};
+use std::alloc::Global;
+use std::marker::Model;
+
+/// Where a message stands: in which record, and which of its messages it is.
+#[derive(Clone, Copy, Debug)]
+pub(crate) struct Place {
+    pub index: usize,
+    pub at: usize,
+}
+
+/// Records, the oldest first, with the place of each of their messages. A contract sees them as a list.
+#[derive(Drop)]
+pub struct IndexedRecords {
+    records: Vec<Record>,
+    /// The place of message k.
+    places: Vec<Place>,
+}
+
+impl Model for IndexedRecords {
+    ghost use Rattle.std.specs.Prelude.{◌≡◌, List, map};
+    ghost use Rattle.gp_msg.specs.declared.record.Record.{Record};
+    ghost use Rattle.gp_wire.specs.Messages.{messages_in};
+    ghost use Rattle.gp_wire.specs.Places.{at_place, all_there};
+
+    ghost Value = { List Record };
+
+    ghost view = { λ p. p.records.items };
+
+    ghost invariant = { λ p. map (at_place p.records.items) p.places.items ≡ all_there (messages_in p.records.items) };
+}
+
+impl IndexedRecords {
+    /// No records. It takes no memory.
+    pub fn new(alloc: Global) -> IndexedRecords
+        ensures { result ≡ [] }
+    {
+        IndexedRecords {
+            records: Vec::new(alloc),
+            places: Vec::new(alloc),
+        }
+    }
+
+    /// Puts a record behind the others. Where memory runs out it comes back, and the list stays as it was.
+    pub fn push(&mut self, item: Record) -> Result<(), Record>
+        ensures pushed { OnOk result (self.new ≡ self.old ++ item ∷ []) }
+        ensures unchanged { OnErr result (self.new ≡ self.old) }
+        ensures back { IfErr result (λ r. r ≡ item) }
+    {
+        let count = item.out.as_slice().len();
+        if self.records.reserve(1).is_err() || self.places.reserve(count).is_err() {
+            return Err(item);
+        }
+        add_places(&mut self.places, self.records.len(), count);
+        self.records.push_reserved(item);
+        Ok(())
+    }
+
+    /// How many records there are.
+    pub fn len(&self) -> u64
+        ensures { result ≡ length self.now }
+    {
+        self.records.len() as u64
+    }
+
+    /// How many messages there are.
+    #[tactic(auto, using(crate::proofs::Placing::as_many))]
+    pub fn messages(&self) -> u64
+        ensures { result ≡ length (messages_in self.now) }
+    {
+        self.places.len() as u64
+    }
+
+    /// Message k, if there is one.
+    #[tactic(auto, using(crate::proofs::Placing::found_at))]
+    pub fn message(&self, k: u64) -> Option<&Msg>
+        ensures { option_copied result ≡ slice_get (messages_in self.now) k }
+    {
+        at_place(&self.records, &self.places, k)
+    }
+
+    /// The records alone. It takes no memory.
+    pub fn into_records(self) -> Records
+        ensures { result ≡ self }
+    {
+        let IndexedRecords { records, places: _ } = self;
+        Records::from(records)
+    }
+}
+
+// The places of the first messages of a record, behind those that are there.
+fn add_places(places: &mut Vec<Place>, index: usize, count: usize)
+    requires { vec_len places.old + count ≤ vec_capacity places.old }
+    ensures { places.new.items ≡ places.old.items ++ places_to index count }
+{
+    for at in 0..count {
+        places.push_reserved(Place { index, at });
+    }
+}
+
+// The message at the place of message k.
+fn at_place<'a>(records: &'a [Record], places: &[Place], k: u64) -> Option<&'a Msg>
+    ensures { option_copied result ≡ message_at records.now (slice_get places.now k) }
+{
+    let place = *places.get(k as usize)?;
+    records.get(place.index)?.out.as_slice().get(place.at)
+}

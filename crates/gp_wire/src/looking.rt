@@ -1,0 +1,66 @@
+//! Looks at the list.
+ghost use Rattle.std.specs.Prelude.{◌≡◌, ◌<◌, ◌^◌, length, slice_get, IfOk};
+ghost use Rattle.std.specs.Option.{option_map, option_copied};
+ghost use Rattle.gp_msg.specs.Reads.{kind_of};
+ghost use Rattle.gp_wire.specs.Lists.{Has};
+ghost use Rattle.gp_wire.specs.Messages.{messages_in};
+ghost use Rattle.gp_wire.specs.Known.{records, HoldsAll};
+ghost use Rattle.gp_wire.specs.Passes.{HadTurn, nothing};
+
+use crate::pass::Pass;
+use crate::rules::Rules;
+use crate::wire::Wire;
+use gp_command::NoMemory;
+use gp_msg::{Msg, MsgKind};
+use std::sync::Wait;
+
+impl<R: Rules> Wire<R> {
+    /// Message k, from 0, of the list that the pass has seen at the end of this call, and `None` exactly
+    /// where that list has no message k. The pass has a turn, in which it sees the whole list, and nothing is
+    /// posted: the list that it has seen is longer by records of nodes that it does not hold, if it is. A
+    /// pass that holds all nodes has seen the whole list before. Where memory runs out it has had its turn too.
+    pub fn read<W: Wait>(&self, rt: &W, pass: &mut Pass, k: u64) -> Result<Option<Msg>, NoMemory>
+        requires own { pass.old.wire ≡ self.now.id }
+        requires holds { Has pass.old.node pass.old.holds }
+        ensures turn { HadTurn pass.old pass.new nothing }
+        ensures whole { HoldsAll pass.old → pass.new.seen ≡ pass.old.seen }
+        ensures answer { IfOk result (λ m. m ≡ slice_get (messages_in (records pass.new)) k) }
+    {
+        let (ticket, records) = self.enter(rt, &mut pass.seat);
+        let found = copied(records.message(k));
+        pass.count = records.len();
+        self.leave(&mut pass.seat, ticket, records);
+        found
+    }
+
+    /// The kind of the message that `read` answers, and `None` exactly where that answers `None`. It takes
+    /// no memory.
+    pub fn kind<W: Wait>(&self, rt: &W, pass: &mut Pass, k: u64) -> Option<MsgKind>
+        requires own { pass.old.wire ≡ self.now.id }
+        requires holds { Has pass.old.node pass.old.holds }
+        ensures turn { HadTurn pass.old pass.new nothing }
+        ensures whole { HoldsAll pass.old → pass.new.seen ≡ pass.old.seen }
+        ensures few { length (messages_in (records pass.new)) < 2 ^ 64 }
+        ensures answer { result ≡ option_map kind_of (slice_get (messages_in (records pass.new)) k) }
+    {
+        let (ticket, list) = self.enter(rt, &mut pass.seat);
+        let _count = list.messages();
+        let found = list.message(k).map(|m| m.kind());
+        pass.count = list.len();
+        self.leave(&mut pass.seat, ticket, list);
+        found
+    }
+}
+
+// An equal message, if there is one.
+fn copied(m: Option<&Msg>) -> Result<Option<Msg>, NoMemory>
+    ensures { IfOk result (λ copy. copy ≡ option_copied m.entry) }
+{
+    match m {
+        Some(m) => match m.copy() {
+            Ok(copy) => Ok(Some(copy)),
+            Err(none) => Err(none),
+        },
+        None => Ok(None),
+    }
+}
