@@ -7,12 +7,11 @@ ghost use Rattle.gp_world.specs.State.{entries_of};
 ghost use Rattle.gp_report.specs.Texts.{history_lines, learner_text, totals_line, report};
 
 use crate::learned::push_commands;
+use crate::replicas::replica_of;
 use crate::replies::push_replies;
 use crate::states::push_state;
 use gp_command::NoMemory;
 use gp_index::History;
-use gp_replica::Replica;
-use gp_store::KeyStore;
 use gp_words::push_number;
 use gp_world::World;
 use std::alloc::Global;
@@ -27,8 +26,7 @@ fn push_lines(
     requires { HasDistinctIds (history_of learned.now) }
     ensures { OnOk result (to.new.items ≡ to.old.items ++ history_lines learner (history_of learned.now)) }
 {
-    let mut replica = Replica::<KeyStore>::new(alloc)?;
-    let _count = replica.catch_up(learned)?;
+    let replica = replica_of(alloc, learned)?;
     push_commands(learner, replica.ran(), to)?;
     push_state(learner, replica.machine(), to)?;
     push_replies(learner, replica.replies(), to)
