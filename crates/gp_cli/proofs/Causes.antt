@@ -21,9 +21,15 @@ use Rattle.gp_text.specs.Playing.{IsRefused, Stops}
 use Rattle.gp_text.specs.Limits.{IsLegalBefore, SaysLegally}
 use Rattle.gp_text.proofs.SaidLegally.{reading_legal}
 use Rattle.gp_text.specs.Playing.{Plays as Gives}
-use Rattle.gp_cli.specs.Endings.{Ending, Misused, Unread, Refuses, Plays, Starved, Seen, HasRead, IsReadCause, IsScriptCause, IsConfigIn, IsConfigOf, status_of, status_at_fault, text_of, run_to}
-use Rattle.gp_cli.specs.Serving.{Told, Wholly, Ends}
+use Rattle.gp_cli.specs.declared.serving.TheConstants.{MOST_READ}
+use Rattle.gp_cli.specs.Outside.{Seen, Told, Wholly}
+use Rattle.gp_cli.specs.Endings.{Ending, Misused, Unread, Refuses, Plays, Starved, HasRead, IsReadCause, IsScriptCause, IsConfigIn, IsConfigOf, status_of, status_at_fault, text_of, run_to}
+use Rattle.gp_cli.specs.Serving.{EndsBy, AgreesInItsConfig}
 use Rattle.gp_cli.specs.declared.serving.Ran.{Ran}
+
+-- what a run ends by is in agreement for its own configuration
+pub in_its_config : (Cause : Ending → Type 0) (before now : Seen) (ran : Ran) → EndsBy Cause before now ran → AgreesInItsConfig Cause ran
+in_its_config Cause before now ran ends = record { ending = ends.ending; cause = ends.cause; config = ends.config; own_config = ends.own_config; agreement = ends.agreement }
 
 -- an empty text is written by doing nothing
 pub nothing_told : (written : Option (List ℕ)) → AppendsWhole written written []
@@ -42,7 +48,7 @@ none_agrees records none =
     subst P (sym none) (in_agreement (counts 3 1 1) (omega arith) [] tt)
 
 -- one cause for another
-because : (P Q : Ending → Type 0) (before now : Seen) (ran : Ran) → ((ending : Ending) → P ending → Q ending) → Ends P before now ran → Ends Q before now ran
+pub because : (P Q : Ending → Type 0) (before now : Seen) (ran : Ran) → ((ending : Ending) → P ending → Q ending) → EndsBy P before now ran → EndsBy Q before now ran
 because P Q before now ran for ends = record {
   ending = ends.ending;
   cause = for ends.ending ends.cause;
@@ -54,23 +60,22 @@ because P Q before now ran for ends = record {
 }
 
 -- the cause of a script that was read
-script_cause : (before now : Seen) (bytes : List ℕ) → ReadsUpTo 1048577 before.bytes now.bytes bytes → now.faults ≡ before.faults → (ending : Ending) → IsScriptCause (reading bytes) ending → IsReadCause before now ending
+script_cause : (before now : Seen) (bytes : List ℕ) → ReadsUpTo MOST_READ before.bytes now.bytes bytes → now.faults ≡ before.faults → (ending : Ending) → IsScriptCause (reading bytes) ending → IsReadCause before now ending
 script_cause before now bytes taken steady Misused cause = cause
 script_cause before now bytes taken steady Unread cause = absurd cause
 script_cause before now bytes taken steady (Refuses line reason before_it) cause = record { bytes = bytes; taken = taken; steady = steady; says = cause }
 script_cause before now bytes taken steady (Plays config said) cause = record { bytes = bytes; taken = taken; steady = steady; says = cause }
-script_cause before now bytes taken steady Starved cause = (steady, loses 1048577 before.bytes now.bytes bytes taken)
+script_cause before now bytes taken steady Starved cause = (steady, loses MOST_READ before.bytes now.bytes bytes taken)
 
 -- a script that was read up to the limit ends as a script
-pub read_ends : (rest left before now : Seen) (ran : Ran) (limit : ℕ) (bytes script : List ℕ) → script ≡ bytes → ReadsUpTo limit rest.bytes left.bytes bytes → limit ≡ 1048577 → left.faults ≡ rest.faults
-    → Ends (IsScriptCause (reading script)) before now ran → Ends (IsReadCause rest left) before now ran
-read_ends rest left before now ran limit bytes script same taken is steady ends =
-    let P : ℕ → Type 0 = λ n. ReadsUpTo n rest.bytes left.bytes bytes in
-    let Q : List ℕ → Type 0 = λ b. Ends (IsScriptCause (reading b)) before now ran in
-    because (IsScriptCause (reading bytes)) (IsReadCause rest left) before now ran (script_cause rest left bytes (subst P is taken) steady) (subst Q same ends)
+pub read_ends : (rest left before now : Seen) (ran : Ran) (bytes script : List ℕ) → script ≡ bytes → ReadsUpTo MOST_READ rest.bytes left.bytes bytes → left.faults ≡ rest.faults
+    → EndsBy (IsScriptCause (reading script)) before now ran → EndsBy (IsReadCause rest left) before now ran
+read_ends rest left before now ran bytes script same taken steady ends =
+    let Q : List ℕ → Type 0 = λ b. EndsBy (IsScriptCause (reading b)) before now ran in
+    because (IsScriptCause (reading bytes)) (IsReadCause rest left) before now ran (script_cause rest left bytes taken steady) (subst Q same ends)
 
 -- memory ran out before the end was known, and nothing was written
-pub starved : (Cause : Ending → Type 0) (before : Seen) (ran : Ran) → Cause Starved → ran.status ≡ 1 → ran.trail ≡ [] → Ends Cause before before ran
+pub starved : (Cause : Ending → Type 0) (before : Seen) (ran : Ran) → Cause Starved → ran.status ≡ 1 → ran.trail ≡ [] → EndsBy Cause before before ran
 starved Cause before ran cause one none = record {
   ending = Starved;
   cause = cause;
@@ -83,7 +88,7 @@ starved Cause before ran cause one none = record {
 
 -- a run that was not begun ends with a text alone
 pub without_run : (Cause : Ending → Type 0) (ending : Ending) (before now : Seen) (ran : Ran) → Cause ending → run_to ending ≡ [] → IsConfigOf ending (counts 3 1 1) → ran.trail ≡ []
-    → Told before now (text_of ending) (status_of ending) (status_at_fault ending) ran.status → Ends Cause before now ran
+    → Told before now (text_of ending) (status_of ending) (status_at_fault ending) ran.status → EndsBy Cause before now ran
 without_run Cause ending before now ran cause no_run own none told = record {
   ending = ending;
   cause = cause;
@@ -104,7 +109,7 @@ stopped read result why line reason records is bad gives =
 
 -- a script that was played
 pub played_ends : (read : Reading) (played : Played) (before now : Seen) (ran : Ran) (text : List ℕ) → Gives read (Ok played) → IsInAgreement played.world.config (entries_of played.world) → ran.trail ≡ played.world.records
-    → text ≡ played.text.items → Told before now text 0 5 ran.status → Ends (IsScriptCause read) before now ran
+    → text ≡ played.text.items → Told before now text 0 5 ran.status → EndsBy (IsScriptCause read) before now ran
 played_ends read played before now ran text gives agree trail same told = record {
   ending = Plays played.world.config gives.said;
   cause = gives.whole;
@@ -127,7 +132,7 @@ agreeing (Some script) run legal is = record { config = script.config; own = ref
 
 -- a script that is refused at a line, which was told
 pub refused_ends : (read : Reading) (result : Result Played Unplayed) (why : Unplayed) (line : ℕ) (reason : Reason) (records : List Record) (before now : Seen) (ran : Ran) → result ≡ Err why → why ≡ Bad line reason records
-    → Gives read result → SaysLegally read → ran.trail ≡ records → Told before now (refusal_text line reason) 3 3 ran.status → Ends (IsScriptCause read) before now ran
+    → Gives read result → SaysLegally read → ran.trail ≡ records → Told before now (refusal_text line reason) 3 3 ran.status → EndsBy (IsScriptCause read) before now ran
 refused_ends read result why line reason records before now ran is bad gives legal trail told =
     let at = stopped read result why line reason records is bad gives in
     let run : entries_in ran.trail ≡ run_before at.before = ap entries_in trail ∙ at.run in

@@ -1,3 +1,3 @@
 pub mod Causes
 pub mod Statuses
-pub mod Unheard
+pub mod Arguments

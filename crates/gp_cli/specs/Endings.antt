@@ -1,5 +1,5 @@
 -- How a run of the program ends: its cause, its run, its text and its status.
-use Rattle.std.specs.Prelude.{◌≡◌, ℕ, List, [], Option, Some, None, MatchBool}
+use Rattle.std.specs.Prelude.{◌≡◌, ℕ, List, [], Option, Some, None}
 use Rattle.gp_round.specs.Counts.{Counts}
 use Rattle.gp_msg.specs.Messages.{Entry}
 use Rattle.gp_run.specs.Runs.{run_of}
@@ -8,9 +8,14 @@ use Rattle.gp_edge.specs.Faults.{Rose}
 use Rattle.gp_edge.specs.Reads.{ReadsUpTo, LosesUpTo}
 use Rattle.gp_text.specs.Reading.{Reading, Whole, Refused, Script, Sofar, run_before, reading}
 use Rattle.gp_text.specs.Texts.{output}
-use Rattle.gp_cli.specs.Texts.{is_play, usage, read_fault, refusal_text}
+use Rattle.gp_cli.specs.declared.subcommand.Subcommand.{Subcommand}
+use Rattle.gp_cli.specs.declared.subcommand.Subcommand.TheVariants.{Play}
+use Rattle.gp_cli.specs.declared.serving.TheConstants.{MOST_READ}
+use Rattle.gp_cli.specs.Subcommands.{named}
+use Rattle.gp_cli.specs.Outside.{Seen}
+use Rattle.gp_cli.specs.Texts.{usage, read_fault, refusal_text}
 
--- the words are no command; the source failed; a line of the script is refused, and this is what the lines before it said; the script was played; memory ran out before any of these was known
+-- the words name no subcommand; the source failed; a line of the script is refused, and this is what the lines before it said; the script was played; memory ran out before any of these was known
 pub data Ending : Type 0 where
   Misused : Ending
   Unread : Ending
@@ -55,7 +60,7 @@ abbrev pub IsConfigIn : Option Script → Counts → Type 0
 IsConfigIn None config = Unit {0}
 IsConfigIn (Some script) config = config ≡ script.config
 
--- the configuration is the script's, if it has one
+-- the configuration is that of the script, if there is one
 abbrev pub IsConfigOf : Ending → Counts → Type 0
 IsConfigOf Misused config = Unit {0}
 IsConfigOf Unread config = Unit {0}
@@ -63,34 +68,33 @@ IsConfigOf (Refuses line reason before) config = IsConfigIn before config
 IsConfigOf (Plays own said) config = config ≡ own
 IsConfigOf Starved config = Unit {0}
 
--- what is seen of a source or a sink: the bytes that are left or were written, if it reveals them, and its number of faults
-pub record Seen : Type 0 where
-  pub bytes : Option (List ℕ)
-  pub faults : ℕ
-
-abbrev pub seen : Option (List ℕ) → ℕ → Seen
-seen bytes faults = record { bytes = bytes; faults = faults }
+-- ---- causes, by what is seen of the source before and now
 
 -- the bytes read, up to one more than a script may have, have this reading, and no fault was counted
 pub record HasRead (before now : Seen) (read : Reading) : Type 0 where
   pub bytes : List ℕ
-  pub taken : ReadsUpTo 1048577 before.bytes now.bytes bytes
+  pub taken : ReadsUpTo MOST_READ before.bytes now.bytes bytes
   pub steady : now.faults ≡ before.faults
   pub says : reading bytes ≡ read
 
--- why a run ends so if a script is to be read, by the source before and now
+-- why a run ends so if a script is to be read
 abbrev pub IsReadCause : Seen → Seen → Ending → Type 0
 IsReadCause before now Misused = ⊥
-IsReadCause before now Unread = Rose before.faults now.faults × LosesUpTo 1048577 before.bytes now.bytes
+IsReadCause before now Unread = Rose before.faults now.faults × LosesUpTo MOST_READ before.bytes now.bytes
 IsReadCause before now (Refuses line reason said) = HasRead before now (Refused line reason said)
 IsReadCause before now (Plays config said) = HasRead before now (Whole config said)
-IsReadCause before now Starved = (now.faults ≡ before.faults) × LosesUpTo 1048577 before.bytes now.bytes
+IsReadCause before now Starved = (now.faults ≡ before.faults) × LosesUpTo MOST_READ before.bytes now.bytes
 
--- why it ends so, by the words too: `play` reads a script, and other words read nothing
+-- why it ends so, by the subcommand, if there is one: `play` reads a script, and without a subcommand nothing is read
+abbrev pub IsCauseFor : Option Subcommand → Seen → Seen → Ending → Type 0
+IsCauseFor None before now ending = (ending ≡ Misused) × (now ≡ before)
+IsCauseFor (Some Play) before now ending = IsReadCause before now ending
+
+-- the same, by the words
 abbrev pub IsCause : List (List ℕ) → Seen → Seen → Ending → Type 0
-IsCause words before now ending = MatchBool (is_play words) (IsReadCause before now ending) ((ending ≡ Misused) × (now ≡ before))
+IsCause words before now ending = IsCauseFor (named words) before now ending
 
--- why it ends so if the script is at hand, by its reading
+-- why a run with a script at hand ends so, by the script's reading
 abbrev pub IsScriptCause : Reading → Ending → Type 0
 IsScriptCause read Misused = ⊥
 IsScriptCause read Unread = ⊥

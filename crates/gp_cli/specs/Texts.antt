@@ -1,21 +1,9 @@
 -- What the program prints besides the output of a script.
-use Rattle.std.specs.Prelude.{ℕ, Bool, false, List, [], ◌∷◌, ◌++◌, map, codes, decimal, String, string_bytes}
-use Rattle.std.specs.Str.{bytes_eq}
-use Rattle.std.specs.declared.alloc.Global.{Global}
+use Rattle.std.specs.Prelude.{ℕ, List, ◌++◌, codes, decimal}
 use Rattle.gp_script.specs.declared.reason.Reason.{Reason}
 use Rattle.gp_script.specs.declared.reason.Reason.TheVariants.{TooLong, NoNodesLine, BadLine, BadNumber, BadCount, BadKey, NoNode, BadFall, NoMessage, TooManyCommands, TooManyEvents}
 
--- the words, each as its bytes
-abbrev pub texts_of : List (String Global) → List (List ℕ)
-texts_of words = map (λ word. string_bytes word) words
-
--- the one word `play`
-abbrev pub is_play : List (List ℕ) → Bool
-is_play [] = false
-is_play (word ∷ []) = bytes_eq word (codes "play")
-is_play (word ∷ other ∷ others) = false
-
--- what is printed if the words are no command
+-- what is printed if the words name no subcommand
 abbrev pub usage : List ℕ
 usage = codes "usage: mcgp play | run [LIMIT] | sim SEED COMMANDS | drive A L K | log K\n"
 

@@ -1,11 +1,12 @@
 //! The program, over any source and sink.
 #![tactic(auto)]
 
+pub mod laws;
 mod program;
 mod serving;
 mod status;
+mod subcommand;
 mod telling;
-mod words;
 
 pub use program::{Ended, run_program};
 pub use serving::{Ran, serve};

@@ -1,14 +1,10 @@
 //! The program, from its arguments to its exit status.
-ghost use Rattle.std.specs.Prelude.{◌≡◌, ◌≤◌, ◌⊎◌, [], IfOk, OnErr, IfSome};
+ghost use Rattle.std.specs.Prelude.{◌≡◌, ◌≤◌, IfOk, OnErr};
 ghost use Rattle.std.specs.Process.{exit_status};
-ghost use Rattle.gp_edge.specs.Faults.{Rose};
-ghost use Rattle.gp_round.specs.Counts.{Counts};
-ghost use Rattle.gp_run.specs.Runs.{entries_in};
-ghost use Rattle.gp_report.specs.Replicas.{IsInAgreement};
-ghost use Rattle.gp_cli.specs.Texts.{texts_of};
-ghost use Rattle.gp_cli.specs.Endings.{seen};
-ghost use Rattle.gp_cli.specs.Serving.{Ends, HoldsScript, HoldsBadLine, PlaysWhole, StopsAtLine};
-ghost use Rattle.gp_cli.specs.Program.{IsNoText, AreWords, AskToPlay, AreNoCommand, IsProgramCause};
+ghost use Rattle.gp_cli.specs.Subcommands.{texts_of};
+ghost use Rattle.gp_cli.specs.Outside.{outside};
+ghost use Rattle.gp_cli.specs.Serving.{Ends, IsInAgreementFor};
+ghost use Rattle.gp_cli.specs.Program.{IsNoText, AreWords, AreNoSubcommand, IsProgramCause};
 
 use crate::serving::{Ran, serve};
 use crate::status::NO_MEMORY;
@@ -45,7 +41,7 @@ impl Termination for Ended {
     }
 }
 
-// The words after the program's name. If an argument is no text there are none, and so no command.
+// The words after the program's name. If an argument is no text there are none, and so no subcommand.
 fn words_after_name(alloc: Global, arguments: io::Result<Args>) -> Result<Vec<String>, NoMemory>
     ensures words { IfOk result (λ words. AreWords arguments (texts_of words.items)) }
     ensures refused { OnErr result (¬ IsNoText arguments) }
@@ -57,49 +53,27 @@ fn words_after_name(alloc: Global, arguments: io::Result<Args>) -> Result<Vec<St
     }
 }
 
-/// Runs the program: the command that its arguments name, over its input and its output.
+/// Runs the program: the subcommand that its arguments name, over its input and its output.
 ///
 /// The arguments are what `std::env::args` gives. The first is the program's name, and the others are the
-/// words that `serve` gets. If an argument is no text there is no command, which ends with the usage and
-/// status 2. After any other error of `std::env::args`, and if memory runs out for the words, nothing is
-/// read or written, and the status is 1.
+/// words that `serve` gets. If an argument is no text there is no subcommand, which ends with the usage
+/// and status 2. After any other error of `std::env::args`, and if memory runs out for the words, nothing
+/// is read or written, and the status is 1. What each exit status says is in `laws`.
 pub fn run_program<S: Source, K: Sink>(
     alloc: Global,
     arguments: io::Result<Args>,
     source: &mut S,
     sink: &mut K,
 ) -> Ended
-    // The run ends in one way, which has its cause; the trail, the text and the status are those of it.
-    ensures ends { Ends
-        (IsProgramCause arguments
-        (seen (S.rest source.old) (S.faults source.old)) (seen (S.rest source.new) (S.faults source.new)))
-        (seen (K.written sink.old) (K.faults sink.old)) (seen (K.written sink.new) (K.faults sink.new)) result }
+    // Whatever the status is: the records are a legal run of the script's configuration, what learners showed at any moments agrees, and so do replicas.
+    ensures agreement { IsInAgreementFor (IsProgramCause arguments) (outside S.rest S.faults K.written K.faults source.old sink.old)
+        (outside S.rest S.faults K.written K.faults source.new sink.new) result }
 
-    // Whatever status it is, the records are legal, what learners showed at any moments agrees, and so do replicas.
-    ensures agreement { (config : Counts) × IsInAgreement config (entries_in result.trail) }
+    // The run ends in one way, which has its cause: its records, its text and its status are those of that ending.
+    ensures ends { Ends (IsProgramCause arguments) (outside S.rest S.faults K.written K.faults source.old sink.old)
+        (outside S.rest S.faults K.written K.faults source.new sink.new) result }
 
-    // Status 0 and 3.
-    ensures played { result.status ≡ 0 →
-        PlaysWhole
-        (seen (S.rest source.old) (S.faults source.old)) (seen (S.rest source.new) (S.faults source.new))
-        (seen (K.written sink.old) (K.faults sink.old)) (seen (K.written sink.new) (K.faults sink.new)) result }
-    ensures refused { result.status ≡ 3 →
-        StopsAtLine
-        (seen (S.rest source.old) (S.faults source.old)) (seen (S.rest source.new) (S.faults source.new))
-        (seen (K.written sink.old) (K.faults sink.old)) (seen (K.written sink.new) (K.faults sink.new)) result }
-    ensures complete { AskToPlay arguments → HoldsScript (S.rest source.old) → ¬ Rose (S.faults source.old) (S.faults source.new) → ¬ Rose (K.faults sink.old) (K.faults sink.new)
-        → (result.status ≡ 0) ⊎ (result.status ≡ 1) }
-    ensures refuses { AskToPlay arguments → HoldsBadLine (S.rest source.old) → ¬ Rose (S.faults source.old) (S.faults source.new) → (result.status ≡ 3) ⊎ (result.status ≡ 1) }
-
-    // Status 2.
-    ensures misused { result.status ≡ 2 → AreNoCommand arguments }
-    ensures usage { AreNoCommand arguments → (result.status ≡ 2) ⊎ (result.status ≡ 1) }
-    ensures untouched { AreNoCommand arguments → source.new ≡ source.old }
-
-    // Status 4 and 5.
-    ensures unread { result.status ≡ 4 → Rose (S.faults source.old) (S.faults source.new) }
-    ensures unwritten { result.status ≡ 5 → Rose (K.faults sink.old) (K.faults sink.new) }
-
+    ensures untouched { AreNoSubcommand arguments → source.new ≡ source.old }
     ensures source_never_falls { S.faults source.old ≤ S.faults source.new }
     ensures sink_never_falls { K.faults sink.old ≤ K.faults sink.new }
 {

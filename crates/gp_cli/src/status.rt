@@ -6,7 +6,7 @@ pub const DONE: u8 = 0;
 /// Memory ran out.
 pub const NO_MEMORY: u8 = 1;
 
-/// The words are no command.
+/// The words name no subcommand.
 pub const MISUSED: u8 = 2;
 
 /// A line of the input is refused.

@@ -1,8 +1,7 @@
 //! The texts that are printed, and the status that goes with each.
 ghost use Rattle.std.specs.Prelude.{◌≡◌, ◌≤◌, IfOk};
 ghost use Rattle.gp_cli.specs.Texts.{reason_text, refusal_text};
-ghost use Rattle.gp_cli.specs.Endings.{seen};
-ghost use Rattle.gp_cli.specs.Serving.{Told};
+ghost use Rattle.gp_cli.specs.Outside.{seen, Told};
 
 use crate::status::NO_MEMORY;
 use gp_command::NoMemory;
@@ -11,7 +10,7 @@ use gp_script::Reason;
 use gp_words::push_number;
 use std::alloc::Global;
 
-/// What is printed if the words are no command.
+/// What is printed if the words name no subcommand.
 pub const USAGE: &[u8] =
     b"usage: mcgp play | run [LIMIT] | sim SEED COMMANDS | drive A L K | log K\n";
 

@@ -2,7 +2,7 @@ use Rattle.std.proofs.Common.{ℕ, ap, sym, subst, ◌∙◌, Ok}
 use Rattle.std.specs.Vec.Iter.{into_iter_items, into_iter_len}
 use Rattle.std.proofs.lemmas.Iterator.{items_from_collect}
 use Rattle.std.proofs.lemmas.Iterator.Adapters.{YieldsList-from_vec, YieldsList-from_skip}
-use Rattle.gp_cli.specs.Texts.{texts_of}
+use Rattle.gp_cli.specs.Subcommands.{texts_of}
 use Rattle.gp_cli.specs.Program.{AreWords}
 use Rattle.gp_cli.proofs.program.words_after_name.Goals as goal
 

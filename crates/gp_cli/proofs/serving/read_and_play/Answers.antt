@@ -1,11 +1,11 @@
 use Rattle.std.proofs.Common.{refl, rules}
-use Rattle.gp_cli.specs.declared.serving.TheConstants.{MOST_BYTES}
-use Rattle.gp_cli.specs.Endings.{Unread, IsReadCause, seen}
+use Rattle.gp_cli.specs.Outside.{seen}
+use Rattle.gp_cli.specs.Endings.{Unread, IsReadCause}
 use Rattle.gp_cli.proofs.Causes.{read_ends, starved, without_run}
 use Rattle.gp_cli.proofs.serving.read_and_play.Goals as goal
 
 pub returns-in-Ok-clause-ends : goal.returns-in-Ok-clause-ends
-returns-in-Ok-clause-ends g c = read_ends _ _ _ _ _ MOST_BYTES c.in-Ok.script.items c.deref.result.now c.deref.ensures.value c.in-Ok.ensures.whole refl (search rules) c.play_script.ensures.ends
+returns-in-Ok-clause-ends g c = read_ends _ _ _ _ _ c.in-Ok.script.items c.deref.result.now c.deref.ensures.value c.in-Ok.ensures.whole (search rules) c.play_script.ensures.ends
 
 pub returns-in-Err-Failed-clause-ends : goal.returns-in-Err-Failed-clause-ends
 returns-in-Err-Failed-clause-ends g c =

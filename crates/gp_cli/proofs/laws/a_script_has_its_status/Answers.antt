@@ -1,0 +1,8 @@
+use Rattle.gp_cli.proofs.Statuses.{complete, refuse}
+use Rattle.gp_cli.proofs.laws.a_script_has_its_status.Goals as goal
+
+pub returns-clause-complete : goal.returns-clause-complete
+returns-clause-complete g = complete
+
+pub returns-clause-refuses : goal.returns-clause-refuses
+returns-clause-refuses g = refuse

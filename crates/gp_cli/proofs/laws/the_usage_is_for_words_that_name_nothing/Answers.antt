@@ -1,0 +1,8 @@
+use Rattle.gp_cli.proofs.Statuses.{misused, usage}
+use Rattle.gp_cli.proofs.laws.the_usage_is_for_words_that_name_nothing.Goals as goal
+
+pub returns-clause-misused : goal.returns-clause-misused
+returns-clause-misused g = misused
+
+pub returns-clause-usage : goal.returns-clause-usage
+returns-clause-usage g = usage
