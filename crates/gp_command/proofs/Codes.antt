@@ -1,10 +1,7 @@
 -- Different drafts have different codes.
-use Rattle.std.proofs.Common.{◌≡◌, ℕ, Bool, true, false, List, [], ◌∷◌, ◌++◌, take, length, refl, sym, ap, ◌∙◌, arith}
+use Rattle.std.proofs.Common.{◌≡◌, ◌↔◌, IsTrue, ℕ, Bool, true, false, List, [], ◌∷◌, ◌++◌, take, length, refl, sym, ap, ◌∙◌, arith}
 use Rattle.std.specs.List.{flat_map}
-use Rattle.std.specs.Cmp.{nat_cmp_total}
-use Rattle.std.specs.Cmp.Lexicographic.{slice_cmp, lists_total}
-use Rattle.std.specs.FinMap.{slice_cmp-IsAntisymmetric, nat_cmp-IsAntisymmetric}
-use Rattle.std.specs.Ordering.{is_eq, eq_by_cmp, nat_cmp}
+use Rattle.std.specs.Ordering.{is_eq, eq_by_cmp}
 use Rattle.std.proofs.Math.Seq.{take-append_seam}
 use Rattle.std.proofs.lemmas.List.{append_cancel_left, append_assoc}
 use Rattle.std.proofs.lemmas.Cmp.{tied_itself}
@@ -89,9 +86,7 @@ iff_true true false f g = sym (f refl)
 iff_true false true f g = g refl
 iff_true false false f g = refl
 
-pub equal_codes : (d e : DraftView) → eq_by_cmp (slice_cmp nat_cmp) (code d) (code e) ≡ eq_by_cmp draft_cmp d e
-equal_codes d e = iff_true (eq_by_cmp (slice_cmp nat_cmp) (code d) (code e)) (eq_by_cmp draft_cmp d e)
-    (λ same. let is = codes_apart d e (tells_apart (slice_cmp-IsAntisymmetric nat_cmp-IsAntisymmetric) (code d) (code e) same) in
-    ap (eq_by_cmp draft_cmp d) (sym is) ∙ ap is_eq (tied_itself draft_cmp_total d))
-    (λ same. let is = tells_apart tied_draft d e same in
-    ap (λ x. eq_by_cmp (slice_cmp nat_cmp) (code d) (code x)) (sym is) ∙ ap is_eq (tied_itself (lists_total nat_cmp_total) (code d)))
+pub equal_codes : (d e : DraftView) (b : Bool) → IsTrue b ↔ (code d ≡ code e) → b ≡ eq_by_cmp draft_cmp d e
+equal_codes d e b same = iff_true b (eq_by_cmp draft_cmp d e)
+    (λ yes. ap (eq_by_cmp draft_cmp d) (sym (codes_apart d e (same.0 yes))) ∙ ap is_eq (tied_itself draft_cmp_total d))
+    (λ tied. same.1 (ap code (tells_apart tied_draft d e tied)))

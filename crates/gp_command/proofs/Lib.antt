@@ -8,4 +8,5 @@ pub mod Touches
 pub mod TouchLoop
 pub mod Commands
 pub mod Extension
+pub mod Words
 pub mod Codes

@@ -9,3 +9,4 @@ pub mod Spelling
 pub mod Reading
 pub mod Mark
 pub mod Code
+pub mod Words

@@ -1,11 +1,70 @@
 //! Codes of drafts: the bytes by which drafts are compared for equality.
-ghost use Rattle.std.specs.Prelude.{◌≡◌, ◌≤◌, IfOk, length};
+ghost use Rattle.std.specs.Prelude.{◌≡◌, ◌↔◌, ◌≤◌, IsTrue, IfOk, length, get_or};
 ghost use Rattle.gp_command.specs.Code.{draft_code};
+ghost use Rattle.gp_command.specs.Words.{IsWord, IsHead};
 
 use crate::memory::NoMemory;
 use crate::touch::Touch;
 use crate::writing::push_foot;
 use std::alloc::Global;
+use std::marker::Model;
+
+// The number of bytes that a head has.
+const HEAD_BYTES: usize = 32;
+
+/// The bytes of a code. A contract sees a code as the list of them.
+#[derive(Drop, Debug)]
+pub struct Code {
+    bytes: Vec<u8>,
+    // the first 32 bytes, so that most codes are compared without a look at the others
+    head: Head,
+}
+
+/// The first 32 bytes of a code as four numbers of eight bytes, with zeros after its end.
+#[derive(Clone, Copy, Debug)]
+pub struct Head {
+    pub first: u64,
+    pub second: u64,
+    pub third: u64,
+    pub fourth: u64,
+}
+
+impl Model for Code {
+    ghost use Rattle.std.specs.Prelude.{ℕ, List};
+    ghost use Rattle.gp_command.specs.Words.{IsHead};
+
+    ghost Value = { List ℕ };
+
+    ghost view = { λ c. c.bytes.items };
+
+    ghost invariant = { λ c. IsHead c.head c.bytes.items };
+}
+
+impl Code {
+    /// The code with these bytes. It takes no memory.
+    pub fn new(bytes: Vec<u8>) -> Code
+        ensures { result ≡ bytes.items }
+    {
+        let head = head_of(&bytes);
+        Code { bytes, head }
+    }
+
+    /// Whether both have the same bytes. It takes no memory.
+    #[inline(always)]
+    pub fn is_same(&self, other: &Code) -> bool
+        ensures { IsTrue result ↔ (self.now ≡ other.now) }
+    {
+        let bytes = self.bytes.as_slice();
+        let others = other.bytes.as_slice();
+        if bytes.len() != others.len() {
+            return false;
+        }
+        if !are_same_heads(self.head, other.head) {
+            return false;
+        }
+        bytes.len() <= HEAD_BYTES || bytes == others
+    }
+}
 
 /// The code of the draft with these parts. Different drafts have different codes.
 pub fn code_of(
@@ -13,10 +72,10 @@ pub fn code_of(
     checkpoint: bool,
     foot: &[Touch],
     body: &[u8],
-) -> Result<Vec<u8>, NoMemory>
+) -> Result<Code, NoMemory>
     requires few { length foot.now ≤ 8 }
     requires short { length body.now ≤ 64 }
-    ensures { IfOk result (λ code. code.items ≡ draft_code checkpoint foot.now body.now) }
+    ensures { IfOk result (λ code. code ≡ draft_code checkpoint foot.now body.now) }
 {
     // the two numbers, at most 18 bytes a touch, and the body
     let room = 2 + 18 * foot.len() + body.len();
@@ -25,5 +84,49 @@ pub fn code_of(
     code.push(foot.len() as u8)?;
     push_foot(foot, &mut code)?;
     code.extend_from_slice(body)?;
-    Ok(code)
+    Ok(Code::new(code))
+}
+
+fn head_of(bytes: &[u8]) -> Head
+    ensures { IsHead result bytes.now }
+{
+    Head {
+        first: word(bytes, 0),
+        second: word(bytes, 8),
+        third: word(bytes, 16),
+        fourth: word(bytes, 24),
+    }
+}
+
+// Eight bytes from a place on as a number, with zeros after the end.
+fn word(bytes: &[u8], from: usize) -> u64
+    requires { from ≤ 24 }
+    ensures { IsWord result bytes.now from }
+{
+    u64::from_le_bytes([
+        byte(bytes, from),
+        byte(bytes, from + 1),
+        byte(bytes, from + 2),
+        byte(bytes, from + 3),
+        byte(bytes, from + 4),
+        byte(bytes, from + 5),
+        byte(bytes, from + 6),
+        byte(bytes, from + 7),
+    ])
+}
+
+fn byte(bytes: &[u8], place: usize) -> u8
+    ensures { result ≡ get_or bytes.now place 0 }
+{
+    match bytes.get(place) {
+        Some(byte) => *byte,
+        None => 0,
+    }
+}
+
+#[inline(always)]
+fn are_same_heads(a: Head, b: Head) -> bool
+    ensures { IsTrue result ↔ ((a.first ≡ b.first) × (a.second ≡ b.second) × (a.third ≡ b.third) × (a.fourth ≡ b.fourth)) }
+{
+    a.first == b.first && a.second == b.second && a.third == b.third && a.fourth == b.fourth
 }

@@ -6,7 +6,7 @@ ghost use Rattle.gp_command.specs.Mark.{foot_mark};
 ghost use Rattle.gp_command.specs.Refusal.{touching, checkpoint_of, refusal, long_body, IsRefusal};
 
 use crate::body::{Body, MOST_BYTES};
-use crate::code::code_of;
+use crate::code::{Code, code_of};
 use crate::foot::{Foot, MOST_TOUCHES, first_unsorted};
 use crate::memory::NoMemory;
 use crate::touch::Touch;
@@ -27,13 +27,13 @@ pub struct Draft {
 // What copies of a draft share.
 #[derive(Drop, Debug)]
 struct Parts {
-    checkpoint: bool,
+    // drafts are equal exactly if their codes are
+    code: Code,
     // drafts whose marks differ, with neither mark 0, do not conflict
     mark: u64,
+    checkpoint: bool,
     foot: Foot,
     body: Body,
-    // drafts are equal exactly if their codes are
-    code: Vec<u8>,
 }
 
 impl Model for Draft {
@@ -46,7 +46,7 @@ impl Model for Draft {
 
     ghost view = { λ d. record { checkpoint = d.parts.value.checkpoint; foot = d.parts.value.foot; body = d.parts.value.body } };
 
-    ghost invariant = { λ d. (d.parts.value.checkpoint ≡ true → d.parts.value.foot ≡ []) × (d.parts.value.mark ≡ foot_mark d.parts.value.foot) × (d.parts.value.code.items ≡ draft_code d.parts.value.checkpoint d.parts.value.foot d.parts.value.body) };
+    ghost invariant = { λ d. (d.parts.value.checkpoint ≡ true → d.parts.value.foot ≡ []) × (d.parts.value.mark ≡ foot_mark d.parts.value.foot) × (d.parts.value.code ≡ draft_code d.parts.value.checkpoint d.parts.value.foot d.parts.value.body) };
 }
 
 /// Why there is no draft. The first cause in this order decides.
@@ -123,11 +123,11 @@ impl Draft {
         let mark = mark_of(foot.as_slice());
         let code = code_of(alloc, checkpoint, foot.as_slice(), body.as_slice())?;
         let parts = Parts {
-            checkpoint,
+            code,
             mark,
+            checkpoint,
             foot,
             body,
-            code,
         };
         Ok(Draft {
             parts: Arc::new(alloc, parts)?,
@@ -152,15 +152,17 @@ impl Draft {
     }
 
     // Its code, which no other draft has.
-    fn code(&self) -> &[u8]
+    fn code(&self) -> &Code
         ensures { result.now ≡ draft_code self.now.checkpoint self.now.foot self.now.body }
     {
-        self.parts.code.as_slice()
+        &self.parts.code
     }
 
-    // The mark of its footprint: 0 unless there is exactly one touch.
+    /// The mark of its footprint: 0 unless there is exactly one touch, and else a number that depends on
+    /// its key alone. Two commands whose marks differ do not conflict, if neither mark is 0. It takes no
+    /// memory.
     #[tactic(auto, using(crate::proofs::Marks::marked_is_plain))]
-    pub(crate) fn mark(&self) -> u64
+    pub fn mark(&self) -> u64
         ensures value { result ≡ foot_mark self.now.foot }
         ensures plain { result ≢ 0 → self.now.checkpoint ≡ false }
     {
@@ -194,8 +196,9 @@ impl PartialEq for Draft {
 
     ghost laws = { partial_equiv_from_equiv (eq_by_cmp_equiv draft_cmp_total) };
 
+    #[inline(always)]
     fn eq(&self, other: &Draft) -> bool {
-        self.code() == other.code()
+        self.code().is_same(other.code())
     }
 }
 

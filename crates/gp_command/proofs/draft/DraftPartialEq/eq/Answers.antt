@@ -1,12 +1,10 @@
-use Rattle.std.proofs.Common.{◌∙◌}
-use Rattle.std.specs.Cmp.Lexicographic.{slice_cmp, texts_ties}
-use Rattle.std.specs.Ordering.{eq_by_cmp, nat_cmp}
+use Rattle.std.proofs.Common.{sym, ◌∙◌}
 use Rattle.gp_command.proofs.Codes.{equal_codes}
 use Rattle.gp_command.proofs.draft.DraftPartialEq.eq.Goals as goal
 
 pub returns : goal.returns
 returns c =
-    c.eq.ensures
-    ∙ texts_ties c.code.result.now c.code-2.result.now
-    ∙ (λ i. eq_by_cmp (slice_cmp nat_cmp) (c.code.ensures i) (c.code-2.ensures i))
-    ∙ equal_codes c.args.self.now c.args.other.now
+    equal_codes c.args.self.now c.args.other.now c.is_same.result (
+      (λ yes. sym c.code.ensures ∙ c.is_same.ensures.0 yes ∙ c.code-2.ensures),
+      (λ same. c.is_same.ensures.1 (c.code.ensures ∙ same ∙ sym c.code-2.ensures)),
+    )
