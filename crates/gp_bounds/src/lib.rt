@@ -4,6 +4,7 @@
 mod compatibles;
 mod joins;
 pub mod laws;
+mod marks;
 mod meets;
 
 pub use compatibles::compatible;

@@ -1,15 +1,17 @@
 //! Meets.
-ghost use Rattle.std.specs.Prelude.{◌≡◌, ◌&&◌, ◌<◌, ◌^◌, take, length, map, IfOk, IsTrue, Some};
+ghost use Rattle.std.specs.Prelude.{◌≡◌, ◌&&◌, ◌<◌, ◌≤◌, ◌^◌, take, length, map, IfOk, IsTrue, Some};
 ghost use Rattle.std.specs.Option.{option_map};
 ghost use Rattle.std.specs.List.{list_all};
 ghost use Rattle.gp_history.specs.History.{has};
 ghost use Rattle.gp_history.specs.Sequence.{history_of, place_in};
 ghost use Rattle.gp_history.specs.Bounds.{meet, meet_all};
 ghost use Rattle.gp_bounds.specs.Agree.{agrees, and_meet};
+ghost use Rattle.gp_bounds.specs.Marks.{AreCounted};
 
+use crate::marks::{MarkCounts, is_behind};
 use gp_command::{Command, NoMemory};
 use gp_history::Hist;
-use gp_history::walks::{common_start, is_behind};
+use gp_history::walks::common_start;
 use std::alloc::Global;
 
 /// The greatest history that is a prefix of both.
@@ -25,14 +27,27 @@ pub fn meet<H: Hist>(alloc: Global, a: &H, b: &H) -> Result<H, NoMemory>
         let whole = b.copy()?;
         return Ok(whole);
     }
+    meet_behind(alloc, a, b, from)
+}
+
+// The greatest history that is a prefix of both, whose first `from` commands are alike. It is apart
+// from `meet` for its large tables.
+#[inline(never)]
+fn meet_behind<H: Hist>(alloc: Global, a: &H, b: &H, from: usize) -> Result<H, NoMemory>
+    requires alike { take from (H.sequence a.now) ≡ take from (H.sequence b.now) }
+    requires left { from ≤ length (H.sequence a.now) }
+    ensures { IfOk result (λ m. history_of (H.sequence m) ≡ meet (history_of (H.sequence a.now)) (history_of (H.sequence b.now))) }
+{
     let mut kept = H::empty(alloc)?;
     for k in 0..from {
         let d = a.at(k);
         kept.push(d.copy()?)?;
     }
+    let a_counts = MarkCounts::of(a, from);
+    let b_counts = MarkCounts::of(b, from);
     for i in from..a.len() {
         let c = a.at(i);
-        if stays(a, i, b, &kept, c, from) {
+        if stays(&a_counts, &b_counts, a, i, b, &kept, c, from) {
             kept.push(c.copy()?)?;
         }
     }
@@ -41,7 +56,18 @@ pub fn meet<H: Hist>(alloc: Global, a: &H, b: &H) -> Result<H, NoMemory>
 
 // Whether a command of the first stays in the meet: the second has it, and what comes before it in
 // either stayed and comes before it in both.
-fn stays<H: Hist>(a: &H, i: usize, b: &H, kept: &H, d: &Command, from: usize) -> bool
+fn stays<H: Hist>(
+    a_counts: &MarkCounts,
+    b_counts: &MarkCounts,
+    a: &H,
+    i: usize,
+    b: &H,
+    kept: &H,
+    d: &Command,
+    from: usize,
+) -> bool
+    requires a_counted { AreCounted (H.sequence a.now) from (length (H.sequence a.now)) a_counts.now.counts a_counts.now.are_all_marked }
+    requires b_counted { AreCounted (H.sequence b.now) from (length (H.sequence b.now)) b_counts.now.counts b_counts.now.are_all_marked }
     requires there { place_in (H.sequence a.now) d.now ≡ Some i }
     requires within { i < length (H.sequence a.now) }
     requires alike { take from (H.sequence a.now) ≡ take from (H.sequence b.now) }
@@ -49,7 +75,10 @@ fn stays<H: Hist>(a: &H, i: usize, b: &H, kept: &H, d: &Command, from: usize) ->
     ensures { result ≡ (has (history_of (H.sequence b.now)) d.now && agrees (H.sequence a.now) (H.sequence b.now) (history_of (H.sequence kept.now)) d.now) }
 {
     match b.place_of(d, i) {
-        Some(j) => is_behind(a, i, b, j, kept, d, from) && is_behind(b, j, a, i, kept, d, from),
+        Some(j) => {
+            is_behind(a_counts, a, i, b, j, kept, d, from)
+                && is_behind(b_counts, b, j, a, i, kept, d, from)
+        }
         None => false,
     }
 }

@@ -2,7 +2,7 @@ use Rattle.std.proofs.Common.{◌≡◌, take}
 use Rattle.std.specs.Prelude.{filter}
 use Rattle.gp_history.specs.Sequence.{history_of}
 use Rattle.gp_history.specs.Bounds.{in_meet}
-use Rattle.gp_bounds.proofs.meets.meet.Given as goal
+use Rattle.gp_bounds.proofs.meets.meet_behind.Given as goal
 
 abbrev pub invariant-loop-k : goal.invariant-loop-k
 invariant-loop-k g l = let sequence = g.H.Hist.sequence in history_of (sequence l.kept) ≡ history_of (take l.k (sequence l.a))
