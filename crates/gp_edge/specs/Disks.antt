@@ -3,12 +3,12 @@ use Rattle.std.specs.Prelude.{◌≡◌, ◌⊎◌, ℕ, ◌+◌, ◌-◌, ◌�
 use Rattle.gp_edge.specs.declared.refusal.Refused.{Refused}
 use Rattle.gp_edge.specs.Faults.{Rose, HasFailed}
 
--- where the object tells its content, it has P
+-- if the object reveals its content, that has P
 abbrev pub IfRevealed : Option (List ℕ) → (List ℕ → Type 0) → Type 0
 IfRevealed None P = Unit {0}
 IfRevealed (Some s) P = P s
 
--- it still tells, or still does not
+-- it still reveals its content, or still does not
 abbrev pub RevealsAlike : Option (List ℕ) → Option (List ℕ) → Type 0
 RevealsAlike None None = Unit {0}
 RevealsAlike (Some s) (Some t) = Unit {0}
@@ -23,7 +23,7 @@ padded len old = old ++ replicate (len - length old) 0
 abbrev pub put : ℕ → List ℕ → List ℕ → List ℕ
 put at bytes old = take at (padded at old) ++ bytes ++ drop (at + length bytes) old
 
--- what holds of what a read gives before and after a call, where it is told
+-- what holds of what a read gives before and after a call, if it is revealed
 abbrev pub IfBothRevealed : (List ℕ → List ℕ → Type 0) → Option (List ℕ) → Option (List ℕ) → Type 0
 IfBothRevealed P old new = IfRevealed old (λ s. IfRevealed new (λ t. P s t))
 

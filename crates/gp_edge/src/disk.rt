@@ -4,12 +4,13 @@ ghost use Rattle.gp_edge.specs.Disks.{IfRevealed, RevealsAlike, IfBothRevealed, 
 
 use crate::refusal::Refused;
 
-/// A disk: a place for bytes that may be lost in a crash until they are synced.
+/// A disk: bytes that a crash may lose until they are synced.
 ///
 /// Between two syncs each range that was written, and what lies past the old end, may hold any bytes
-/// after a crash, and the bytes outside stay. After a write that was refused the same holds.
+/// after a crash, and the bytes outside are unchanged. After a write that was refused the same holds.
+/// Each call that fails raises the number of faults, unless it is 2^64 - 1, and no other call changes it.
 pub trait Disk: Drop {
-    /// What reads give, where the disk tells it.
+    /// What reads give, if the disk reveals it.
     ghost content: { Self → Option (List ℕ) };
 
     /// What a crash now may leave.
@@ -21,10 +22,10 @@ pub trait Disk: Drop {
     /// What a crash at some moment from that one on might have left.
     ghost since: { Self → ℕ → List ℕ → Type 0 };
 
-    /// The count of faults, which never falls. At 2^64 - 1 it need not rise any more.
+    /// The number of faults, which never falls. At 2^64 - 1 it need not rise any more.
     ghost faults: { Self → ℕ };
 
-    /// How many bytes there are.
+    /// The number of bytes.
     fn len(&mut self) -> Result<u64, Refused>
         ensures len { IfOk result (λ n. IfRevealed (content self.old) (λ s. n ≡ length s)) }
         ensures content { content self.new ≡ content self.old }
@@ -32,8 +33,8 @@ pub trait Disk: Drop {
         ensures time { Elapses (moment self.old) (moment self.new) (since self.old) (since self.new) (image self.new) }
         ensures count { Counts (faults self.old) (faults self.new) result };
 
-    /// Puts the bytes from the place `at` on at the front of the piece, and answers how many: fewer
-    /// than the piece has room for exactly at the end.
+    /// Moves the bytes from the place `at` on to the front of the piece, and answers how many: fewer than
+    /// the piece has room for only if no more bytes follow.
     fn read_at(&mut self, at: u64, into: &mut [u8]) -> Result<usize, Refused>
         ensures within { IfOk result (λ n. n ≤ length into.old) }
         ensures bytes { IfOk result (λ n. IfRevealed (content self.old) (λ s. ReadsAt s at n into.old into.new)) }
@@ -42,7 +43,8 @@ pub trait Disk: Drop {
         ensures time { Elapses (moment self.old) (moment self.new) (since self.old) (since self.new) (image self.new) }
         ensures count { Counts (faults self.old) (faults self.new) result };
 
-    /// Writes the bytes from the place `at` on. Where the end lies before it the bytes between are zero.
+    /// Writes the bytes from the place `at` on. If the end lies before that place, the bytes between become
+    /// zero.
     fn write_at(&mut self, at: u64, from: &[u8]) -> Result<(), Refused>
         ensures written { OnOk result (IfBothRevealed (λ s t. t ≡ put at from.now s) (content self.old) (content self.new)) }
         ensures reveals { RevealsAlike (content self.old) (content self.new) }
@@ -50,7 +52,7 @@ pub trait Disk: Drop {
         ensures time { Elapses (moment self.old) (moment self.new) (since self.old) (since self.new) (image self.new) }
         ensures count { Counts (faults self.old) (faults self.new) result };
 
-    /// Leaves the first `len` bytes, and all of them where there are no more.
+    /// Leaves the first `len` bytes, and all of them if there are no more.
     fn cut(&mut self, len: u64) -> Result<(), Refused>
         ensures cut { OnOk result (IfBothRevealed (λ s t. t ≡ take len s) (content self.old) (content self.new)) }
         ensures reveals { RevealsAlike (content self.old) (content self.new) }
@@ -58,7 +60,7 @@ pub trait Disk: Drop {
         ensures time { Elapses (moment self.old) (moment self.new) (since self.old) (since self.new) (image self.new) }
         ensures count { Counts (faults self.old) (faults self.new) result };
 
-    /// After it, a crash leaves what reads give.
+    /// Makes what was written durable: after `Ok` a crash leaves what reads give.
     fn sync(&mut self) -> Result<(), Refused>
         ensures durable { OnOk result (IfRevealed (content self.old) (λ s. Only s (image self.new))) }
         ensures content { content self.new ≡ content self.old }

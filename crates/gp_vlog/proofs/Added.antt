@@ -1,26 +1,25 @@
 -- What votes add to each other.
-use Rattle.std.proofs.Common.{◌≡◌, ℕ, zero, suc, ◌+◌, ◌<◌, ◌≤◌, Bool, true, false, cond, List, [], ◌∷◌, ◌++◌, length, get_or, take, drop, Some, refl, sym, ap, subst, ◌∙◌, inl, inr, arith}
-use Rattle.std.specs.Prelude.{not, ◌&&◌, ◌||◌, filter, IsTrue, ◌↔◌, slice_index_or, slice_get}
+use Rattle.std.proofs.Common.{◌≡◌, ℕ, zero, suc, ◌+◌, ◌<◌, Bool, true, false, cond, List, [], ◌∷◌, ◌++◌, length, get_or, take, Some, refl, sym, ap, subst, ◌∙◌, arith}
+use Rattle.std.specs.Prelude.{not, slice_index_or, slice_get}
 use Rattle.std.specs.Prelude.{Option, None, IfSome}
 use Rattle.std.specs.Option.{option_map}
 use Rattle.gp_vlog.specs.Bodies.{base_or_empty}
-use Rattle.std.specs.FinSet as set
-use Rattle.std.specs.List.{list_any, list_all, All}
+use Rattle.std.specs.List.{list_any, All}
 use Rattle.gp_command.specs.declared.command.Command.{Command}
 use Rattle.gp_command.specs.Conflict.{same}
 use Rattle.gp_command.proofs.ConflictLemmas.{same_itself, same-true}
-use Rattle.gp_history.specs.History.{History, IsHistory, IsPrefix, has, before, push, pushes, empty}
+use Rattle.gp_history.specs.History.{History, IsHistory, IsPrefix, has, push, pushes, empty}
 use Rattle.gp_history.specs.Sequence.{history_of}
 use Rattle.gp_history.specs.Canonical.{canonical}
-use Rattle.gp_history.proofs.Tests.{In, both, fst_of, snd_of, left_of, right_of, one_of, iff_true, not_true, turned_false, all_gives, all_from, by_cases, never}
+use Rattle.gp_history.proofs.Tests.{In, both, fst_of, snd_of, left_of, right_of, one_of, by_cases, never}
 use Rattle.gp_history.proofs.Sets.{has_history_of}
-use Rattle.gp_history.proofs.Joins.{empty_none, history_of_is, history_of-empty, history_of-push}
+use Rattle.gp_history.proofs.Joins.{empty_none, history_of-empty, history_of-push}
 use Rattle.gp_history.proofs.Push.{push_there, has-push}
-use Rattle.gp_history.proofs.Bound.{extended_by, empty_is_history}
+use Rattle.gp_history.proofs.Bound.{extended_by}
 use Rattle.std.proofs.lemmas.List.{take_more}
 use Rattle.gp_history.proofs.Places.{take_next}
 use Rattle.gp_history.proofs.Canonical.{in_filtered, canonical_stands}
-use Rattle.gp_vlog.specs.Prefixes.{agree, is_prefix, fresh, additions, are_same, adds}
+use Rattle.gp_vlog.specs.Prefixes.{fresh, additions, are_same, adds}
 
 -- ---- members
 

@@ -1,5 +1,5 @@
 -- An append and a renewal of a log that a disk holds.
-use Rattle.std.proofs.Common.{◌≡◌, ◌≢◌, ◌⊎◌, ℕ, zero, suc, ◌+◌, ◌-◌, ◌<◌, ◌≤◌, Bool, true, false, List, [], ◌∷◌, ◌++◌, map, length, inl, inr, ⊎_elim, arith, Option, Some, None, Result, Ok, Err, refl, sym, ap, ◌∙◌, subst}
+use Rattle.std.proofs.Common.{◌≡◌, ◌⊎◌, ℕ, ◌+◌, ◌-◌, ◌≤◌, Bool, true, false, List, [], ◌∷◌, ◌++◌, length, inl, inr, ⊎_elim, arith, Option, Some, None, Ok, refl, sym, ap, ◌∙◌, subst}
 use Rattle.std.specs.Prelude.{not, slice_get, nat_le, ◌&&◌}
 use Rattle.std.specs.Option.{option_map}
 use Rattle.std.specs.Int.{w32, to_le_bytes}
@@ -7,8 +7,7 @@ use Rattle.std.proofs.lemmas.Bool.{le-leb}
 use Rattle.std.proofs.lemmas.List.{length-append, map-append}
 use Rattle.gp_edge.specs.Disks.{IfRevealed, RevealsAlike, IfBothRevealed, Only, put, Torn, LeavesOnly}
 use Rattle.gp_msg.specs.declared.durable.Durable.{Durable}
-use Rattle.gp_msg.specs.Messages.{part_of}
-use Rattle.gp_vlog.specs.Bodies.{LogEntry, entry_of, entry_with}
+use Rattle.gp_vlog.specs.Bodies.{LogEntry, entry_of}
 use Rattle.gp_vlog.specs.Gates.{block}
 use Rattle.gp_vlog.specs.Files.{is_limit, is_second, first_gate, Contents, read_log}
 use Rattle.gp_vlog.specs.Logs.{LogState, IsOnDisk, Shows, HoldsEntries, OldOrAdded, OldOrRenewed, entry_for, log_entries, last}

@@ -1,16 +1,14 @@
 -- A loop over the gates of an area.
-use Rattle.std.proofs.Common.{◌≡◌, ◌≢◌, ℕ, zero, suc, ◌+◌, ◌-◌, ◌<◌, ◌≤◌, Bool, true, false, cond, List, [], ◌∷◌, ◌++◌, map, length, get_or, take, drop, Option, Some, None, Result, Ok, Err, refl, sym, ap, ◌∙◌, subst, append_assoc, arith}
+use Rattle.std.proofs.Common.{◌≡◌, ◌≢◌, ℕ, zero, suc, ◌+◌, ◌-◌, ◌<◌, ◌≤◌, Bool, true, false, cond, List, [], ◌∷◌, ◌++◌, length, get_or, take, drop, Option, Some, None, Result, Ok, Err, refl, sym, ap, ◌∙◌, subst, arith}
 use Rattle.std.specs.Prelude.{not, slice_get, IfSome}
 use Rattle.std.specs.List.{All}
 use Rattle.std.specs.Option.{option_map}
 use Rattle.std.proofs.lemmas.List.{append-nil, drop_more, drop-drop, length-drop, length-take-le, map-append}
-use Rattle.std.proofs.lemmas.Bool.{true≢false}
 use Rattle.gp_msg.specs.declared.durable.Durable.{Durable}
-use Rattle.gp_msg.specs.Messages.{part_of}
 use Rattle.gp_vlog.specs.Bodies.{LogEntry, ◌>>=◌, kind_of, epoch_at, part_at, part_before, fits_version, entry_with, entry_of}
-use Rattle.gp_vlog.specs.Gates.{length_at, body_at, meant_by, opened, with_first, goes_on, area}
+use Rattle.gp_vlog.specs.Gates.{length_at, body_at, meant_by, opened, goes_on, area}
 use Rattle.gp_vlog.specs.Logs.{entry_for, log_entries, last}
-use Rattle.gp_vlog.proofs.Areas.{after, after_ok, after_err, after_more, Holds, opened_holds, area_step, area_closed}
+use Rattle.gp_vlog.proofs.Areas.{after, after_ok, after_err, after_more, opened_holds, area_step, area_closed}
 use Rattle.gp_vlog.proofs.Written.{when_some, bind_some, finish}
 
 module _ {E : Type 0} (meaning : Option E → List ℕ → Option E) (room : ℕ) (bytes : List ℕ) (all : Result (List E × ℕ) ℕ) where
@@ -26,7 +24,7 @@ module _ {E : Type 0} (meaning : Option E → List ℕ → Option E) (room : ℕ
       ∙ after_ok meaning room es [] at
       ∙ ap (λ (l : List E). Ok (l, at)) (append-nil es)
 
-  at_end : (before : Option E) (at : ℕ) → area meaning room before at zero [] ≡ Err at
+  pub at_end : (before : Option E) (at : ℕ) → area meaning room before at zero [] ≡ Err at
   unfolding area
   at_end before at = refl
 
@@ -41,7 +39,7 @@ module _ {E : Type 0} (meaning : Option E → List ℕ → Option E) (room : ℕ
       nothing (x ∷ xs) zero le = absurd (omega arith)
       nothing (x ∷ xs) (suc n) le = nothing xs n (omega arith)
 
-  broken_gate : (before : Option E) (at gate : ℕ) (rest : List ℕ) → gate ≢ 0 → opened meaning room before at rest ≡ None → area meaning room before at zero (gate ∷ rest) ≡ Err at
+  pub broken_gate : (before : Option E) (at gate : ℕ) (rest : List ℕ) → gate ≢ 0 → opened meaning room before at rest ≡ None → area meaning room before at zero (gate ∷ rest) ≡ Err at
   unfolding area
   broken_gate before at zero rest is_open none = absurd (is_open refl)
   broken_gate before at (suc gate) rest is_open none = ap (λ o. goes_on at o (λ f. area meaning room (Some f) (at + (5 + length_at rest)) (4 + length_at rest) rest)) none

@@ -1,7 +1,6 @@
 -- How runs of disk calls go on, where the disk tells.
-use Rattle.std.proofs.Common.{◌≡◌, ◌⊎◌, ℕ, ◌+◌, List, ◌∷◌, [], length, take, min, max, ◌≤◌, inl, inr, ⊎_elim, arith, Option, Some, None, refl, sym, subst}
-use Rattle.std.proofs.lemmas.List.{take_min}
-use Rattle.gp_edge.specs.Disks.{IfRevealed, RevealsAlike, IfBothRevealed, Only, put, Torn, LeavesOnly}
+use Rattle.std.proofs.Common.{◌≡◌, ℕ, List, inl, inr, ⊎_elim, arith, Option, Some, None, refl, subst}
+use Rattle.gp_edge.specs.Disks.{IfRevealed, RevealsAlike, LeavesOnly}
 
 pub tell : (o : Option (List ℕ)) (P : List ℕ → Type 0) → ((s : List ℕ) → o ≡ Some s → P s) → IfRevealed o P
 tell None P f = tt

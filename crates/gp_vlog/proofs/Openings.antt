@@ -1,13 +1,13 @@
 -- A log that is begun, and one that is read again.
-use Rattle.std.proofs.Common.{◌≡◌, ℕ, ◌+◌, ◌-◌, ◌<◌, ◌≤◌, Bool, true, false, List, [], ◌∷◌, ◌++◌, length, take, drop, Option, Some, None, Result, Ok, Err, refl, sym, ap, ◌∙◌, subst, arith}
+use Rattle.std.proofs.Common.{◌≡◌, ℕ, ◌+◌, ◌-◌, ◌<◌, ◌≤◌, Bool, true, false, List, [], ◌∷◌, ◌++◌, length, Option, None, Ok, Err, refl, sym, ap, ◌∙◌, subst, arith}
 use Rattle.std.specs.Prelude.{nat_eq}
 use Rattle.std.specs.Int.{w32, to_le_bytes}
-use Rattle.std.proofs.lemmas.Bool.{eqb-true, eq-eqb}
+use Rattle.std.proofs.lemmas.Bool.{eq-eqb}
 use Rattle.std.proofs.lemmas.Nat.{from_le_bytes-to_le_bytes_4}
 use Rattle.gp_edge.specs.Disks.{IfRevealed, Only}
 use Rattle.gp_msg.specs.declared.durable.Durable.{Durable}
 use Rattle.gp_vlog.specs.Bodies.{LogEntry, entry_of}
-use Rattle.gp_vlog.specs.Files.{is_limit, is_second, Contents, read_log, head_bytes}
+use Rattle.gp_vlog.specs.Files.{is_limit, Contents, read_log, head_bytes}
 use Rattle.std.proofs.lemmas.List.{length-map}
 use Rattle.gp_vlog.specs.Logs.{IsOnDisk, Shows, HoldsEntries, entry_for, log_entries, has_old}
 use Rattle.gp_vlog.proofs.Areas.{leads_none}

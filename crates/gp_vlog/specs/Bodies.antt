@@ -1,10 +1,10 @@
 -- The body of an entry: what it stands for behind another entry, and what is written for a durable part.
-use Rattle.std.specs.Prelude.{◌≡◌, ◌≤◌, ◌<◌, ◌^◌, ℕ, zero, suc, ◌+◌, Bool, true, false, not, ◌&&◌, ◌||◌, cond, List, [], ◌∷◌, ◌++◌, length, drop, Option, Some, None, Result, Ok, Err, nat_lt, nat_le, nat_eq, if◌then◌else◌}
+use Rattle.std.specs.Prelude.{◌≡◌, ℕ, zero, suc, ◌+◌, Bool, true, false, not, ◌&&◌, ◌||◌, List, [], ◌∷◌, ◌++◌, length, drop, Option, Some, None, Result, Ok, Err, nat_lt, nat_le, nat_eq, if◌then◌else◌}
 use Rattle.std.specs.Int.{w32, to_le_bytes, from_le_bytes}
-use Rattle.std.specs.List.{flat_map, AllByRecursion}
+use Rattle.std.specs.List.{flat_map}
 use Rattle.gp_command.specs.declared.command.Command.{Command}
 use Rattle.gp_command.specs.declared.reading.ReadRefused.{ReadRefused}
-use Rattle.gp_command.specs.Spelling.{spelling, IsNumbered}
+use Rattle.gp_command.specs.Spelling.{spelling}
 use Rattle.gp_command.specs.Reading.{reading, when}
 use Rattle.gp_history.specs.History.{History, empty, size, pushes}
 use Rattle.gp_round.specs.declared.round.Mode.{Mode}

@@ -1,5 +1,5 @@
 -- What was found in a log.
-use Rattle.std.specs.Prelude.{ℕ, Bool, List}
+use Rattle.std.specs.Prelude.{ℕ, List}
 use Rattle.gp_vlog.specs.declared.area.Area.{Area}
 use Rattle.gp_vlog.specs.declared.header.Header.{Header}
 use Rattle.gp_vlog.specs.declared.file.Found.{Found}

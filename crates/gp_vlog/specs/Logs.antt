@@ -1,5 +1,5 @@
 -- What contracts see of a log, and what its disk holds.
-use Rattle.std.specs.Prelude.{◌≡◌, ◌≤◌, ◌<◌, ◌⊎◌, ℕ, ◌+◌, Bool, true, false, List, [], ◌∷◌, ◌++◌, map, length, ◌-◌, slice_get, Option, Some, None, Result, Ok, Err}
+use Rattle.std.specs.Prelude.{◌≡◌, ◌≤◌, ◌<◌, ◌⊎◌, ℕ, ◌+◌, Bool, true, false, List, [], ◌∷◌, ◌++◌, map, length, ◌-◌, slice_get, Option, Result, Ok, Err}
 use Rattle.std.specs.List.{All, list_any}
 use Rattle.gp_command.specs.Spelling.{IsNumbered}
 use Rattle.gp_edge.specs.Disks.{IfRevealed, Only}

@@ -1,5 +1,5 @@
 -- How what the code reads and the definitions agree.
-use Rattle.std.specs.Prelude.{◌≡◌, ◌≤◌, ℕ, Bool, true, false, List, Option, Some, None, Result, Ok, Err, nat_eq}
+use Rattle.std.specs.Prelude.{◌≡◌, ◌≤◌, ℕ, Bool, List, Option, Some, None, Result, Ok, Err, nat_eq}
 use Rattle.gp_edge.specs.Disks.{IfRevealed}
 use Rattle.gp_vlog.specs.declared.reading.Unread.{Unread}
 use Rattle.gp_vlog.specs.declared.reading.Unread.TheVariants as unread
@@ -17,7 +17,7 @@ abbrev pub Gives : {X Y : Type 0} → (X → Y) → Result X Unread → Option Y
 Gives view (Ok x) read = read ≡ Some (view x)
 Gives view (Err e) read = IsUnread e read
 
--- the format breaks at the place that is told; want of memory is free, and there is no other cause
+-- the format breaks at the place that is answered; running out of memory is free, and there is no other cause
 abbrev pub IsBroken : {Y : Type 0} → OpenFault → Result Y ℕ → Type 0
 IsBroken (NotLog at) read = read ≡ Err at
 IsBroken Disk read = ⊥
@@ -38,7 +38,7 @@ IsInside len (NotLog at) = at ≤ len
 IsInside len Disk = Unit {0}
 IsInside len NoMemory = Unit {0}
 
--- where the content is told, its bytes break the format at the place that is told
+-- if the content is revealed, its bytes break the format at the place that is answered
 abbrev pub BreaksAt : (ℕ → Bool) → Option (List ℕ) → OpenFault → Type 0
 BreaksAt in_range content (NotLog at) = IfRevealed content (λ s. read_log in_range s ≡ Err at)
 BreaksAt in_range content Disk = Unit {0}

@@ -1,4 +1,4 @@
-//! Runs of calls of a disk.
+//! The calls of a disk that a log makes, in their order.
 ghost use Rattle.std.specs.Prelude.{◌≡◌, ◌≤◌, ◌<◌, ◌+◌, ◌⊎◌, ◌++◌, ◌∷◌, [], ℕ, List, length, Ok, OnOk, IfOk, IfErr, true};
 ghost use Rattle.gp_edge.specs.Disks.{IfRevealed, RevealsAlike, IfBothRevealed, put, Torn, Only, NoMore, Counts, LeavesOnly};
 ghost use Rattle.gp_vlog.specs.Causes.{HasOpenCause, IsNoPlace};

@@ -1,4 +1,4 @@
-//! The log of one node.
+//! The log of one node: it is created, opened, appended to and renewed.
 ghost use Rattle.std.specs.Prelude.{All, ◌≡◌, ◌≤◌, ◌<◌, ◌++◌, ◌∷◌, [], true, false, None, Some, OnOk, OnErr, IfOk, IfErr, length, slice_get, nat_eq};
 ghost use Rattle.std.specs.Option.{option_map};
 ghost use Rattle.gp_edge.specs.Disks.{IfRevealed, LeavesOnly};
@@ -20,6 +20,13 @@ use std::alloc::Global;
 use std::marker::Model;
 
 /// The durable parts of one node, in order, on a disk.
+///
+/// A log is ready after it was created or opened, and after each append and renewal that succeeded or
+/// found no room. It then knows what its disk holds: a crash leaves the entries that it shows. After
+/// `Disk` and `NoMemory` it is not ready, and `reopen` reads it again.
+///
+/// Contracts speak of what the disk holds if the disk reveals its content. The file format is in
+/// docs/FORMATS.md. All entries are in memory, and opening reads the whole file into memory.
 #[derive(Drop)]
 pub struct Log<D: Disk> {
     alloc: Global,
@@ -28,9 +35,9 @@ pub struct Log<D: Disk> {
     // whether the second area is the active one
     second: bool,
     entries: Vec<Durable>,
-    // whether the entries are of version 1
+    // whether the entries were written in version 1 of the format
     first_version: bool,
-    // the place of the closed gate in the active area
+    // the place of the closed gate, from the first gate of the active area on
     closed: u64,
     ready: bool,
 }
@@ -46,7 +53,7 @@ impl<D: Disk> Model for Log<D> {
     ghost invariant = { λ l. IsOnDisk D.content D.image l.disk l.limit l.second l.first_version (log_entries l.first_version l.entries.items) l.closed l.ready };
 }
 
-/// Why a log was not opened, and its disk.
+/// Why a log was not created or opened, and the disk that comes back.
 #[derive(Drop)]
 pub struct Unopened<D: Disk> {
     pub why: OpenFault,
@@ -54,8 +61,11 @@ pub struct Unopened<D: Disk> {
 }
 
 impl<D: Disk> Log<D> {
-    /// A new log without entries, on a disk whose bytes are lost. What a crash inside this call leaves
-    /// is not said.
+    /// Makes a log without entries, whose size is at most `limit` bytes. What the disk held is lost.
+    ///
+    /// It cuts the disk to nothing, writes the header with one closed gate, and syncs. It is refused with
+    /// `Disk` only if the number of faults of the disk has risen, and with `NoMemory` if memory runs out.
+    /// Nothing is promised of a crash inside this call.
     pub fn create(alloc: Global, disk: D, limit: u32) -> Result<Log<D>, Unopened<D>>
         requires low { 64 ≤ limit }
         requires high { limit ≤ 67108864 }
@@ -64,7 +74,7 @@ impl<D: Disk> Log<D> {
         ensures size { IfOk result (λ log. log.size ≡ 17) }
         ensures new { IfOk result (λ log. log.is_old ≡ false) }
         ensures ready { IfOk result (λ log. (log.ready ≡ true) × IsReady D.content D.image log) }
-        ensures log { IfErr result (λ e. IsNoPlace e.why) }
+        ensures why { IfErr result (λ e. IsNoPlace e.why) }
         ensures cause { HasOpenCause (D.faults disk) (D.faults (disk_of result)) (outcome_of result) }
     {
         let mut disk = disk;
@@ -83,7 +93,12 @@ impl<D: Disk> Log<D> {
         }
     }
 
-    /// The log that a disk holds, with all its entries.
+    /// Opens the log that a disk holds, with all its entries.
+    ///
+    /// It syncs and reads, and changes no byte. It is refused with `NotLog` only if the bytes break the
+    /// format, at the smallest place where they do; with `Disk` only if the number of faults of the disk
+    /// has risen; and with `NoMemory` if memory runs out. A disk on which a log was created is never
+    /// refused with `NotLog`, also after a crash inside an append or a renewal (`laws`).
     pub fn open(alloc: Global, disk: D) -> Result<Log<D>, Unopened<D>>
         ensures ready { IfOk result (λ log. (log.ready ≡ true) × IsReady D.content D.image log) }
         ensures rules { IfOk result (λ log. All KeepsRules log.entries) }
@@ -108,7 +123,10 @@ impl<D: Disk> Log<D> {
         }
     }
 
-    /// Reads the log again from its disk. Where it is refused the log is not ready.
+    /// Reads the log again from its disk, as `open` does, and makes it ready.
+    ///
+    /// A limit other than that of this log counts as out of range, so the limit of a log never changes.
+    /// The refusals are those of `open`, and after each the log is not ready.
     pub fn reopen(&mut self) -> Result<(), OpenFault>
         ensures ready { OnOk result ((self.new.ready ≡ true) × IsReady D.content D.image self.new) }
         ensures rules { OnOk result (All KeepsRules self.new.entries) }
@@ -129,7 +147,8 @@ impl<D: Disk> Log<D> {
         Ok(())
     }
 
-    /// Whether it has an entry of version 1.
+    /// Whether it has an entry of version 1 of the format. Such a log is read but not appended to:
+    /// `renew` with its last entry takes it on. It takes no memory.
     #[tactic(auto, using(crate::proofs::Openings::old_is_had))]
     pub fn is_old(&self) -> bool
         ensures value { result ≡ self.now.is_old }
@@ -138,14 +157,14 @@ impl<D: Disk> Log<D> {
         self.first_version
     }
 
-    /// How many entries there are.
+    /// The number of entries. It takes no memory.
     pub fn count(&self) -> usize
         ensures { result ≡ length self.now.entries }
     {
         self.entries.len()
     }
 
-    /// An entry.
+    /// Entry `i`, from 0, the oldest first. It takes no memory.
     pub fn entry(&self, i: usize) -> &Durable
         requires { i < length self.now.entries }
         ensures { slice_get self.now.entries i ≡ Some result.now }
@@ -153,14 +172,14 @@ impl<D: Disk> Log<D> {
         &self.entries[i]
     }
 
-    /// How many bytes of its limit it takes.
+    /// The number of bytes that it takes of its limit. It takes no memory.
     pub fn size(&self) -> u64
         ensures { result ≡ self.now.size }
     {
         17 + self.closed
     }
 
-    /// The disk that it is on.
+    /// The disk, which comes back. It takes no memory.
     pub fn into_disk(self) -> D
         ensures { result ≡ self.disk }
     {
@@ -168,7 +187,7 @@ impl<D: Disk> Log<D> {
         disk
     }
 
-    /// Whether it may be appended to.
+    /// Whether it may be appended to and renewed. It takes no memory.
     pub fn is_ready(&self) -> bool
         ensures value { result ≡ self.now.ready }
         ensures ready { result ≡ true → IsReady D.content D.image self.now }
@@ -176,8 +195,16 @@ impl<D: Disk> Log<D> {
         self.ready
     }
 
-    /// Appends an entry behind the others. At `Ok` it is acknowledged: from then on a crash leaves a log
-    /// that has it.
+    /// Appends an entry after the others. After `Ok` each crash leaves a log that has it.
+    ///
+    /// The entry and its closed gate are written and synced first; the gate before it is then opened by a
+    /// write of one byte, and synced. So a crash inside the call leaves the entries from before it, or
+    /// these and the new one. An acceptor's entry holds what its vote adds to the one before, if that is
+    /// a vote of the same epoch that is not empty and a prefix of it; else it holds the whole vote.
+    ///
+    /// It is refused with `Full` exactly if the size and the need of the entry exceed the limit, and the
+    /// log is as it was; with `Disk` only if the number of faults of the disk has risen; and with
+    /// `NoMemory` if memory runs out. After these two the log is not ready, even if nothing was written.
     pub fn append(&mut self, entry: &Durable) -> Result<(), AppendFault>
         requires ready { self.old.ready ≡ true }
         requires new { self.old.is_old ≡ false }
@@ -203,7 +230,14 @@ impl<D: Disk> Log<D> {
         Ok(())
     }
 
-    /// Makes an entry the only one. At `Ok` it is acknowledged.
+    /// Makes an entry the only one, with the whole vote in it. After `Ok` each crash leaves a log that has
+    /// this entry alone.
+    ///
+    /// The entry is written into the area that is not active and synced; the switch in the header is then
+    /// turned by a write of one byte, and synced. So a crash inside the call leaves the entries from
+    /// before it, or the new one alone.
+    ///
+    /// The refusals are those of `append`, with 17 for the size.
     pub fn renew(&mut self, entry: &Durable) -> Result<(), AppendFault>
         requires ready { self.old.ready ≡ true }
         requires rules { KeepsRules entry.now }

@@ -8,7 +8,9 @@ use gp_history::Hist;
 use gp_index::History;
 use gp_msg::Durable;
 
-/// Whether a log may hold this durable part.
+/// Whether a log may hold this durable part: its rounds are round zero or may be begun by a coordinator,
+/// a vote is of no later round than the acceptor's, and each command has the identity of an offer. Only
+/// a caller that does not know this of its entries needs to ask. It takes no memory.
 pub fn keeps_rules(part: &Durable) -> bool
     ensures { result ≡ true → KeepsRules part.now }
 {

@@ -1,8 +1,8 @@
-use Rattle.std.proofs.Common.{◌≡◌, ◌≢◌, ℕ, ◌+◌, ◌-◌, ◌≤◌, ◌++◌, ◌∷◌, [], List, length, take, drop, Option, Some, None, sym, ap, subst, ◌∙◌, arith, rules}
+use Rattle.std.proofs.Common.{◌≡◌, ◌+◌, ◌++◌, ◌∷◌, [], length, drop, Some, None, sym, ap, ◌∙◌, arith, rules}
 use Rattle.std.specs.Option.{option_copied, option_map}
 use Rattle.std.proofs.lemmas.List.{take_rest, length-append}
 use Rattle.std.proofs.lemmas.List.Elements.{All-push}
-use Rattle.gp_vlog.specs.Bodies.{LogEntry, entry_of}
+use Rattle.gp_vlog.specs.Bodies.{entry_of}
 use Rattle.gp_vlog.specs.Gates.{area, body_at, meant_by}
 use Rattle.gp_vlog.specs.Logs.{entry_for, log_entries, last, KeepsRules}
 use Rattle.gp_vlog.proofs.Areas.{after}

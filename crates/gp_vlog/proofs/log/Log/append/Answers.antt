@@ -1,16 +1,13 @@
-use Rattle.std.proofs.Common.{◌≡◌, ◌++◌, ◌∷◌, [], true, false, not, None, Some, ℕ, ◌+◌, ◌-◌, ◌≤◌, length, take, drop, List, map, sym, ap, ◌∙◌, subst, inl, refl, arith, rules}
+use Rattle.std.proofs.Common.{◌≡◌, ◌++◌, ◌∷◌, [], false, None, Some, ◌+◌, ◌-◌, ◌≤◌, length, take, drop, sym, ap, ◌∙◌, inl, arith, rules}
 use Rattle.std.proofs.lemmas.List.{take_rest}
-use Rattle.std.specs.Prelude.{slice_get, IfOk}
 use Rattle.std.specs.Option.{option_map, option_copied}
-use Rattle.gp_edge.specs.Disks.{IfRevealed, LeavesOnly, Only, Torn, put}
 use Rattle.gp_msg.specs.declared.durable.Durable.{Durable}
-use Rattle.gp_vlog.specs.Bodies.{LogEntry, entry_of}
+use Rattle.gp_vlog.specs.Bodies.{entry_of}
 use Rattle.gp_vlog.specs.Gates.{block}
-use Rattle.gp_vlog.specs.Files.{first_gate, is_limit, read_log}
-use Rattle.gp_vlog.specs.Logs.{LogState, IsOnDisk, IsReady, OldOrAdded, OldOrRenewed, Shows, entry_for, log_entries, last}
+use Rattle.gp_vlog.specs.Logs.{LogState, OldOrAdded, entry_for, log_entries, last}
 use Rattle.gp_vlog.proofs.Areas.{last_or}
 use Rattle.gp_vlog.proofs.Standing.{IsSized}
-use Rattle.gp_vlog.proofs.Appends.{unwritten, appending, appended, renewing, renewed, last_kept, added_seen, renewed_seen, log_with, kept_added, ready_added}
+use Rattle.gp_vlog.proofs.Appends.{unwritten, appending, appended, last_kept, added_seen, kept_added, ready_added}
 use Rattle.gp_vlog.proofs.log.Log.append.Goals as goal
 
 pub returns-in_err-plan-clause-any_moment : goal.returns-in_err-plan-clause-any_moment

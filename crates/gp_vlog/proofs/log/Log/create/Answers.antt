@@ -1,5 +1,4 @@
-use Rattle.std.proofs.Common.{◌≡◌, ◌+◌, ◌≤◌, true, false, refl, arith}
-use Rattle.gp_vlog.specs.Logs.{log_entries}
+use Rattle.std.proofs.Common.{false, refl, arith}
 use Rattle.gp_vlog.proofs.Standing.{IsSized}
 use Rattle.gp_vlog.proofs.Openings.{stored_new, keeps_stored, shows}
 use Rattle.gp_vlog.proofs.log.Log.create.Goals as goal

@@ -1,16 +1,8 @@
-use Rattle.std.proofs.Common.{◌≡◌, ◌++◌, ◌∷◌, [], true, false, not, None, Some, ℕ, ◌+◌, ◌-◌, ◌≤◌, length, take, drop, List, map, sym, ap, ◌∙◌, subst, inl, refl, arith, rules}
-use Rattle.std.proofs.lemmas.List.{take_rest}
-use Rattle.std.specs.Prelude.{slice_get, IfOk}
-use Rattle.std.specs.Option.{option_map, option_copied}
-use Rattle.gp_edge.specs.Disks.{IfRevealed, LeavesOnly, Only, Torn, put}
+use Rattle.std.proofs.Common.{◌≡◌, ◌∷◌, [], false, ◌+◌, ◌≤◌, length, ap, ◌∙◌, inl, arith, rules}
 use Rattle.gp_msg.specs.declared.durable.Durable.{Durable}
-use Rattle.gp_vlog.specs.Bodies.{LogEntry, entry_of}
-use Rattle.gp_vlog.specs.Gates.{block}
-use Rattle.gp_vlog.specs.Files.{first_gate, is_limit, read_log}
-use Rattle.gp_vlog.specs.Logs.{LogState, IsOnDisk, IsReady, OldOrAdded, OldOrRenewed, Shows, entry_for, log_entries, last}
-use Rattle.gp_vlog.proofs.Areas.{last_or}
+use Rattle.gp_vlog.specs.Logs.{LogState, OldOrRenewed, entry_for, log_entries}
 use Rattle.gp_vlog.proofs.Standing.{IsSized}
-use Rattle.gp_vlog.proofs.Appends.{unwritten, appending, appended, renewing, renewed, last_kept, added_seen, renewed_seen, log_with, kept_added, ready_added, kept_renewed, ready_renewed}
+use Rattle.gp_vlog.proofs.Appends.{unwritten, renewing, renewed, renewed_seen, kept_renewed, ready_renewed}
 use Rattle.gp_vlog.proofs.log.Log.renew.Goals as goal
 
 pub returns-in_err-plan-clause-any_moment : goal.returns-in_err-plan-clause-any_moment
