@@ -1,0 +1,168 @@
+//! What a crash inside an append or a renewal may leave of a log. Each prefix and each suffix of each
+//! write, with zeros or ones in the place of what was lost, opens to the entries before the call or
+//! after it.
+use crate::parts::{Opens, append, created, opens, part, renew};
+use gp_edge::CalmDisk;
+use gp_vlog::Log;
+use std::alloc::Global;
+use std::test::Fail;
+
+/// One call on a log: the bytes before it and after it, and what both open to.
+#[derive(Drop)]
+struct Change {
+    old: Vec<u8>,
+    before: Opens,
+    new: Vec<u8>,
+    after: Opens,
+}
+
+/// The places of the two writes of a call: the piece, which ends before `end`, and the byte that makes
+/// it count.
+#[derive(Clone, Copy)]
+struct Writes {
+    piece: usize,
+    end: usize,
+    mark: usize,
+}
+
+// The old bytes with the new ones of a range. What lies past the old end is noise elsewhere.
+fn torn(
+    alloc: Global,
+    change: &Change,
+    from: usize,
+    to: usize,
+    noise: u8,
+) -> Result<Vec<u8>, Fail> {
+    let mut image = Vec::new(alloc);
+    for i in 0..to.max(change.old.len()) {
+        let byte = if from <= i && i < to {
+            change.new.get(i)
+        } else {
+            change.old.get(i)
+        };
+        image.push(*byte.unwrap_or(&noise))?;
+    }
+    Ok(image)
+}
+
+// Whether the bytes open to the entries before the call while the piece is written.
+fn are_before(alloc: Global, change: &Change, writes: Writes, noise: u8) -> Result<bool, Fail> {
+    for k in writes.piece..=writes.end {
+        let prefix = torn(alloc, change, writes.piece, k, noise)?;
+        if opens(alloc, &prefix)? != change.before {
+            return Ok(false);
+        }
+        let suffix = torn(alloc, change, k, writes.end, noise)?;
+        if opens(alloc, &suffix)? != change.before {
+            return Ok(false);
+        }
+    }
+    Ok(true)
+}
+
+// Whether they open to the entries before it or after it when the last byte is written: a crash may
+// leave any value of it.
+fn are_before_or_after(alloc: Global, change: &Change, writes: Writes) -> Result<bool, Fail> {
+    let mut image = torn(alloc, change, writes.piece, writes.end, 0)?;
+    let was_zero = change.old.get(writes.mark) == Some(&0);
+    for mark in 0..=255 {
+        let Some(place) = image.get_mut(writes.mark) else {
+            return Ok(false);
+        };
+        *place = mark;
+        let wanted = if (mark == 0) == was_zero {
+            change.before
+        } else {
+            change.after
+        };
+        if opens(alloc, &image)? != wanted {
+            return Ok(false);
+        }
+    }
+    Ok(true)
+}
+
+fn is_safe(alloc: Global, change: &Change, writes: Writes) -> Result<bool, Fail> {
+    Ok(
+        are_before(alloc, change, writes, 0)?
+            && are_before(alloc, change, writes, 255)?
+            && are_before_or_after(alloc, change, writes)?,
+    )
+}
+
+// A call on a log: what was there before and after it. The log is made by appending so many of the
+// parts, and then renewing it by these.
+fn changed(
+    alloc: Global,
+    appended: usize,
+    renewed: &[usize],
+    next: usize,
+    renews: bool,
+) -> Result<Change, Fail> {
+    let mut log = created(alloc, 200)?;
+    for i in 0..appended {
+        append(&mut log, &part(alloc, i)?)?;
+    }
+    for i in renewed {
+        renew(&mut log, &part(alloc, *i)?)?;
+    }
+    let old = bytes_of(alloc, log)?;
+    let mut log = opened(alloc, &old)?;
+    let before = Ok((log.count(), log.size()));
+    if renews {
+        renew(&mut log, &part(alloc, next)?)?;
+    } else {
+        append(&mut log, &part(alloc, next)?)?;
+    }
+    let after = Ok((log.count(), log.size()));
+    let new = bytes_of(alloc, log)?;
+    Ok(Change {
+        old,
+        before,
+        new,
+        after,
+    })
+}
+
+fn opened(alloc: Global, bytes: &[u8]) -> Result<Log<CalmDisk>, Fail> {
+    match Log::open(alloc, CalmDisk::new(alloc, bytes)?) {
+        Ok(log) => Ok(log),
+        Err(_) => Err(Fail::from("not opened")),
+    }
+}
+
+fn bytes_of(alloc: Global, log: Log<CalmDisk>) -> Result<Vec<u8>, Fail> {
+    let disk = log.into_disk();
+    Ok(disk.content().to_vec(alloc)?)
+}
+
+const fn places(piece: usize, end: usize, mark: usize) -> Writes {
+    Writes { piece, end, mark }
+}
+
+#[test]
+fn a_crash_in_an_append_leaves_the_old_entries_or_the_new(rt: HostRuntime) -> Result<(), Fail> {
+    let alloc = rt.alloc();
+    let first = changed(alloc, 0, &[], 0, false)?;
+    assert!(rt; first.before == Ok((0, 17)) && first.after == Ok((1, 49)));
+    assert!(rt; is_safe(alloc, &first, places(17, 49, 16))?);
+    let second = changed(alloc, 1, &[], 1, false)?;
+    assert!(rt; second.before == Ok((1, 49)) && second.after == Ok((2, 102)));
+    assert!(rt; is_safe(alloc, &second, places(49, 102, 48))?);
+    let addition = changed(alloc, 2, &[], 2, false)?;
+    assert!(rt; addition.before == Ok((2, 102)) && addition.after == Ok((3, 155)));
+    assert!(rt; is_safe(alloc, &addition, places(102, 155, 101))?);
+    Ok(())
+}
+
+#[test]
+fn a_crash_in_a_renewal_leaves_the_old_entries_or_the_new(rt: HostRuntime) -> Result<(), Fail> {
+    let alloc = rt.alloc();
+    let second_area = changed(alloc, 2, &[], 2, true)?;
+    assert!(rt; second_area.before == Ok((2, 102)) && second_area.after == Ok((1, 91)));
+    assert!(rt; is_safe(alloc, &second_area, places(200, 275, 12))?);
+    let first_area = changed(alloc, 2, &[2], 1, true)?;
+    assert!(rt; first_area.before == Ok((1, 91)) && first_area.after == Ok((1, 70)));
+    assert!(rt; is_safe(alloc, &first_area, places(16, 70, 12))?);
+    Ok(())
+}
