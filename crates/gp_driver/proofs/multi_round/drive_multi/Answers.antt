@@ -1,0 +1,21 @@
+-- The round that is opened and the drafts that are driven in it.
+use Rattle.std.proofs.Common.{arith}
+use Rattle.gp_driver.specs.Driving.{opened}
+use Rattle.gp_driver.proofs.DrivingCode.{driven_grows, drives}
+use Rattle.gp_driver.proofs.SettleCode.{range_of}
+use Rattle.gp_driver.proofs.multi_round.drive_multi.Goals as goal
+
+pub lead_first-requires-clause-room : goal.lead_first-requires-clause-room
+lead_first-requires-clause-room g c =
+    let a = driven_grows (g.S.Stage.state c.args.stage.now).config c.args.drafts.items (opened (g.S.Stage.state c.args.stage.now).config) in
+    let r = c.requires.room in
+    omega (arith, a, r)
+
+pub returns-in_err-opened-clause-brings : goal.returns-in_err-opened-clause-brings
+returns-in_err-opened-clause-brings g c = drives (g.S.Stage.state c.args.stage.now).config c.args.drafts.items (range_of _ _ c.config_of-config.ensures.same c.config_of-config.ensures.range) c.requires.three c.requires.plain
+
+pub returns-in_err-driven-clause-brings : goal.returns-in_err-driven-clause-brings
+returns-in_err-driven-clause-brings g c = drives (g.S.Stage.state c.args.stage.now).config c.args.drafts.items (range_of _ _ c.config_of-config.ensures.same c.config_of-config.ensures.range) c.requires.three c.requires.plain
+
+pub returns-clause-brings : goal.returns-clause-brings
+returns-clause-brings g c = drives (g.S.Stage.state c.args.stage.now).config c.args.drafts.items (range_of _ _ c.config_of-config.ensures.same c.config_of-config.ensures.range) c.requires.three c.requires.plain

@@ -1,0 +1,47 @@
+-- The runs between the calls are those of a draft that is driven.
+use Rattle.std.proofs.Common.{length, refl, ap, ◌∙◌, arith}
+use Rattle.gp_msg.specs.declared.node.Node.TheVariants.{Coordinator, Acceptor}
+use Rattle.gp_msg.specs.declared.message.MsgKind.TheVariants as Kind
+use Rattle.gp_run.specs.Messages.{messages}
+use Rattle.gp_driver.proofs.PassingCode.{same_sweep}
+use Rattle.gp_driver.proofs.DrivingCode.{offered_room, pushed_room, voted_room, voted_order}
+use Rattle.gp_driver.proofs.multi_round.drive_one.Goals as goal
+
+pub make-requires-clause-room : goal.make-requires-clause-room
+make-requires-clause-room g c = let a = offered_room (g.S.Stage.state c.args.stage.now).config c.args.draft (g.S.Stage.state c.args.stage.now).run in let r = c.requires.room in omega (arith, a, r)
+
+pub sweep-requires-clause-room : goal.sweep-requires-clause-room
+sweep-requires-clause-room g c =
+    let config = (g.S.Stage.state c.args.stage.now).config in
+    let es = (g.S.Stage.state c.args.stage.now).run in
+    let t = ap length (same_sweep _ config Coordinator 2 2 Kind.Propose _ (length (messages es)) _ _ c.in_ok-offered.ensures.same_config refl c.messages-start.ensures c.in_ok-offered.ensures.outcome.0) in
+    let a = pushed_room config c.args.draft es in
+    let r = c.requires.room in
+    omega (arith, t, a, r)
+
+pub sweep-requires-2-clause-room : goal.sweep-requires-2-clause-room
+sweep-requires-2-clause-room g c =
+    let config = (g.S.Stage.state c.args.stage.now).config in
+    let es = (g.S.Stage.state c.args.stage.now).run in
+    let c1 = c.in_ok-offered.ensures.same_config in
+    let c2 = c.in_ok-pushed.ensures.same_config ∙ c1 in
+    let at2 = c.in_ok-pushed.ensures.outcome.0 ∙ same_sweep _ config Coordinator 2 2 Kind.Propose _ (length (messages es)) _ _ c1 refl c.messages-start.ensures c.in_ok-offered.ensures.outcome.0 in
+    let n = c.acceptors.ensures.value ∙ ap (λ k. k.acceptors) c.requires.config in
+    let t = ap length (same_sweep _ config Acceptor _ config.acceptors Kind.P2a _ (length (messages es)) _ _ c2 n c.messages-start.ensures at2) in
+    let a = voted_room config c.args.draft es in
+    let r = c.requires.room in
+    omega (arith, t, a, r)
+
+pub sweep-requires-3-clause-order : goal.sweep-requires-3-clause-order
+sweep-requires-3-clause-order g c =
+    let config = (g.S.Stage.state c.args.stage.now).config in
+    let es = (g.S.Stage.state c.args.stage.now).run in
+    let c1 = c.in_ok-offered.ensures.same_config in
+    let c2 = c.in_ok-pushed.ensures.same_config ∙ c1 in
+    let at2 = c.in_ok-pushed.ensures.outcome.0 ∙ same_sweep _ config Coordinator 2 2 Kind.Propose _ (length (messages es)) _ _ c1 refl c.messages-start.ensures c.in_ok-offered.ensures.outcome.0 in
+    let n = c.acceptors.ensures.value ∙ ap (λ k. k.acceptors) c.requires.config in
+    let at3 = c.in_ok-voted.ensures.outcome.0 ∙ same_sweep _ config Acceptor _ config.acceptors Kind.P2a _ (length (messages es)) _ _ c2 n c.messages-start.ensures at2 in
+    let t = ap (λ zs. length (messages zs)) at3 in
+    let a = voted_order config c.args.draft es in
+    let b = c.messages-start.ensures in
+    omega (arith, t, a, b)

@@ -1,0 +1,16 @@
+-- Coordinator 0 is there, and acceptors come behind it.
+use Rattle.std.proofs.Common.{[], ◌∷◌, arith}
+use Rattle.gp_msg.specs.declared.node.Node.TheVariants.{Coordinator, Acceptor}
+use Rattle.gp_driver.specs.Sweeps.{swept}
+use Rattle.gp_driver.proofs.Driving.{swept_grows}
+use Rattle.gp_driver.proofs.PassingCode.{one_coordinator}
+use Rattle.gp_driver.proofs.single_rounds.close.Goals as goal
+
+pub show-requires-clause-present : goal.show-requires-clause-present
+show-requires-clause-present g c = one_coordinator (g.S.Stage.state c.args.stage.now).config c.requires.lead
+
+pub show-requires-clause-room : goal.show-requires-clause-room
+show-requires-clause-room g c =
+    let a = swept_grows (g.S.Stage.state c.args.stage.now).config Acceptor 0 (g.S.Stage.state c.args.stage.now).config.acceptors (c.args.k ∷ []) (swept (g.S.Stage.state c.args.stage.now).config Coordinator 1 (c.args.k ∷ []) (g.S.Stage.state c.args.stage.now).run) (omega arith) in
+    let r = c.requires.room in
+    omega (arith, a, r)

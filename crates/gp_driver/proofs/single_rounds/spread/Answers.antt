@@ -1,0 +1,15 @@
+-- Learners come behind those that close.
+use Rattle.std.proofs.Common.{length, ap, arith}
+use Rattle.gp_run.specs.Messages.{messages}
+use Rattle.gp_driver.proofs.SettlingCode.{spread_grows, closed_more}
+use Rattle.gp_driver.proofs.single_rounds.spread.Goals as goal
+
+pub close-requires-clause-room : goal.close-requires-clause-room
+close-requires-clause-room g c = let a = spread_grows (g.S.Stage.state c.args.stage.now).config c.args.k (g.S.Stage.state c.args.stage.now).run in let r = c.requires.room in omega (arith, a, r)
+
+pub show-requires-clause-sent : goal.show-requires-clause-sent
+show-requires-clause-sent g c =
+    let e = ap (λ zs. length (messages zs)) c.in_ok-closers.ensures.outcome.0 in
+    let m = closed_more (g.S.Stage.state c.args.stage.now).config c.args.k (g.S.Stage.state c.args.stage.now).run in
+    let s = c.requires.sent in
+    omega (arith, e, m, s)

@@ -1,0 +1,9 @@
+pub mod Kinds
+pub mod Sweeps
+pub mod Settling
+pub mod Driving
+pub mod Settled
+pub mod Driven
+pub mod Stages
+pub mod Roles
+pub mod Worlds

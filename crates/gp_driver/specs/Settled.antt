@@ -1,0 +1,27 @@
+-- What settling brings.
+use Rattle.std.specs.Prelude.{◌≡◌, ◌<◌, ◌≤◌, ◌+◌, ℕ, suc, true, List, length}
+use Rattle.std.specs.List.{Contains}
+use Rattle.gp_command.specs.declared.command.Command.{Command}
+use Rattle.gp_history.specs.History.{has}
+use Rattle.gp_round.specs.Counts.{Counts}
+use Rattle.gp_msg.specs.Messages.{Offered, Entry}
+use Rattle.gp_msg.specs.declared.message.MsgKind.TheVariants as Kind
+use Rattle.gp_run.specs.Messages.{messages}
+use Rattle.gp_run.specs.Legal.{Legal}
+use Rattle.gp_run.specs.Learned.{learned_at}
+use Rattle.gp_driver.specs.Sweeps.{places}
+use Rattle.gp_driver.specs.Settling.{passes, CanPass, checkpoints, prepared, settle, settling_passes, settling_events}
+
+-- each learner shows every command that was offered
+abbrev pub AllLearned : Counts → List Entry → Type 0
+AllLearned config es = (l : ℕ) → l < config.learners → (c : Command) → Contains (messages es) (Offered c) → has (learned_at config l es) c ≡ true
+
+-- the settled run is legal, and in it all is learned. It takes exactly so many events, and at most one pass more than checkpoints were offered. The last pass closed no epoch, so allowing more passes changes nothing. Each pass can begin its round
+pub record Settles (config : Counts) (es : List Entry) : Type 0 where
+  pub legal : Legal config (settle config es)
+  pub learned : AllLearned config (settle config es)
+  pub some : 0 < settling_passes config es
+  pub few : settling_passes config es ≤ suc (checkpoints (messages es))
+  pub enough : (n : ℕ) → passes config (suc (checkpoints (messages es)) + n) (prepared config es) ≡ settle config es
+  pub can : (n : ℕ) → CanPass config (suc (checkpoints (messages es)) + n) (prepared config es)
+  pub events : length (settle config es) ≡ length es + settling_events config (length (places Kind.Final 0 (messages es))) (length (places Kind.Propose 0 (messages es))) (settling_passes config es)

@@ -1,0 +1,52 @@
+-- What a stage is, and what a driver does to it.
+use Rattle.std.specs.Prelude.{◌≡◌, ◌≤◌, ◌<◌, ◌+◌, ◌-◌, ◌^◌, ◌⊎◌, ℕ, Bool, true, false, List, length, Result, Ok, Err}
+use Rattle.gp_round.specs.Counts.{Counts}
+use Rattle.gp_msg.specs.declared.event.Event.{Event}
+use Rattle.gp_msg.specs.declared.event.Event.TheVariants.{Offer, Begin, Take, Fall}
+use Rattle.gp_msg.specs.Messages.{Entry}
+use Rattle.gp_run.specs.Legal.{fits}
+use Rattle.gp_driver.specs.declared.stage.StageFault.{StageFault}
+use Rattle.gp_driver.specs.declared.stage.StageFault.TheVariants.{NoMemory, Disk, Full}
+
+-- what contracts see of a stage: its configuration, the run of its nodes with the newest entry first, how often a disk failed or a log was full, whether a step can be made, and which two numbers, the size of a log and the need of an entry, are too great for an event
+pub record StageState : Type 1 where
+  pub config : Counts
+  pub run : List Entry
+  pub faults : ℕ
+  pub is_ready : Type 0
+  pub is_too_great : Event → ℕ → ℕ → Type 0
+
+-- the event is a node's fall
+abbrev pub is_fall : Event → Bool
+is_fall (Offer p d) = false
+is_fall (Begin c r) = false
+is_fall (Take node k) = false
+is_fall (Fall node what) = true
+
+-- a count has risen, or stands at its last value
+abbrev pub Rose : ℕ → ℕ → Type 0
+Rose before now = (before < now) ⊎ (now ≡ 2 ^ 64 - 1)
+
+-- the numbers are too great for an event, no fall, that could come next
+pub record IsTooGreatForOne (config : Counts) (es : List Entry) (is_too_great : Event → ℕ → ℕ → Type 0) (size need : ℕ) : Type 0 where
+  pub event : Event
+  pub event_fits : fits config es event ≡ true
+  pub no_fall : is_fall event ≡ false
+  pub great : is_too_great event size need
+
+-- a fault has a cause: that of a disk and that of a full log come only where the count of faults rose, and a full log has numbers that are too great
+abbrev pub HasCause : ℕ → ℕ → (ℕ → ℕ → Type 0) → StageFault → Type 0
+HasCause before now is_too_great NoMemory = Unit {0}
+HasCause before now is_too_great Disk = Rose before now
+HasCause before now is_too_great (Full size need) = Rose before now × is_too_great size need
+
+-- the run is the one that was meant, the number is that of the entries which were added, and the next step can be made; or the fault has a cause
+abbrev pub Outcome : List Entry → List Entry → List Entry → Type 0 → (StageFault → Type 0) → Result ℕ StageFault → Type 0
+Outcome es zs target ready cause (Ok n) = (zs ≡ target) × (length zs ≡ length es + n) × ready
+Outcome es zs target ready cause (Err fault) = cause fault
+
+-- a driver brought a stage to a run, and the answer is how many events this took; or a fault ended it
+pub record HasDriven (old new : StageState) (target : List Entry) (result : Result ℕ StageFault) : Type 0 where
+  pub same_config : new.config ≡ old.config
+  pub later : old.faults ≤ new.faults
+  pub outcome : Outcome old.run new.run target new.is_ready (HasCause old.faults new.faults (IsTooGreatForOne old.config new.run new.is_too_great)) result

@@ -1,0 +1,145 @@
+//! Driving: one multi round in which coordinator 2 takes no part, and drafts that are learned in it one by one.
+ghost use Rattle.std.specs.Prelude.{◌≡◌, ◌≤◌, ◌<◌, ◌^◌, [], ◌∷◌, length};
+ghost use Rattle.gp_msg.specs.declared.event.Event.TheVariants.{Begin};
+ghost use Rattle.gp_run.specs.Runs.{entry_after};
+ghost use Rattle.gp_driver.specs.Driving.{first_round, opened, driven, all_driven, drive_multi};
+ghost use Rattle.gp_driver.specs.Driven.{AreNoCheckpoints, DrivesMulti};
+ghost use Rattle.gp_driver.specs.Stages.{HasDriven};
+
+use crate::stage::{Stage, StageFault, config_of};
+use crate::sweep::{Role, make, sweep};
+use gp_command::Draft;
+use gp_msg::{Event, MsgKind};
+use gp_round::{Config, Mode, Round};
+use std::sync::Wait;
+
+// Coordinator 0 begins the first round.
+fn begin_first<S: Stage, W: Wait>(rt: &W, stage: &mut S) -> Result<u64, StageFault>
+    requires ready { (S.state stage.old).is_ready }
+    requires two { 2 ≤ (S.state stage.old).config.coordinators }
+    requires room { length (S.state stage.old).run < 2 ^ 31 }
+    ensures { HasDriven (S.state stage.old) (S.state stage.new)
+        (entry_after (S.state stage.old).config (S.state stage.old).run (Begin 0 first_round) ∷ (S.state stage.old).run) result }
+{
+    let round = Round {
+        count: 1,
+        mode: Mode::Multi,
+        lead: 0,
+    };
+    make(
+        rt,
+        stage,
+        Event::Begin {
+            coordinator: 0,
+            round,
+        },
+    )
+}
+
+// Coordinator 0 begins the first round, and coordinators 0 and 1 lead it.
+fn lead_first<S: Stage, W: Wait>(rt: &W, stage: &mut S, config: &Config) -> Result<u64, StageFault>
+    requires ready { (S.state stage.old).is_ready }
+    requires config { config.now ≡ (S.state stage.old).config }
+    requires two { 2 ≤ (S.state stage.old).config.coordinators }
+    requires nothing { (S.state stage.old).run ≡ [] }
+    requires room { length (opened (S.state stage.old).config) ≤ 2 ^ 31 }
+    ensures { HasDriven (S.state stage.old) (S.state stage.new)
+        (opened (S.state stage.old).config) result }
+{
+    let begun = begin_first(rt, stage)?;
+    let acceptors = config.acceptors();
+    let led = sweep(rt, stage, Role::Coordinator, 2, MsgKind::P1a, 0)?;
+    let asked = sweep(rt, stage, Role::Acceptor, acceptors, MsgKind::P1a, 0)?;
+    let answered = sweep(rt, stage, Role::Coordinator, 2, MsgKind::P1b, 0)?;
+    let voted = sweep(rt, stage, Role::Acceptor, acceptors, MsgKind::P2a, 0)?;
+    let learners = config.learners();
+    let heard = sweep(rt, stage, Role::Learner, learners, MsgKind::P2b, 0)?;
+    Ok(begun + led + asked + answered + voted + heard)
+}
+
+// Proposer 0 offers a draft, and coordinators 0 and 1 bring it to all learners.
+fn drive_one<S: Stage, W: Wait>(
+    rt: &W,
+    stage: &mut S,
+    config: &Config,
+    draft: Draft,
+) -> Result<u64, StageFault>
+    requires ready { (S.state stage.old).is_ready }
+    requires config { config.now ≡ (S.state stage.old).config }
+    requires two { 2 ≤ (S.state stage.old).config.coordinators }
+    requires room { length (driven (S.state stage.old).config draft (S.state stage.old).run) ≤ 2 ^ 31 }
+    ensures { HasDriven (S.state stage.old) (S.state stage.new)
+        (driven (S.state stage.old).config draft (S.state stage.old).run) result }
+{
+    let start = stage.messages();
+    let offered = make(rt, stage, Event::Offer { proposer: 0, draft })?;
+    let pushed = sweep(rt, stage, Role::Coordinator, 2, MsgKind::Propose, start)?;
+    let voted = sweep(
+        rt,
+        stage,
+        Role::Acceptor,
+        config.acceptors(),
+        MsgKind::P2a,
+        start,
+    )?;
+    let heard = sweep(
+        rt,
+        stage,
+        Role::Learner,
+        config.learners(),
+        MsgKind::P2b,
+        start,
+    )?;
+    Ok(offered + pushed + voted + heard)
+}
+
+// One draft after another.
+fn drive_each<S: Stage, W: Wait>(
+    rt: &W,
+    stage: &mut S,
+    config: &Config,
+    drafts: Vec<Draft>,
+) -> Result<u64, StageFault>
+    requires ready { (S.state stage.old).is_ready }
+    requires config { config.now ≡ (S.state stage.old).config }
+    requires two { 2 ≤ (S.state stage.old).config.coordinators }
+    requires room { length (all_driven (S.state stage.old).config drafts.items (S.state stage.old).run) ≤ 2 ^ 31 }
+    ensures { HasDriven (S.state stage.old) (S.state stage.new)
+        (all_driven (S.state stage.old).config drafts.items (S.state stage.old).run) result }
+{
+    let mut events: u64 = 0;
+    for draft in drafts {
+        events += drive_one(rt, stage, config, draft)?;
+    }
+    Ok(events)
+}
+
+/// Drives drafts in an empty run of three coordinators: each is learned by every learner before the next
+/// one is offered, whether or not they conflict. The answer is the number of events that this took, and the
+/// first fault of a step ends it.
+///
+/// Coordinator 0 begins the multi round 1, which coordinators 0 and 1 lead to its open second phase. Then
+/// proposer 0 offers one draft after another, and both coordinators send each to the acceptors, and these
+/// their votes to the learners. Coordinator 2 takes no part. No draft is a checkpoint.
+///
+/// Out of memory (`NoMemory`) may come at any step. A disk's fault and a full log come only if the stage's count
+/// of faults rose, and a full log comes with the numbers of one event that fits the run as it is then.
+pub fn drive_multi<S: Stage, W: Wait>(
+    rt: &W,
+    stage: &mut S,
+    drafts: Vec<Draft>,
+) -> Result<u64, StageFault>
+    requires ready { (S.state stage.old).is_ready }
+    requires three { (S.state stage.old).config.coordinators ≡ 3 }
+    requires nothing { (S.state stage.old).run ≡ [] }
+    requires plain { AreNoCheckpoints drafts.items }
+    requires room { length (drive_multi (S.state stage.old).config drafts.items) ≤ 2 ^ 31 }
+    ensures driven { HasDriven (S.state stage.old) (S.state stage.new)
+        (drive_multi (S.state stage.old).config drafts.items) result }
+    ensures brings { DrivesMulti (S.state stage.old).config drafts.items }
+{
+    let config = config_of(stage);
+    let opened = lead_first(rt, stage, &config)?;
+    let driven = drive_each(rt, stage, &config, drafts)?;
+    Ok(opened + driven)
+}

@@ -1,0 +1,166 @@
+//! Settling: single rounds of coordinator 0, until every learner holds every command that was offered.
+ghost use Rattle.std.specs.Prelude.{◌≡◌, ◌<◌, ◌≤◌, ◌+◌, ◌∷◌, [], ◌^◌, List, true, length};
+ghost use Rattle.gp_msg.specs.Messages.{Entry};
+ghost use Rattle.gp_msg.specs.declared.message.MsgKind.TheVariants as Kind;
+ghost use Rattle.gp_run.specs.Messages.{messages};
+ghost use Rattle.gp_run.specs.Legal.{Legal};
+ghost use Rattle.gp_run.specs.TopCount.{top_count};
+ghost use Rattle.gp_driver.specs.Sweeps.{places, swept};
+ghost use Rattle.gp_driver.specs.Roles.{node_of};
+ghost use Rattle.gp_driver.specs.declared.sweep.Role.TheVariants as Role;
+ghost use Rattle.gp_driver.specs.Settling.{closings, closed, pass, passes, CanPass, settle, checkpoints};
+ghost use Rattle.gp_driver.specs.Stages.{HasDriven};
+ghost use Rattle.gp_driver.specs.Settled.{Settles};
+
+use crate::stage::{Stage, StageFault, config_of};
+use crate::sweep::{Role, first_since, is_kind, make, show, sweep};
+use gp_msg::{Event, MsgKind};
+use gp_round::{Config, Mode, Round};
+use std::sync::Wait;
+
+// Coordinator 0, and then each acceptor, takes message k.
+fn close<S: Stage, W: Wait>(
+    rt: &W,
+    stage: &mut S,
+    config: &Config,
+    k: u64,
+) -> Result<u64, StageFault>
+    requires ready { (S.state stage.old).is_ready }
+    requires config { config.now ≡ (S.state stage.old).config }
+    requires lead { 0 < (S.state stage.old).config.coordinators }
+    requires sent { k < length (messages (S.state stage.old).run) }
+    requires room { length (closed (S.state stage.old).config k (S.state stage.old).run) ≤ 2 ^ 31 }
+    ensures { HasDriven (S.state stage.old) (S.state stage.new)
+        (closed (S.state stage.old).config k (S.state stage.old).run) result }
+{
+    let leader = show(rt, stage, Role::Coordinator, 1, k)?;
+    let voters = show(rt, stage, Role::Acceptor, config.acceptors(), k)?;
+    Ok(leader + voters)
+}
+
+// Coordinator 0 leads a single round with a greater count than any other.
+fn pass_once<S: Stage, W: Wait>(rt: &W, stage: &mut S, config: &Config) -> Result<u64, StageFault>
+    requires ready { (S.state stage.old).is_ready }
+    requires config { config.now ≡ (S.state stage.old).config }
+    requires lead { 0 < (S.state stage.old).config.coordinators }
+    requires round { top_count (S.state stage.old).config (S.state stage.old).run < 1000000 }
+    requires room { length (pass (S.state stage.old).config (S.state stage.old).run) ≤ 2 ^ 31 }
+    ensures { HasDriven (S.state stage.old) (S.state stage.new)
+        (pass (S.state stage.old).config (S.state stage.old).run) result }
+{
+    let start = stage.messages();
+    let round = Round {
+        count: stage.top_count() + 1,
+        mode: Mode::Single,
+        lead: 0,
+    };
+    let begun = make(
+        rt,
+        stage,
+        Event::Begin {
+            coordinator: 0,
+            round,
+        },
+    )?;
+    let acceptors = config.acceptors();
+    let asked = sweep(rt, stage, Role::Acceptor, acceptors, MsgKind::P1a, start)?;
+    let answered = sweep(rt, stage, Role::Coordinator, 1, MsgKind::P1b, start)?;
+    let voted = sweep(rt, stage, Role::Acceptor, acceptors, MsgKind::P2a, start)?;
+    let learners = config.learners();
+    let heard = sweep(rt, stage, Role::Learner, learners, MsgKind::P2b, start)?;
+    Ok(begun + asked + answered + voted + heard)
+}
+
+// Coordinator 0, then each acceptor, then each learner takes message k.
+fn spread<S: Stage, W: Wait>(
+    rt: &W,
+    stage: &mut S,
+    config: &Config,
+    k: u64,
+) -> Result<u64, StageFault>
+    requires ready { (S.state stage.old).is_ready }
+    requires config { config.now ≡ (S.state stage.old).config }
+    requires lead { 0 < (S.state stage.old).config.coordinators }
+    requires sent { k < length (messages (S.state stage.old).run) }
+    requires room { length (closings (S.state stage.old).config (k ∷ []) (S.state stage.old).run) ≤ 2 ^ 31 }
+    ensures { HasDriven (S.state stage.old) (S.state stage.new)
+        (closings (S.state stage.old).config (k ∷ []) (S.state stage.old).run) result }
+{
+    let closers = close(rt, stage, config, k)?;
+    let learners = show(rt, stage, Role::Learner, config.learners(), k)?;
+    Ok(closers + learners)
+}
+
+// The Final messages that were sent are taken by all, one message after another.
+fn take_finals<S: Stage, W: Wait>(rt: &W, stage: &mut S, config: &Config) -> Result<u64, StageFault>
+    requires ready { (S.state stage.old).is_ready }
+    requires config { config.now ≡ (S.state stage.old).config }
+    requires lead { 0 < (S.state stage.old).config.coordinators }
+    requires room { length (closings (S.state stage.old).config (places Kind.Final 0 (messages (S.state stage.old).run)) (S.state stage.old).run)
+        ≤ 2 ^ 31 }
+    ensures { HasDriven (S.state stage.old) (S.state stage.new)
+        (closings (S.state stage.old).config (places Kind.Final 0 (messages (S.state stage.old).run)) (S.state stage.old).run) result }
+{
+    let end = stage.messages();
+    let mut taken: u64 = 0;
+    for k in 0..end {
+        if is_kind(rt, stage, MsgKind::Final, k) {
+            taken += spread(rt, stage, config, k)?;
+        }
+    }
+    Ok(taken)
+}
+
+// At most `limit` passes: after one that closed an epoch the next follows.
+fn make_passes<S: Stage, W: Wait>(
+    rt: &W,
+    stage: &mut S,
+    config: &Config,
+    limit: u64,
+) -> Result<u64, StageFault>
+    requires ready { (S.state stage.old).is_ready }
+    requires config { config.now ≡ (S.state stage.old).config }
+    requires lead { 0 < (S.state stage.old).config.coordinators }
+    requires can { CanPass (S.state stage.old).config limit (S.state stage.old).run }
+    requires room { length (passes (S.state stage.old).config limit (S.state stage.old).run) ≤ 2 ^ 31 }
+    ensures { HasDriven (S.state stage.old) (S.state stage.new)
+        (passes (S.state stage.old).config limit (S.state stage.old).run) result }
+{
+    let mut events: u64 = 0;
+    for _pass in 0..limit {
+        let start = stage.messages();
+        events += pass_once(rt, stage, config)?;
+        let Some(k) = first_since(rt, stage, MsgKind::Final, start) else {
+            return Ok(events);
+        };
+        events += close(rt, stage, config, k)?;
+    }
+    Ok(events)
+}
+
+/// Settles a legal run: every learner then holds every command that was offered. The answer is the number
+/// of events that this took, and the first fault of a step ends it.
+///
+/// Each Final message is taken by coordinator 0, then by every acceptor, then by every learner, and each
+/// proposal by coordinator 0. Then come passes, in each of which coordinator 0 leads a single round. If
+/// a pass sent a Final message, coordinator 0 and the acceptors take the first one that it sent, and one more
+/// pass follows. Nodes take messages one node after another, in the order of their numbers.
+///
+/// Out of memory (`NoMemory`) may come at any step. A disk's fault and a full log come only if the stage's count
+/// of faults rose, and a full log comes with the numbers of one event that fits the run as it is then.
+pub fn settle<S: Stage, W: Wait>(rt: &W, stage: &mut S) -> Result<u64, StageFault>
+    requires ready { (S.state stage.old).is_ready }
+    requires legal { Legal (S.state stage.old).config (S.state stage.old).run }
+    requires rounds { top_count (S.state stage.old).config (S.state stage.old).run
+        + checkpoints (messages (S.state stage.old).run) ≤ 999999 }
+    requires room { length (settle (S.state stage.old).config (S.state stage.old).run) ≤ 2 ^ 31 }
+    ensures driven { HasDriven (S.state stage.old) (S.state stage.new)
+        (settle (S.state stage.old).config (S.state stage.old).run) result }
+    ensures brings { Settles (S.state stage.old).config (S.state stage.old).run }
+{
+    let config = config_of(stage);
+    let finals = take_finals(rt, stage, &config)?;
+    let proposals = sweep(rt, stage, Role::Coordinator, 1, MsgKind::Propose, 0)?;
+    let passes = make_passes(rt, stage, &config, proposals + 1)?;
+    Ok(finals + proposals + passes)
+}

@@ -1,0 +1,84 @@
+//! What a driver drives.
+ghost use Rattle.std.specs.Prelude.{◌≡◌, ◌<◌, ◌≤◌, ◌∷◌, ◌^◌, true, false, length, slice_get, IfOk, IfErr, OnErr};
+ghost use Rattle.std.specs.Option.{option_map};
+ghost use Rattle.gp_round.specs.Ranges.{AreInRange};
+ghost use Rattle.gp_run.specs.Messages.{messages};
+ghost use Rattle.gp_run.specs.Legal.{fits};
+ghost use Rattle.gp_run.specs.Runs.{entry_after};
+ghost use Rattle.gp_run.specs.TopCount.{top_count};
+ghost use Rattle.gp_driver.specs.Kinds.{kind_of};
+ghost use Rattle.gp_driver.specs.Stages.{is_fall, HasCause};
+
+use gp_msg::{Event, MsgKind};
+use gp_round::Config;
+use std::sync::Wait;
+
+/// Why a step was not made.
+#[derive(Clone, Copy, Debug, PartialEq, Eq)]
+pub enum StageFault {
+    /// Memory ran out.
+    NoMemory,
+    /// A disk failed.
+    Disk,
+    /// The log of a node has `size` bytes, and an entry of `need` bytes is past its limit.
+    Full { size: u64, need: u64 },
+}
+
+/// All nodes of a configuration, with the run that they made, where a driver makes one step after
+/// another. A step may fail, and a stage counts how often a disk failed or a log was full. The count
+/// stays at its last value once it is there.
+pub trait Stage {
+    ghost use Rattle.gp_driver.specs.Stages.{StageState};
+
+    ghost state: { Self → StageState };
+
+    /// The configuration. It takes no memory.
+    fn config(&self) -> &Config
+        ensures { result.now ≡ (state self.now).config };
+
+    /// The greatest count of a round in a message or a node, and 0 if there is none. It takes no memory.
+    fn top_count(&self) -> u32
+        ensures { result ≡ top_count (state self.now).config (state self.now).run };
+
+    /// The number of messages that were sent. It takes no memory.
+    fn messages(&self) -> u64
+        ensures { result ≡ length (messages (state self.now).run) };
+
+    /// The kind of message k, from 0, if so many were sent. It takes no memory. The run stays, and so does
+    /// that a step can be made.
+    fn kind<W: Wait>(&mut self, rt: &W, k: u64) -> Option<MsgKind>
+        ensures kind { result ≡ option_map kind_of (slice_get (messages (state self.old).run) k) }
+        ensures config { (state self.new).config ≡ (state self.old).config }
+        ensures run { (state self.new).run ≡ (state self.old).run }
+        ensures later { (state self.old).faults ≤ (state self.new).faults }
+        ensures ready { (state self.old).is_ready → (state self.new).is_ready };
+
+    /// An event that fits happens: one entry is added, and the answer is the number of messages after it.
+    /// After a refusal the run is as before, and perhaps no further step can be made. A disk's fault and a
+    /// full log come only where the count of faults rose, and a full log tells numbers that are too great
+    /// for the event.
+    fn step<W: Wait>(&mut self, rt: &W, event: Event) -> Result<u64, StageFault>
+        requires ready { (state self.old).is_ready }
+        requires room { length (state self.old).run < 2 ^ 31 }
+        requires no_fall { is_fall event ≡ false }
+        requires fits { fits (state self.old).config (state self.old).run event ≡ true }
+        ensures entry { IfOk result (λ _. (state self.new).run
+            ≡ entry_after (state self.old).config (state self.old).run event ∷ (state self.old).run) }
+        ensures count { IfOk result (λ n. n ≡ length (messages (state self.new).run)) }
+        ensures ready { IfOk result (λ _. (state self.new).is_ready) }
+        ensures unchanged { OnErr result ((state self.new).run ≡ (state self.old).run) }
+        ensures config { (state self.new).config ≡ (state self.old).config }
+        ensures later { (state self.old).faults ≤ (state self.new).faults }
+        ensures cause { IfErr result (HasCause (state self.old).faults (state self.new).faults
+            ((state self.new).is_too_great event)) };
+}
+
+/// The configuration, whose numbers are in range.
+pub fn config_of<S: Stage>(stage: &S) -> Config
+    ensures same { result ≡ (S.state stage.now).config }
+    ensures range { AreInRange result.acceptors result.coordinators result.learners }
+{
+    let config = *stage.config();
+    let _counts = (config.acceptors(), config.coordinators(), config.learners());
+    config
+}
