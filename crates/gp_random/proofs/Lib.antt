@@ -1,0 +1,4 @@
+pub mod DrawLemmas
+pub mod CommandLemmas
+pub mod PlanLemmas
+pub mod NextLemmas
