@@ -1,0 +1,7 @@
+//! Tests of workloads.
+#![tactic(auto)]
+
+#[cfg(test)]
+mod first_events;
+#[cfg(test)]
+mod many_workloads;
