@@ -1,0 +1,8 @@
+use Rattle.std.proofs.Common.{sym, ◌∙◌, arith}
+use Rattle.gp_bank.proofs.BankLemmas.{still_covers}
+use Rattle.gp_bank.proofs.bank.Bank.transfer.Goals as goal
+
+pub debit-requires : goal.debit-requires
+debit-requires c =
+    rw c.in_ok-credit.ensures.credited
+    (still_covers c.args.self.now c.args.from c.args.into c.args.amount (sym c.ne.ensures ∙ c.if-ne.true) (omega (arith, c.balance.ensures, c.from.ensures, c.if-balance-from.false)))

@@ -1,0 +1,11 @@
+pub mod Operations
+pub mod Touched
+pub mod Forms
+pub mod FormViews
+pub mod Drafts
+pub mod Accounts
+pub mod Effects
+pub mod Changes
+pub mod Commuting
+pub mod Sums
+pub mod Laws
