@@ -10,7 +10,7 @@ use Rattle.std.specs.declared.cmp.Ordering.{Ordering}
 use Rattle.std.specs.declared.cmp.Ordering.TheVariants.{Less, Equal, Greater}
 use Rattle.std.specs.FinSet as set
 use Rattle.std.proofs.Math.Nat.{le_refl}
-use Rattle.std.proofs.lemmas.Bool.{eq-eqb, ltb-true}
+use Rattle.std.proofs.lemmas.Bool.{ltb-true}
 use Rattle.std.proofs.lemmas.Bool.Decides.{nat_tests}
 use Rattle.gp_history.specs.History.{History, has}
 use Rattle.gp_command.specs.declared.command.Command.{Command}
@@ -28,7 +28,7 @@ use Rattle.gp_run.proofs.RoleRounds.{IsUpTo, two_up_to, AcceptorIsUpTo, acceptor
 use Rattle.gp_coordinator.specs.State.{CoordinatorState}
 use Rattle.gp_coordinator.specs.Table.{begun, coordinator_begin, coordinator_take, pending_with, expects, is_enough, extended, answered}
 use Rattle.gp_acceptor.specs.Table.{acceptor_take}
-use Rattle.gp_learner.specs.State.{LearnerState, Votes}
+use Rattle.gp_learner.specs.State.{Votes}
 use Rattle.gp_learner.specs.Table.{learner_take, vote_of, voter_cmp}
 use Rattle.gp_epoch.specs.Cut.{first_checkpoint, cut}
 use Rattle.gp_run.specs.Messages.{messages}

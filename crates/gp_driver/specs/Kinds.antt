@@ -18,7 +18,7 @@ kind_of (Offered c) = Kind.Propose
 kind_of (InEpoch e m) = kind_in m
 kind_of (Final e l v) = Kind.Final
 
--- kinds are numbered in the order in which messages are sent
+-- the number of a kind, in the order in which messages are sent
 abbrev pub kind_number : MsgKind → ℕ
 kind_number Kind.Propose = 0
 kind_number Kind.P1a = 1

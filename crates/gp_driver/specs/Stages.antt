@@ -34,7 +34,7 @@ pub record IsTooGreatForOne (config : Counts) (es : List Entry) (is_too_great : 
   pub no_fall : is_fall event ≡ false
   pub great : is_too_great event size need
 
--- a fault has a cause: that of a disk and that of a full log come only where the count of faults rose, and a full log has numbers that are too great
+-- a fault has a cause: that of a disk and that of a full log come only if the count of faults rose, and a full log has numbers that are too great
 abbrev pub HasCause : ℕ → ℕ → (ℕ → ℕ → Type 0) → StageFault → Type 0
 HasCause before now is_too_great NoMemory = Unit {0}
 HasCause before now is_too_great Disk = Rose before now

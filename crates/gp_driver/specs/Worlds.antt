@@ -1,5 +1,4 @@
 -- A world as a stage.
-use Rattle.std.specs.Prelude.{◌≡◌, ℕ}
 use Rattle.gp_world.specs.State.{WorldState, entries_of}
 use Rattle.gp_driver.specs.Stages.{StageState}
 
