@@ -1,5 +1,5 @@
 -- What votes add to each other.
-use Rattle.std.proofs.Common.{◌≡◌, ℕ, zero, suc, ◌+◌, ◌<◌, Bool, true, false, cond, List, [], ◌∷◌, ◌++◌, length, get_or, take, Some, refl, sym, ap, subst, ◌∙◌, arith}
+use Rattle.std.proofs.Common.{◌≡◌, ℕ, zero, suc, ◌+◌, ◌<◌, ◌≤◌, Bool, true, false, cond, List, [], ◌∷◌, ◌++◌, filter, length, get_or, take, Some, refl, sym, ap, subst, ◌∙◌, arith}
 use Rattle.std.specs.Prelude.{not, slice_index_or, slice_get}
 use Rattle.std.specs.Prelude.{Option, None, IfSome}
 use Rattle.std.specs.Option.{option_map}
@@ -9,16 +9,19 @@ use Rattle.gp_command.specs.declared.command.Command.{Command}
 use Rattle.gp_command.specs.Conflict.{same}
 use Rattle.gp_command.proofs.ConflictLemmas.{same_itself, same-true}
 use Rattle.gp_history.specs.History.{History, IsHistory, IsPrefix, has, push, pushes, empty}
-use Rattle.gp_history.specs.Sequence.{history_of}
+use Rattle.gp_history.specs.Sequence.{history_of, no_repeat}
 use Rattle.gp_history.specs.Canonical.{canonical}
 use Rattle.gp_history.proofs.Tests.{In, both, fst_of, snd_of, left_of, right_of, one_of, by_cases, never}
 use Rattle.gp_history.proofs.Sets.{has_history_of}
-use Rattle.gp_history.proofs.Joins.{empty_none, history_of-empty, history_of-push}
+use Rattle.gp_history.proofs.Joins.{empty_none, history_of_is, history_of-empty, history_of-push}
 use Rattle.gp_history.proofs.Push.{push_there, has-push}
 use Rattle.gp_history.proofs.Bound.{extended_by}
 use Rattle.std.proofs.lemmas.List.{take_more}
 use Rattle.gp_history.proofs.Places.{take_next}
 use Rattle.gp_history.proofs.Canonical.{in_filtered, canonical_stands}
+use Rattle.gp_history.proofs.Acyclic.{canonical_no_repeat}
+use Rattle.gp_history.proofs.Counts.{no_longer_lists}
+use Rattle.gp_history.proofs.Meet.{in_filter, from_filter}
 use Rattle.gp_vlog.specs.Prefixes.{fresh, additions, are_same, adds}
 
 -- ---- members
@@ -145,3 +148,40 @@ all_pushed P base cs vote is log_entries more = all_of P vote (λ c i. has-pushe
 pub all_of_base : (P : Command → Type 0) (o : Option (List Command)) (c : Command) → IfSome o (λ vote. All P vote) → has (base_or_empty (option_map history_of o)) c ≡ true → P c
 all_of_base P None c h e = never (has empty c) e (empty_none c)
 all_of_base P (Some vote) c h e = all_in P vote c h (sym (has_history_of vote c) ∙ e)
+
+-- ---- one addition alone
+
+in_canonical : (xs : List Command) (c : Command) → list_any (same c) (canonical (history_of xs)) ≡ list_any (same c) xs
+in_canonical xs c = sym (has_history_of (canonical (history_of xs)) c) ∙ ap (λ (h : History). has h c) (canonical_stands xs) ∙ has_history_of xs c
+
+fresh_as : (base : History) (xs ys : List Command) → ((c : Command) → In xs c → In ys c) → (c : Command) → In (fresh base xs) c → In (fresh base ys) c
+fresh_as base xs ys within c i = in_filter (λ d. not (has base d)) ys c (within c (in_filtered (λ d. not (has base d)) xs c i)) (from_filter (λ d. not (has base d)) xs c i)
+
+no_repeat_filter : (p : Command → Bool) (xs : List Command) → no_repeat xs ≡ true → no_repeat (filter p xs) ≡ true
+no_repeat_filter p [] n = refl
+no_repeat_filter p (x ∷ xs) n = by_cases (p x)
+    (λ k. rw k (both (by_cases (list_any (same x) (filter p xs))
+    (λ i. absurd (never (list_any (same x) xs) (in_filtered p xs x i) (no_more (list_any (same x) xs) (fst_of (not (list_any (same x) xs)) (no_repeat xs) n))))
+    (λ i. ap not i))
+    (no_repeat_filter p xs (snd_of (not (list_any (same x) xs)) (no_repeat xs) n))))
+    (λ k. rw k (no_repeat_filter p xs (snd_of (not (list_any (same x) xs)) (no_repeat xs) n)))
+  where
+    no_more : (b : Bool) → not b ≡ true → b ≡ false
+    no_more true e = absurd cc
+    no_more false e = refl
+
+same_few : (fs gs : List Command) → length fs ≤ 1 → no_repeat gs ≡ true → ((c : Command) → In fs c → In gs c) → ((c : Command) → In gs c → In fs c) → fs ≡ gs
+same_few [] [] few n there back = refl
+same_few [] (a ∷ gs) few n there back = let i = back a (left_of (same a a) _ (same_itself a)) in absurd cc
+same_few (c ∷ []) [] few n there back = let i = there c (left_of (same c c) _ (same_itself c)) in absurd cc
+same_few (c ∷ []) (a ∷ []) few n there back = ap (λ d. d ∷ []) (sym (one_of (same a c) false (back a (left_of (same a a) _ (same_itself a))) (λ s. same-true a c s) (λ i. absurd cc)))
+same_few (c ∷ []) (a ∷ b ∷ gs) few n there back = let le = no_longer_lists (a ∷ b ∷ gs) (c ∷ []) n back in absurd (omega (arith, le))
+same_few (c ∷ d ∷ fs) gs few n there back = absurd (omega (arith, few))
+
+pub few_added : (base : History) (xs added : List Command) → added ≡ fresh base xs → length added ≤ 1 → added ≡ additions base (history_of xs)
+few_added base xs added is few =
+    let h = history_of xs in
+    is ∙ same_few (fresh base xs) (additions base h) (subst (λ l. length l ≤ 1) is few)
+    (no_repeat_filter (λ c. not (has base c)) (canonical h) (canonical_no_repeat h (history_of_is xs)))
+    (fresh_as base xs (canonical h) (λ c i. in_canonical xs c ∙ i))
+    (fresh_as base (canonical h) xs (λ c i. sym (in_canonical xs c) ∙ i))
