@@ -1,0 +1,7 @@
+//! Tests of the wire, with threads.
+#![tactic(auto)]
+
+#[cfg(test)]
+mod one_list;
+#[cfg(test)]
+mod posters;
