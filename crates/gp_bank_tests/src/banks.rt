@@ -1,0 +1,87 @@
+//! What operations do to accounts and what they reply.
+use crate::steps::{A, B, C, Step, draft};
+use gp_bank::Bank;
+use gp_command::{Command, CommandId, Draft, Key};
+use gp_replica::{Machine, Reply};
+use std::alloc::Global;
+use std::test::Fail;
+
+const FIRST: CommandId = CommandId {
+    proposer: 0,
+    number: 1,
+};
+
+// Operations one after another, each with its reply.
+static RUN: [(Step, Reply); 16] = [
+    // an absent account counts as 0, and what it loses leaves it absent
+    (Step::Balance(A), Reply::Value(0)),
+    (Step::Withdraw(A, 0), Reply::Yes),
+    (Step::Withdraw(A, 1), Reply::No),
+    (Step::Transfer(A, A, 0), Reply::Yes),
+    (Step::Deposit(A, 10), Reply::Done),
+    (Step::Transfer(A, B, 4), Reply::Yes),
+    (Step::Withdraw(B, 5), Reply::No),
+    (Step::Balance(A), Reply::Value(6)),
+    (Step::Withdraw(B, 4), Reply::Yes),
+    (Step::Balance(B), Reply::Value(0)),
+    // nothing moves within one account
+    (Step::Transfer(A, A, 6), Reply::Yes),
+    (Step::Transfer(A, A, 7), Reply::No),
+    (Step::Transfer(A, C, 7), Reply::No),
+    (Step::Transfer(C, B, 0), Reply::Yes),
+    (Step::Deposit(B, 4294967295), Reply::Done),
+    (Step::Checkpoint, Reply::Done),
+];
+
+// Whether the bank has this reply to the command with this draft.
+fn replies(bank: &mut Bank, draft: Draft, reply: Reply) -> Result<bool, Fail> {
+    Ok(bank.apply(&Command::new(FIRST, draft))? == reply)
+}
+
+fn does(alloc: Global, bank: &mut Bank, row: (Step, Reply)) -> Result<bool, Fail> {
+    let (step, reply) = row;
+    replies(bank, draft(alloc, step)?, reply)
+}
+
+// The balance of an account that is there.
+fn balance(bank: &Bank, key: &[u8]) -> Result<Option<u64>, Fail> {
+    Ok(bank.accounts().get(&Key::new(key)?).copied())
+}
+
+// Whether the accounts are those that the run leaves.
+fn is_run(bank: &Bank) -> Result<bool, Fail> {
+    Ok(
+        balance(bank, A)? == Some(6)
+            && balance(bank, B)? == Some(4294967295)
+            && balance(bank, C)? == None
+            && bank.accounts().len() == 2,
+    )
+}
+
+fn run_all(alloc: Global, bank: &mut Bank) -> Result<bool, Fail> {
+    for row in &RUN {
+        if !does(alloc, bank, *row)? {
+            return Ok(false);
+        }
+    }
+    Ok(true)
+}
+
+#[test]
+fn operations_do_what_they_say(rt: HostRuntime) -> Result<(), Fail> {
+    let alloc = rt.alloc();
+    let mut bank = Bank::opening(alloc)?;
+    assert!(rt; run_all(alloc, &mut bank)?);
+    assert!(rt; is_run(&bank)?);
+    Ok(())
+}
+
+#[test]
+fn a_command_that_is_no_operation_changes_nothing(rt: HostRuntime) -> Result<(), Fail> {
+    let alloc = rt.alloc();
+    let mut bank = Bank::opening(alloc)?;
+    let untouched = Draft::new(alloc, &[], b"deposit a 5")?;
+    assert!(rt; replies(&mut bank, untouched, Reply::Absent)?);
+    assert!(rt; bank.accounts().is_empty());
+    Ok(())
+}
