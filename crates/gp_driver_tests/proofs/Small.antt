@@ -1,0 +1,37 @@
+-- Small worlds, and few drafts, take few events.
+use Rattle.std.proofs.Common.{◌≡◌, ℕ, ◌+◌, ◌≤◌, ◌^◌, List, length, ap, arith}
+use Rattle.gp_command.specs.declared.draft.Draft.{Draft}
+use Rattle.gp_round.specs.Counts.{Counts}
+use Rattle.gp_round.specs.Ranges.{AreInRange}
+use Rattle.gp_msg.specs.declared.record.Record.{Record}
+use Rattle.gp_run.specs.Messages.{messages}
+use Rattle.gp_run.specs.Legal.{Legal}
+use Rattle.gp_run.specs.TopCount.{top_count}
+use Rattle.gp_world.specs.State.{WorldState, entries_of}
+use Rattle.gp_driver.specs.Settling.{checkpoints, settle}
+use Rattle.gp_driver.specs.Driving.{drive_multi}
+use Rattle.gp_driver.specs.Driven.{AreNoCheckpoints}
+use Rattle.gp_driver.proofs.Lengths.{checkpoints_among, settled_length, driven_length}
+use Rattle.gp_driver.proofs.Worlds.{as_many}
+use Rattle.gp_driver.proofs.SettleCode.{range_of, brings}
+use Rattle.gp_driver.proofs.DrivingCode.{drives}
+
+pub few_rounds : (w : WorldState) (m t : ℕ) → m ≡ length (messages (entries_of w)) → m ≤ 100000 → t ≡ top_count w.config (entries_of w) → t ≤ 100000 → top_count w.config (entries_of w) + checkpoints (messages (entries_of w)) ≤ 999999
+few_rounds w m t em lm et lt = let n = checkpoints_among (messages (entries_of w)) in omega (arith, n, em, lm, et, lt)
+
+pub few_settled : (w : WorldState) (d : Counts) (rs : List Record) (r m t : ℕ) → AreInRange d.acceptors d.coordinators d.learners → d ≡ w.config → Legal w.config (entries_of w)
+    → rs ≡ w.records → r ≡ length rs → r ≤ 100000 → m ≡ length (messages (entries_of w)) → m ≤ 100000 → t ≡ top_count w.config (entries_of w) → t ≤ 100000 → length (settle w.config (entries_of w)) ≤ 2 ^ 31
+few_settled w d rs r m t range same legal value er lr em lm et lt =
+    let in_range = range_of d w.config same range in
+    let s = brings w.config in_range (entries_of w) legal (few_rounds w m t em lm et lt) in
+    let a = settled_length w.config in_range (entries_of w) s in
+    let n = as_many w in
+    let k = ap length value in
+    omega (arith, a, n, k, er, lr, em, lm)
+
+pub few_driven : (w : WorldState) (d : Counts) (drafts : List Draft) (n : ℕ) → AreInRange d.acceptors d.coordinators d.learners → d ≡ w.config → w.config.coordinators ≡ 3 → AreNoCheckpoints drafts → length drafts ≡ n → n ≤ 64
+    → length (drive_multi w.config drafts) ≤ 2 ^ 31
+few_driven w d drafts n range same three plain e l =
+    let in_range = range_of d w.config same range in
+    let a = driven_length w.config in_range drafts (drives w.config drafts in_range three plain) in
+    omega (arith, a, e, l)
