@@ -1,4 +1,4 @@
-use Rattle.std.proofs.Common.{◌≡◌, length, get_or, set, subst, ap, arith}
+use Rattle.std.proofs.Common.{◌≡◌, get_or, set, subst, ap, arith}
 use Rattle.std.specs.Prelude.{◌≢◌}
 use Rattle.gp_history.proofs.Tests.{fst_of, snd_of}
 use Rattle.gp_bounds.proofs.Counting.{all_counted, one_counted}
