@@ -3,5 +3,4 @@
 
 #[cfg(test)]
 mod one_list;
-#[cfg(test)]
 mod posters;
