@@ -4,7 +4,7 @@ ghost use Rattle.gp_history.specs.Canonical.{canonical};
 ghost use Rattle.gp_history.specs.Sequence.{history_of};
 ghost use Rattle.gp_words.specs.Spacing.{spaced};
 ghost use Rattle.gp_world.specs.State.{entries_of};
-ghost use Rattle.gp_report.specs.Texts.{identity, commands_line, learned_text};
+ghost use Rattle.gp_report.specs.Texts.{identity, identities, commands_line, learned_text};
 
 use gp_command::{CommandId, NoMemory};
 use gp_history::Hist;
@@ -41,6 +41,19 @@ fn push_identities(commands: &History, to: &mut Vec<u8>) -> Result<(), NoMemory>
         push_identity(commands.at(i).id(), to)?;
     }
     push_dash(commands.len(), to)
+}
+
+/// Appends the identities of the commands of a history, in canonical order with single spaces between
+/// them, or `-` if there are none. If memory runs out, `to` holds what it held.
+pub fn identities(alloc: Global, history: &History, to: &mut Vec<u8>) -> Result<(), NoMemory>
+    ensures written { OnOk result (to.new.items ≡ to.old.items ++ identities (history_of history.now)) }
+    ensures unchanged { OnErr result (to.new.items ≡ to.old.items) }
+{
+    let ordered = in_order(alloc, history)?;
+    let mut text = Vec::new(alloc);
+    push_identities(&ordered, &mut text)?;
+    to.extend_from_slice(&text)?;
+    Ok(())
 }
 
 // Appends the learned line of a learner who learned these commands, in their order.

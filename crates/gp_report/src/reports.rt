@@ -44,7 +44,7 @@ fn push_learner(
     push_lines(alloc, learner, world.learned(learner), to)
 }
 
-fn push_totals(world: &World, to: &mut Vec<u8>) -> Result<(), NoMemory>
+pub(crate) fn push_totals(world: &World, to: &mut Vec<u8>) -> Result<(), NoMemory>
     ensures { OnOk result (to.new.items ≡ to.old.items ++ totals_line (length (entries_of world.now)) (length (messages (entries_of world.now)))) }
 {
     to.extend_from_slice(b"events ")?;
