@@ -1,5 +1,8 @@
 -- From a cause to the end of a run, and back.
-use Rattle.std.proofs.Common.{◌≡◌, ℕ, List, [], Option, Some, None, Result, Ok, Err, refl, sym, ap, subst, ◌∙◌, arith}
+use Rattle.std.proofs.Common.{◌≡◌, ℕ, List, [], Option, Some, None, Result, Ok, Err, inl, inr, refl, sym, ap, subst, ◌∙◌, ◌<◌, length, arith}
+use Rattle.std.specs.Prelude.{IfOk, IfErr}
+use Rattle.std.specs.Global.{Vec}
+use Rattle.gp_command.specs.declared.memory.NoMemory.{NoMemory}
 use Rattle.std.proofs.lemmas.List.{append-nil}
 use Rattle.gp_msg.specs.Messages.{Entry}
 use Rattle.gp_msg.specs.declared.record.Record.{Record}
@@ -9,10 +12,9 @@ use Rattle.gp_round.specs.Configs.{counts}
 use Rattle.gp_report.specs.Replicas.{IsInAgreement}
 use Rattle.gp_report.proofs.Agreeing.{in_agreement}
 use Rattle.gp_edge.specs.Reads.{ReadsUpTo, LosesUpTo}
-use Rattle.gp_edge.specs.Writes.{AppendsWhole}
+use Rattle.gp_edge.specs.Writes.{AppendsWhole, AppendsPart}
 use Rattle.gp_script.specs.declared.reason.Reason.{Reason}
 use Rattle.gp_world.specs.State.{entries_of}
-use Rattle.gp_cli.specs.Texts.{refusal_text}
 use Rattle.gp_text.specs.declared.played.Played.{Played}
 use Rattle.gp_text.specs.declared.played.Unplayed.{Unplayed}
 use Rattle.gp_text.specs.declared.played.Unplayed.TheVariants.{Bad}
@@ -21,15 +23,17 @@ use Rattle.gp_text.specs.Playing.{IsRefused, Stops}
 use Rattle.gp_text.specs.Limits.{IsLegalBefore, SaysLegally}
 use Rattle.gp_text.proofs.SaidLegally.{reading_legal}
 use Rattle.gp_text.specs.Playing.{Plays as Gives}
-use Rattle.gp_cli.specs.declared.serving.TheConstants.{MOST_READ}
-use Rattle.gp_cli.specs.Outside.{Seen, Told, Wholly}
-use Rattle.gp_cli.specs.Endings.{Ending, Misused, Unread, Refuses, Plays, Starved, HasRead, IsReadCause, IsScriptCause, IsConfigIn, IsConfigOf, status_of, status_at_fault, text_of, run_to}
-use Rattle.gp_cli.specs.Serving.{EndsBy, AgreesInItsConfig}
-use Rattle.gp_cli.specs.declared.serving.Ran.{Ran}
+use Rattle.gp_cli.specs.declared.runs.TheConstants.{MOST_READ}
+use Rattle.gp_cli.specs.Texts.{refusal_text}
+use Rattle.gp_cli.specs.Outside.{Seen, Told, Wholly, ForMemory}
+use Rattle.gp_cli.specs.Endings.{Ending, Misused, Unread, Refuses, Plays, Drives, Simulates, Shows, DiskFails, Overflows, Breaks, Starved, status_of, status_at_fault, text_of, run_to, config_in, config_of}
+use Rattle.gp_cli.specs.Causes.{HasRead, IsReadCause, IsScriptCause, IsRunCause}
+use Rattle.gp_cli.specs.Logs.{TellsEnding, LogEnds}
+use Rattle.gp_cli.specs.Serving.{IsConfig, EndsBy, AgreesInItsConfig}
 
 -- what a run ends by is in agreement for its own configuration
-pub in_its_config : (Cause : Ending → Type 0) (before now : Seen) (ran : Ran) → EndsBy Cause before now ran → AgreesInItsConfig Cause ran
-in_its_config Cause before now ran ends = record { ending = ends.ending; cause = ends.cause; config = ends.config; own_config = ends.own_config; agreement = ends.agreement }
+pub in_its_config : (Cause : Ending → Type 0) (before now : Seen) (status : ℕ) (trail : List Record) → EndsBy Cause before now status trail → AgreesInItsConfig Cause trail
+in_its_config Cause before now status trail ends = record { ending = ends.ending; cause = ends.cause; config = ends.config; own_config = ends.own_config; agreement = ends.agreement }
 
 -- an empty text is written by doing nothing
 pub nothing_told : (written : Option (List ℕ)) → AppendsWhole written written []
@@ -48,11 +52,11 @@ none_agrees records none =
     subst P (sym none) (in_agreement (counts 3 1 1) (omega arith) [] tt)
 
 -- one cause for another
-pub because : (P Q : Ending → Type 0) (before now : Seen) (ran : Ran) → ((ending : Ending) → P ending → Q ending) → EndsBy P before now ran → EndsBy Q before now ran
-because P Q before now ran for ends = record {
+pub because : (P Q : Ending → Type 0) (before now : Seen) (status : ℕ) (trail : List Record) → ((ending : Ending) → P ending → Q ending) → EndsBy P before now status trail → EndsBy Q before now status trail
+because P Q before now status trail for ends = record {
   ending = ends.ending;
   cause = for ends.ending ends.cause;
-  trail = ends.trail;
+  run = ends.run;
   config = ends.config;
   own_config = ends.own_config;
   agreement = ends.agreement;
@@ -65,39 +69,89 @@ script_cause before now bytes taken steady Misused cause = cause
 script_cause before now bytes taken steady Unread cause = absurd cause
 script_cause before now bytes taken steady (Refuses line reason before_it) cause = record { bytes = bytes; taken = taken; steady = steady; says = cause }
 script_cause before now bytes taken steady (Plays config said) cause = record { bytes = bytes; taken = taken; steady = steady; says = cause }
+script_cause before now bytes taken steady (Drives config commands) cause = cause
+script_cause before now bytes taken steady (Simulates seed commands) cause = cause
+script_cause before now bytes taken steady (Shows disk log) cause = cause
+script_cause before now bytes taken steady DiskFails cause = cause
+script_cause before now bytes taken steady (Overflows size need) cause = cause
+script_cause before now bytes taken steady (Breaks place) cause = cause
 script_cause before now bytes taken steady Starved cause = (steady, loses MOST_READ before.bytes now.bytes bytes taken)
 
 -- a script that was read up to the limit ends as a script
-pub read_ends : (rest left before now : Seen) (ran : Ran) (bytes script : List ℕ) → script ≡ bytes → ReadsUpTo MOST_READ rest.bytes left.bytes bytes → left.faults ≡ rest.faults
-    → EndsBy (IsScriptCause (reading script)) before now ran → EndsBy (IsReadCause rest left) before now ran
-read_ends rest left before now ran bytes script same taken steady ends =
-    let Q : List ℕ → Type 0 = λ b. EndsBy (IsScriptCause (reading b)) before now ran in
-    because (IsScriptCause (reading bytes)) (IsReadCause rest left) before now ran (script_cause rest left bytes taken steady) (subst Q same ends)
-
--- memory ran out before the end was known, and nothing was written
-pub starved : (Cause : Ending → Type 0) (before : Seen) (ran : Ran) → Cause Starved → ran.status ≡ 1 → ran.trail ≡ [] → EndsBy Cause before before ran
-starved Cause before ran cause one none = record {
-  ending = Starved;
-  cause = cause;
-  trail = ap entries_in none;
-  config = counts 3 1 1;
-  own_config = tt;
-  agreement = none_agrees ran.trail none;
-  told = Wholly one refl (nothing_told before.bytes);
-}
+pub read_ends : (rest left before now : Seen) (status : ℕ) (trail : List Record) (bytes script : List ℕ) → script ≡ bytes → ReadsUpTo MOST_READ rest.bytes left.bytes bytes → left.faults ≡ rest.faults
+    → EndsBy (IsScriptCause (reading script)) before now status trail → EndsBy (IsReadCause rest left) before now status trail
+read_ends rest left before now status trail bytes script same taken steady ends =
+    let Q : List ℕ → Type 0 = λ b. EndsBy (IsScriptCause (reading b)) before now status trail in
+    because (IsScriptCause (reading bytes)) (IsReadCause rest left) before now status trail (script_cause rest left bytes taken steady) (subst Q same ends)
 
 -- a run that was not begun ends with a text alone
-pub without_run : (Cause : Ending → Type 0) (ending : Ending) (before now : Seen) (ran : Ran) → Cause ending → run_to ending ≡ [] → IsConfigOf ending (counts 3 1 1) → ran.trail ≡ []
-    → Told before now (text_of ending) (status_of ending) (status_at_fault ending) ran.status → EndsBy Cause before now ran
-without_run Cause ending before now ran cause no_run own none told = record {
+pub without_run : (Cause : Ending → Type 0) (ending : Ending) (before now : Seen) (status : ℕ) (trail : List Record) → Cause ending → run_to ending ≡ [] → config_of ending ≡ None → trail ≡ []
+    → TellsEnding ending before now status → EndsBy Cause before now status trail
+without_run Cause ending before now status trail cause no_run no_config none told = record {
   ending = ending;
   cause = cause;
-  trail = ap entries_in none ∙ sym no_run;
+  run = ap entries_in none ∙ sym no_run;
   config = counts 3 1 1;
-  own_config = own;
-  agreement = none_agrees ran.trail none;
+  own_config = let P : Option Counts → Type 0 = λ own. IsConfig own (counts 3 1 1) in subst P (sym no_config) tt;
+  agreement = none_agrees trail none;
   told = told;
 }
+
+-- memory ran out before the end was known, and nothing was written
+pub starved : (Cause : Ending → Type 0) (before : Seen) (status : ℕ) (trail : List Record) → Cause Starved → status ≡ 1 → trail ≡ [] → EndsBy Cause before before status trail
+starved Cause before status trail cause one none = without_run Cause Starved before before status trail cause refl refl none (Wholly one refl (nothing_told before.bytes))
+
+-- a run of which the log of a disk was all
+pub log_ends : (P Q : Ending → Type 0) (before now : Seen) (status : ℕ) (trail : List Record) → ((ending : Ending) → P ending → Q ending) → LogEnds P before now status → trail ≡ [] → EndsBy Q before now status trail
+log_ends P Q before now status trail for ends none = without_run Q ends.ending before now status trail (for ends.ending ends.cause) ends.no_run ends.no_config none ends.told
+
+-- a run that was made as it should be, and what it prints
+pub made_ends : (meant : Ending) (config : Counts) (before now : Seen) (status : ℕ) (trail : List Record) (text : List ℕ) → config_of meant ≡ Some config → IsInAgreement config (entries_in trail) → entries_in trail ≡ run_to meant
+    → status_of meant ≡ 0 → text ≡ text_of meant → Told before now text 0 5 status → EndsBy (IsRunCause meant) before now status trail
+made_ends meant config before now status trail text own agreement run well is told = record {
+  ending = meant;
+  cause = inl refl;
+  run = run;
+  config = config;
+  own_config = let P : Option Counts → Type 0 = λ named. IsConfig named config in subst P (sym own) refl;
+  agreement = agreement;
+  told =
+      let T : List ℕ → Type 0 = λ t. Told before now t 0 5 status in
+      let S : ℕ → Type 0 = λ n. Told before now (text_of meant) n (status_at_fault n) status in
+      subst S (sym well) (subst T is told);
+}
+
+pub unmade_ends : (meant : Ending) (before now : Seen) (status : ℕ) (trail : List Record) → trail ≡ [] → Told before now [] 1 1 status → EndsBy (IsRunCause meant) before now status trail
+unmade_ends meant before now status trail none told = without_run (IsRunCause meant) Starved before now status trail (inr refl) refl refl none told
+
+-- a run that was made as it should be, or was not made for want of memory
+pub printed_ends : (meant : Ending) (config : Counts) (before now : Seen) (status : ℕ) (trail : List Record) (made : Result Played NoMemory) → config_of meant ≡ Some config → status_of meant ≡ 0
+    → IfOk made (λ p. entries_of p.world ≡ run_to meant) → IfOk made (λ p. p.text.items ≡ text_of meant) → IfOk made (λ p. IsInAgreement config (entries_of p.world))
+    → IfOk made (λ p. (trail ≡ p.world.records) × Told before now p.text.items 0 5 status) → IfErr made (λ e. (trail ≡ []) × Told before now [] 1 1 status)
+    → EndsBy (IsRunCause meant) before now status trail
+printed_ends meant config before now status trail (Ok played) own well run text agreement printed starved =
+    let at : entries_in trail ≡ entries_of played.world = ap entries_in printed.0 in
+    made_ends meant config before now status trail played.text.items own (subst (IsInAgreement config) (sym at) agreement) (at ∙ run) well text printed.1
+printed_ends meant config before now status trail (Err e) own well run text agreement printed starved = unmade_ends meant before now status trail starved.0 starved.1
+
+-- nothing was written of a text that could not be made
+pub untold : (before : Seen) (n status : ℕ) (meant : List ℕ) → status ≡ 1 → 0 < length meant → Told before before meant n n status
+untold before n status meant one some = ForMemory one refl (part before.bytes) where
+  part : (bytes : Option (List ℕ)) → AppendsPart bytes bytes meant
+  part None = refl
+  part (Some bytes) = (0, some, ap (λ (b : List ℕ). Some b) (sym (append-nil bytes)))
+
+-- what holds of want of memory, where that was answered
+pub on_err : {X : Type 0} (made : Result X NoMemory) (e : NoMemory) (P : Type 0) → made ≡ Err e → P → IfErr made (λ x. P)
+on_err made e P is p = subst (λ m. IfErr m (λ x. P)) (sym is) p
+
+-- a text that may not have been made
+pub told_of : (before now : Seen) (n status : ℕ) (meant : List ℕ) (text : Result (Vec ℕ) NoMemory) → 0 < length meant → IfOk text (λ t. t.items ≡ meant)
+    → IfOk text (λ t. Told before now t.items n n status) → IfErr text (λ e. (m : List ℕ) → 0 < length m → Told before now m n n status) → Told before now meant n n status
+told_of before now n status meant (Ok text) some is told untold_it = subst (λ (t : List ℕ). Told before now t n n status) is told
+told_of before now n status meant (Err e) some is told untold_it = untold_it meant some
+
+-- ---- scripts
 
 -- a script that is refused at a line
 stopped : (read : Reading) (result : Result Played Unplayed) (why : Unplayed) (line : ℕ) (reason : Reason) (records : List Record) → result ≡ Err why → why ≡ Bad line reason records
@@ -108,22 +162,22 @@ stopped read result why line reason records is bad gives =
     subst Q bad (subst P is gives)
 
 -- a script that was played
-pub played_ends : (read : Reading) (played : Played) (before now : Seen) (ran : Ran) (text : List ℕ) → Gives read (Ok played) → IsInAgreement played.world.config (entries_of played.world) → ran.trail ≡ played.world.records
-    → text ≡ played.text.items → Told before now text 0 5 ran.status → EndsBy (IsScriptCause read) before now ran
-played_ends read played before now ran text gives agree trail same told = record {
+pub played_ends : (read : Reading) (played : Played) (before now : Seen) (status : ℕ) (trail : List Record) → Gives read (Ok played) → IsInAgreement played.world.config (entries_of played.world) → trail ≡ played.world.records
+    → Told before now played.text.items 0 5 status → EndsBy (IsScriptCause read) before now status trail
+played_ends read played before now status trail gives agree same told = record {
   ending = Plays played.world.config gives.said;
   cause = gives.whole;
-  trail = ap entries_in trail ∙ gives.run;
+  run = ap entries_in same ∙ gives.run;
   config = played.world.config;
   own_config = refl;
-  agreement = let P : List Record → Type 0 = λ records. IsInAgreement played.world.config (entries_in records) in subst P (sym trail) agree;
-  told = let T : List ℕ → Type 0 = λ t. Told before now t 0 5 ran.status in subst T (same ∙ gives.text) told;
+  agreement = let P : List Record → Type 0 = λ records. IsInAgreement played.world.config (entries_in records) in subst P (sym same) agree;
+  told = let T : List ℕ → Type 0 = λ t. Told before now t 0 5 status in subst T gives.text told;
 }
 
 -- a configuration of what was said, and the agreement of its run
 record Agreeing (said : Option Script) (run : List Entry) : Type 0 where
   config : Counts
-  own : IsConfigIn said config
+  own : IsConfig (config_in said) config
   agreement : IsInAgreement config run
 
 agreeing : (said : Option Script) (run : List Entry) → IsLegalBefore said → run ≡ run_before said → Agreeing said run
@@ -131,15 +185,15 @@ agreeing None run legal is = record { config = counts 3 1 1; own = tt; agreement
 agreeing (Some script) run legal is = record { config = script.config; own = refl; agreement = subst (IsInAgreement script.config) (sym is) legal.agreement }
 
 -- a script that is refused at a line, which was told
-pub refused_ends : (read : Reading) (result : Result Played Unplayed) (why : Unplayed) (line : ℕ) (reason : Reason) (records : List Record) (before now : Seen) (ran : Ran) → result ≡ Err why → why ≡ Bad line reason records
-    → Gives read result → SaysLegally read → ran.trail ≡ records → Told before now (refusal_text line reason) 3 3 ran.status → EndsBy (IsScriptCause read) before now ran
-refused_ends read result why line reason records before now ran is bad gives legal trail told =
+pub refused_ends : (read : Reading) (result : Result Played Unplayed) (why : Unplayed) (line : ℕ) (reason : Reason) (records : List Record) (before now : Seen) (status : ℕ) (trail : List Record) → result ≡ Err why → why ≡ Bad line reason records
+    → Gives read result → SaysLegally read → trail ≡ records → Told before now (refusal_text line reason) 3 3 status → EndsBy (IsScriptCause read) before now status trail
+refused_ends read result why line reason records before now status trail is bad gives legal same told =
     let at = stopped read result why line reason records is bad gives in
-    let run : entries_in ran.trail ≡ run_before at.before = ap entries_in trail ∙ at.run in
-    let own = agreeing at.before (entries_in ran.trail) (subst SaysLegally at.says legal) run in record {
+    let run : entries_in trail ≡ run_before at.before = ap entries_in same ∙ at.run in
+    let own = agreeing at.before (entries_in trail) (subst SaysLegally at.says legal) run in record {
       ending = Refuses line reason at.before;
       cause = at.says;
-      trail = run;
+      run = run;
       config = own.config;
       own_config = own.own;
       agreement = own.agreement;

@@ -1,3 +1,5 @@
 pub mod Causes
 pub mod Statuses
 pub mod Arguments
+pub mod LogCauses
+pub mod DiskLists

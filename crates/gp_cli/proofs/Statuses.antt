@@ -1,23 +1,31 @@
 -- What the statuses of a run say.
-use Rattle.std.proofs.Common.{◌≡◌, ℕ, ◌≤◌, length, arith, false, eqb, List, [], take, drop, Option, Some, None, refl, sym, ap, subst, ◌∙◌, ◌⊎◌, inl, inr}
+use Rattle.std.proofs.Common.{◌≡◌, ℕ, zero, suc, ◌≤◌, length, arith, List, [], take, drop, Option, Some, None, Ok, Err, refl, sym, ap, subst, ◌∙◌, ◌⊎◌, inl, inr}
 use Rattle.std.specs.Prelude.{IfSome}
-use Rattle.std.proofs.lemmas.Bool.{eqb-false}
 use Rattle.std.proofs.lemmas.List.{length-take, drop_all}
 use Rattle.gp_round.specs.Counts.{Counts}
+use Rattle.gp_msg.specs.declared.record.Record.{Record}
 use Rattle.gp_run.specs.Runs.{entries_in}
+use Rattle.gp_edge.specs.Disks.{IfRevealed}
 use Rattle.gp_edge.specs.Faults.{Rose}
 use Rattle.gp_edge.specs.Reads.{ReadsUpTo}
+use Rattle.gp_edge.specs.Writes.{AppendsWhole}
 use Rattle.gp_script.specs.declared.reason.Reason.{Reason}
+use Rattle.gp_report.specs.Replicas.{IsInAgreement}
+use Rattle.gp_sim.specs.Simulated.{sim_config}
 use Rattle.gp_text.specs.Reading.{Reading, Whole, Refused, Script, Sofar, reading}
 use Rattle.gp_text.proofs.ShortScripts.{script_short}
-use Rattle.gp_cli.specs.declared.serving.TheConstants.{MOST_READ}
-use Rattle.gp_cli.specs.declared.serving.Ran.{Ran}
+use Rattle.gp_vlog.specs.Files.{Contents, is_limit, read_log}
+use Rattle.gp_vlog.proofs.Moments.{told as at_bytes}
+use Rattle.gp_cli.specs.declared.runs.TheConstants.{MOST_READ}
 use Rattle.gp_cli.specs.declared.subcommand.Subcommand.{Subcommand}
-use Rattle.gp_cli.specs.declared.subcommand.Subcommand.TheVariants.{Play}
+use Rattle.gp_cli.specs.declared.subcommand.Subcommand.TheVariants.{Play, Sim, Drive, Log, Upgrade}
 use Rattle.gp_cli.specs.Subcommands.{named}
 use Rattle.gp_cli.specs.Outside.{Seen, Outside, Told, Wholly, AtFault, ForMemory}
-use Rattle.gp_cli.specs.Endings.{Ending, Misused, Unread, Refuses, Plays, Starved, HasRead, IsCauseFor, IsCause, status_of, status_at_fault, text_of, run_to}
-use Rattle.gp_cli.specs.Serving.{EndsBy, Ends, HoldsScript, HoldsBadLine, PlaysWhole, StopsAtLine}
+use Rattle.gp_cli.specs.Endings.{Ending, Misused, Unread, Refuses, Plays, Drives, Simulates, Shows, DiskFails, Overflows, Breaks, Starved, status_of, status_at_fault, text_of, run_to, config_of}
+use Rattle.gp_cli.specs.Causes.{HasRead, IfLog, IsCauseFor, IsCause, IsRunCause, driven_config, seen_at, disk_used}
+use Rattle.gp_cli.specs.Logs.{TellsEnding}
+use Rattle.gp_cli.specs.Serving.{IsConfig, Ends, HoldsScript, HoldsBadLine, PlaysWhole, StopsAtLine, Prints, PrintsDriven, PrintsSimulated}
+use Rattle.gp_cli.specs.LogRuns.{HoldsLog, HoldsNoLog, ShowsLog, ShowsTakenOn, HasNoSpace, IsBrokenAt}
 use Rattle.gp_cli.proofs.Causes.{read_legal}
 
 -- after a script that is short enough nothing is left
@@ -31,13 +39,6 @@ nothing_left (Some rest) now bytes reads short =
 -- after a whole script nothing is left
 whole_left : (rest left : Seen) (config : Counts) (said : Sofar) → HasRead rest left (Whole config said) → IfSome left.bytes (λ bytes. bytes ≡ [])
 whole_left rest left config said read = nothing_left rest.bytes left.bytes read.bytes read.taken (script_short read.bytes config said read.says)
-
--- a text is told with one of three statuses
-other_status : (before now : Seen) (text : List ℕ) (whole at_fault status n : ℕ) → Told before now text whole at_fault status
-    → eqb whole n ≡ false → eqb at_fault n ≡ false → eqb 1 n ≡ false → status ≡ n → ⊥
-other_status before now text whole at_fault status n (Wholly is steady written) w f o e = eqb-false whole n w (sym is ∙ e)
-other_status before now text whole at_fault status n (AtFault is rose written) w f o e = eqb-false at_fault n f (sym is ∙ e)
-other_status before now text whole at_fault status n (ForMemory is steady written) w f o e = eqb-false 1 n o (sym is ∙ e)
 
 -- one status, or the one for memory that ran out, if both texts have one or the sink did not fail
 same_status : (before now : Seen) (text : List ℕ) (n status : ℕ) → Told before now text n n status → (status ≡ n) ⊎ (status ≡ 1)
@@ -63,161 +64,491 @@ read_is before now rest read tells has =
     let taken : (has.bytes ≡ take MOST_READ rest) × (now.bytes ≡ Some (drop MOST_READ rest)) = subst P tells has.taken in
     ap reading (sym taken.0) ∙ has.says
 
-module _ (before now : Outside) (ran : Ran) where
+-- ---- which ending has a status
+
+-- a text that was told whole, with the status of its ending
+record IsWhole (ending : Ending) (before now : Seen) : Type 0 where
+  well : status_of ending ≡ 0
+  steady : now.faults ≡ before.faults
+  written : AppendsWhole before.bytes now.bytes (text_of ending)
+
+-- with status 0 all was written
+done : (ending : Ending) (before now : Seen) (status : ℕ) → TellsEnding ending before now status → status ≡ 0 → IsWhole ending before now
+done ending before now status (Wholly is steady written) none_failed = record { well = sym is ∙ none_failed; steady = steady; written = written }
+done ending before now status (AtFault is rose written) none_failed = absurd (never (status_of ending) (sym is ∙ none_failed)) where
+  never : (n : ℕ) → status_at_fault n ≡ 0 → ⊥
+  never zero e = cc
+  never (suc n) e = cc
+done ending before now status (ForMemory is steady written) none_failed = let clash : 1 ≡ 0 = sym is ∙ none_failed in cc
+
+-- a status from 2 on but 5 is that of the ending
+own_status : (ending : Ending) (before now : Seen) (status n : ℕ) → TellsEnding ending before now status → status ≡ suc (suc n) → ¬ (suc (suc n) ≡ 5) → status_of ending ≡ suc (suc n)
+own_status ending before now status n (Wholly is steady written) e no_five = sym is ∙ e
+own_status ending before now status n (AtFault is rose written) e no_five = by (status_of ending) (sym is ∙ e) where
+  by : (m : ℕ) → status_at_fault m ≡ suc (suc n) → m ≡ suc (suc n)
+  by zero h = absurd (no_five (sym h))
+  by (suc m) h = h
+own_status ending before now status n (ForMemory is steady written) e no_five = let clash : 1 ≡ suc (suc n) = sym is ∙ e in cc
+
+-- with status 5 the sink failed, and the ending would have had status 0
+sink_failed : (ending : Ending) (before now : Seen) (status : ℕ) → ¬ (status_of ending ≡ 5) → TellsEnding ending before now status → status ≡ 5 → (status_of ending ≡ 0) × Rose before.faults now.faults
+sink_failed ending before now status not (Wholly is steady written) five = absurd (not (sym is ∙ five))
+sink_failed ending before now status not (AtFault is rose written) five = (by (status_of ending) not (sym is ∙ five), rose) where
+  by : (m : ℕ) → ¬ (m ≡ 5) → status_at_fault m ≡ 5 → m ≡ 0
+  by zero other h = refl
+  by (suc m) other h = absurd (other h)
+sink_failed ending before now status not (ForMemory is steady written) five = let clash : 1 ≡ 5 = sym is ∙ five in cc
+
+never_five : (ending : Ending) → status_of ending ≡ 5 → ⊥
+never_five Misused e = cc
+never_five Unread e = cc
+never_five (Refuses line reason said) e = cc
+never_five (Plays config said) e = cc
+never_five (Drives config n) e = cc
+never_five (Simulates seed n) e = cc
+never_five (Shows k log) e = cc
+never_five DiskFails e = cc
+never_five (Overflows size need) e = cc
+never_five (Breaks place) e = cc
+never_five Starved e = cc
+
+-- ---- by the subcommand
+
+module _ (before now : Outside) (status : ℕ) (trail : List Record) where
   -- the text of an ending went out with its status
   abbrev Tells : Ending → Type 0
-  Tells ending = Told before.sink now.sink (text_of ending) (status_of ending) (status_at_fault ending) ran.status
+  Tells ending = TellsEnding ending before.sink now.sink status
 
-  -- an ending has no other status than its own
-  other : (n : ℕ) (ending : Ending) → ran.status ≡ n → Tells ending → eqb (status_of ending) n ≡ false → eqb (status_at_fault ending) n ≡ false → eqb 1 n ≡ false → ⊥
-  other n ending is told w f o = other_status before.sink now.sink (text_of ending) (status_of ending) (status_at_fault ending) ran.status n told w f o is
+  abbrev Causes : Option Subcommand → Ending → Type 0
+  Causes sub ending = IsCauseFor sub before now ending
 
-  misused_told : (ending : Ending) → ending ≡ Misused → Tells ending → Tells Misused
-  misused_told ending is told = subst Tells is told
+  -- ---- a script
 
-  -- ---- status 0
-
-  played_whole : (config : Counts) (said : Sofar) → HasRead before.source now.source (Whole config said) → entries_in ran.trail ≡ run_to (Plays config said) → Tells (Plays config said) → ran.status ≡ 0 → PlaysWhole before now ran
-  played_whole config said read trail (Wholly is steady written) zero = record {
+  played_whole : (config : Counts) (said : Sofar) → HasRead before.source now.source (Whole config said) → entries_in trail ≡ run_to (Plays config said) → Tells (Plays config said) → status ≡ 0 → PlaysWhole before now trail
+  played_whole config said read run told none_failed = let whole = done (Plays config said) before.sink now.sink status told none_failed in record {
     config = config;
     said = said;
     read = read;
     legal = read_legal before.source now.source (Whole config said) read;
-    trail = trail;
-    steady = steady;
-    written = written;
+    run = run;
+    steady = whole.steady;
+    written = whole.written;
   }
-  played_whole config said read trail (AtFault is rose written) zero = absurd (eqb-false 5 0 refl (sym is ∙ zero))
-  played_whole config said read trail (ForMemory is steady written) zero = absurd (eqb-false 1 0 refl (sym is ∙ zero))
 
-  played : (sub : Option Subcommand) (ending : Ending) → IsCauseFor sub before.source now.source ending → entries_in ran.trail ≡ run_to ending → Tells ending → ran.status ≡ 0 → PlaysWhole before now ran
-  played None ending cause trail told zero = absurd (other 0 Misused zero (misused_told ending cause.0 told) refl refl refl)
-  played (Some Play) Misused cause trail told zero = absurd cause
-  played (Some Play) Unread cause trail told zero = absurd (other 0 Unread zero told refl refl refl)
-  played (Some Play) (Refuses line reason said) cause trail told zero = absurd (other 0 (Refuses line reason said) zero told refl refl refl)
-  played (Some Play) (Plays config said) cause trail told zero = played_whole config said cause trail told zero
-  played (Some Play) Starved cause trail told zero = absurd (other 0 Starved zero told refl refl refl)
+  clash : (ending : Ending) → (status_of ending ≡ 0 → ⊥) → Tells ending → status ≡ 0 → ⊥
+  clash ending never_well told none_failed = never_well (done ending before.sink now.sink status told none_failed).well
 
-  -- ---- status 3
+  played : (ending : Ending) → Causes (Some Play) ending → entries_in trail ≡ run_to ending → Tells ending → status ≡ 0 → PlaysWhole before now trail
+  played Misused cause run told none_failed = absurd cause
+  played Unread cause run told none_failed = absurd (clash Unread (λ e. cc) told none_failed)
+  played (Refuses line reason said) cause run told none_failed = absurd (clash (Refuses line reason said) (λ e. cc) told none_failed)
+  played (Plays config said) cause run told none_failed = played_whole config said cause run told none_failed
+  played (Drives config n) cause run told none_failed = absurd cause
+  played (Simulates seed n) cause run told none_failed = absurd cause
+  played (Shows k log) cause run told none_failed = absurd cause
+  played DiskFails cause run told none_failed = absurd cause
+  played (Overflows size need) cause run told none_failed = absurd cause
+  played (Breaks place) cause run told none_failed = absurd cause
+  played Starved cause run told none_failed = absurd (clash Starved (λ e. cc) told none_failed)
 
-  stopped : (sub : Option Subcommand) (ending : Ending) → IsCauseFor sub before.source now.source ending → entries_in ran.trail ≡ run_to ending → Tells ending → ran.status ≡ 3 → StopsAtLine before now ran
-  stopped None ending cause trail told three = absurd (other 3 Misused three (misused_told ending cause.0 told) refl refl refl)
-  stopped (Some Play) Misused cause trail told three = absurd cause
-  stopped (Some Play) Unread cause trail told three = absurd (other 3 Unread three told refl refl refl)
-  stopped (Some Play) (Refuses line reason said) cause trail told three = record {
+  -- only `play` refuses a line
+  refused_at : (sub : Option Subcommand) (line : ℕ) (reason : Reason) (said : Option Script) → Causes sub (Refuses line reason said) → HasRead before.source now.source (Refused line reason said)
+  refused_at None line reason said cause = cc
+  refused_at (Some Play) line reason said cause = cause
+  refused_at (Some (Sim seed n)) line reason said cause = elim cause [ inl is ↦ cc | inr is ↦ cc ]
+  refused_at (Some (Drive a l n)) line reason said cause = elim cause [ inl is ↦ cc | inr is ↦ cc ]
+  refused_at (Some (Log k)) line reason said cause = absurd cause
+  refused_at (Some (Upgrade k)) line reason said cause = absurd cause
+
+  stops : (sub : Option Subcommand) (ending : Ending) → Causes sub ending → entries_in trail ≡ run_to ending → Tells ending → status_of ending ≡ 3 → StopsAtLine before now status trail
+  stops sub Misused cause run told e = cc
+  stops sub Unread cause run told e = cc
+  stops sub (Refuses line reason said) cause run told e = let read = refused_at sub line reason said cause in record {
     line = line;
     reason = reason;
     said = said;
-    read = cause;
-    legal = read_legal before.source now.source (Refused line reason said) cause;
-    trail = trail;
+    read = read;
+    legal = read_legal before.source now.source (Refused line reason said) read;
+    run = run;
     told = told;
   }
-  stopped (Some Play) (Plays config said) cause trail told three = absurd (other 3 (Plays config said) three told refl refl refl)
-  stopped (Some Play) Starved cause trail told three = absurd (other 3 Starved three told refl refl refl)
+  stops sub (Plays config said) cause run told e = cc
+  stops sub (Drives config n) cause run told e = cc
+  stops sub (Simulates seed n) cause run told e = cc
+  stops sub (Shows k log) cause run told e = cc
+  stops sub DiskFails cause run told e = cc
+  stops sub (Overflows size need) cause run told e = cc
+  stops sub (Breaks place) cause run told e = cc
+  stops sub Starved cause run told e = cc
 
-  -- ---- statuses 0 and 5
+  -- a run that ends well, or would have, read its script to the end
+  to_its_end : (ending : Ending) → Causes (Some Play) ending → status_of ending ≡ 0 → IfSome now.source.bytes (λ rest. rest ≡ [])
+  to_its_end Misused cause e = absurd cause
+  to_its_end Unread cause e = cc
+  to_its_end (Refuses line reason said) cause e = cc
+  to_its_end (Plays config said) cause e = whole_left before.source now.source config said cause
+  to_its_end (Drives config n) cause e = absurd cause
+  to_its_end (Simulates seed n) cause e = absurd cause
+  to_its_end (Shows k log) cause e = absurd cause
+  to_its_end DiskFails cause e = absurd cause
+  to_its_end (Overflows size need) cause e = absurd cause
+  to_its_end (Breaks place) cause e = absurd cause
+  to_its_end Starved cause e = cc
 
-  -- an ending that is told with neither
-  abbrev IsDone : Type 0
-  IsDone = (ran.status ≡ 0) ⊎ (ran.status ≡ 5)
-
-  not_done : (ending : Ending) → IsDone → Tells ending → eqb (status_of ending) 0 ≡ false → eqb (status_at_fault ending) 0 ≡ false → eqb (status_of ending) 5 ≡ false → eqb (status_at_fault ending) 5 ≡ false → ⊥
-  not_done ending done told w f w5 f5 = elim done [
-    | inl none ↦ other 0 ending none told w f refl
-    | inr five ↦ other 5 ending five told w5 f5 refl
-  ]
-
-  to_its_end : (sub : Option Subcommand) (ending : Ending) → IsCauseFor sub before.source now.source ending → Tells ending → IsDone → IfSome now.source.bytes (λ rest. rest ≡ [])
-  to_its_end None ending cause told done = absurd (not_done Misused done (misused_told ending cause.0 told) refl refl refl refl)
-  to_its_end (Some Play) Misused cause told done = absurd cause
-  to_its_end (Some Play) Unread cause told done = absurd (not_done Unread done told refl refl refl refl)
-  to_its_end (Some Play) (Refuses line reason said) cause told done = absurd (not_done (Refuses line reason said) done told refl refl refl refl)
-  to_its_end (Some Play) (Plays config said) cause told done = whole_left before.source now.source config said cause
-  to_its_end (Some Play) Starved cause told done = absurd (not_done Starved done told refl refl refl refl)
-
-  -- ---- statuses 2, 4 and 5
-
-  named_nothing : (sub : Option Subcommand) (ending : Ending) → IsCauseFor sub before.source now.source ending → Tells ending → ran.status ≡ 2 → sub ≡ None
-  named_nothing None ending cause told two = refl
-  named_nothing (Some Play) Misused cause told two = absurd cause
-  named_nothing (Some Play) Unread cause told two = absurd (other 2 Unread two told refl refl refl)
-  named_nothing (Some Play) (Refuses line reason said) cause told two = absurd (other 2 (Refuses line reason said) two told refl refl refl)
-  named_nothing (Some Play) (Plays config said) cause told two = absurd (other 2 (Plays config said) two told refl refl refl)
-  named_nothing (Some Play) Starved cause told two = absurd (other 2 Starved two told refl refl refl)
-
-  source_failed : (sub : Option Subcommand) (ending : Ending) → IsCauseFor sub before.source now.source ending → Tells ending → ran.status ≡ 4 → Rose before.source.faults now.source.faults
-  source_failed None ending cause told four = absurd (other 4 Misused four (misused_told ending cause.0 told) refl refl refl)
-  source_failed (Some Play) Misused cause told four = absurd cause
-  source_failed (Some Play) Unread cause told four = cause.0
-  source_failed (Some Play) (Refuses line reason said) cause told four = absurd (other 4 (Refuses line reason said) four told refl refl refl)
-  source_failed (Some Play) (Plays config said) cause told four = absurd (other 4 (Plays config said) four told refl refl refl)
-  source_failed (Some Play) Starved cause told four = absurd (other 4 Starved four told refl refl refl)
-
-  output_failed : (text : List ℕ) → Told before.sink now.sink text 0 5 ran.status → ran.status ≡ 5 → Rose before.sink.faults now.sink.faults
-  output_failed text (Wholly is steady written) five = absurd (eqb-false 0 5 refl (sym is ∙ five))
-  output_failed text (AtFault is rose written) five = rose
-  output_failed text (ForMemory is steady written) five = absurd (eqb-false 1 5 refl (sym is ∙ five))
-
-  sink_failed : (ending : Ending) → Tells ending → ran.status ≡ 5 → Rose before.sink.faults now.sink.faults
-  sink_failed Misused told five = absurd (other 5 Misused five told refl refl refl)
-  sink_failed Unread told five = absurd (other 5 Unread five told refl refl refl)
-  sink_failed (Refuses line reason said) told five = absurd (other 5 (Refuses line reason said) five told refl refl refl)
-  sink_failed (Plays config said) told five = output_failed (text_of (Plays config said)) told five
-  sink_failed Starved told five = absurd (other 5 Starved five told refl refl refl)
-
-  -- ---- what must end well
-
-  usage_told : (sub : Option Subcommand) (ending : Ending) → IsCauseFor sub before.source now.source ending → Tells ending → sub ≡ None → (ran.status ≡ 2) ⊎ (ran.status ≡ 1)
-  usage_told None ending cause told is = same_status before.sink now.sink (text_of Misused) 2 ran.status (misused_told ending cause.0 told)
-  usage_told (Some sub) ending cause told is = absurd cc
-
-  completes : (ending : Ending) → IsCauseFor (Some Play) before.source now.source ending → Tells ending → HoldsScript before.source → ¬ Rose before.source.faults now.source.faults → ¬ Rose before.sink.faults now.sink.faults
-      → (ran.status ≡ 0) ⊎ (ran.status ≡ 1)
+  completes : (ending : Ending) → Causes (Some Play) ending → Tells ending → HoldsScript before.source → ¬ Rose before.source.faults now.source.faults → ¬ Rose before.sink.faults now.sink.faults → (status ≡ 0) ⊎ (status ≡ 1)
   completes Misused cause told holds read_well written_well = absurd cause
   completes Unread cause told holds read_well written_well = absurd (read_well cause.0)
   completes (Refuses line reason before_it) cause told (rest, config, said, is, whole) read_well written_well =
-      let clash = sym whole ∙ read_is before.source now.source rest (Refused line reason before_it) is cause in absurd cc
-  completes (Plays config said) cause told holds read_well written_well = one_status before.sink now.sink (text_of (Plays config said)) 0 5 ran.status written_well told
-  completes Starved cause told holds read_well written_well = inr (starved_status before.sink now.sink [] ran.status told)
+      let differ = sym whole ∙ read_is before.source now.source rest (Refused line reason before_it) is cause in absurd cc
+  completes (Plays config said) cause told holds read_well written_well = one_status before.sink now.sink (text_of (Plays config said)) 0 5 status written_well told
+  completes (Drives config n) cause told holds read_well written_well = absurd cause
+  completes (Simulates seed n) cause told holds read_well written_well = absurd cause
+  completes (Shows k log) cause told holds read_well written_well = absurd cause
+  completes DiskFails cause told holds read_well written_well = absurd cause
+  completes (Overflows size need) cause told holds read_well written_well = absurd cause
+  completes (Breaks place) cause told holds read_well written_well = absurd cause
+  completes Starved cause told holds read_well written_well = inr (starved_status before.sink now.sink [] status told)
 
-  refuses : (ending : Ending) → IsCauseFor (Some Play) before.source now.source ending → Tells ending → HoldsBadLine before.source → ¬ Rose before.source.faults now.source.faults → (ran.status ≡ 3) ⊎ (ran.status ≡ 1)
+  refuses : (ending : Ending) → Causes (Some Play) ending → Tells ending → HoldsBadLine before.source → ¬ Rose before.source.faults now.source.faults → (status ≡ 3) ⊎ (status ≡ 1)
   refuses Misused cause told holds read_well = absurd cause
   refuses Unread cause told holds read_well = absurd (read_well cause.0)
-  refuses (Refuses line reason before_it) cause told holds read_well = same_status before.sink now.sink (text_of (Refuses line reason before_it)) 3 ran.status told
+  refuses (Refuses line reason before_it) cause told holds read_well = same_status before.sink now.sink (text_of (Refuses line reason before_it)) 3 status told
   refuses (Plays config said) cause told (rest, line, reason, before_it, is, bad) read_well =
-      let clash = sym bad ∙ read_is before.source now.source rest (Whole config said) is cause in absurd cc
-  refuses Starved cause told holds read_well = inr (starved_status before.sink now.sink [] ran.status told)
+      let differ = sym bad ∙ read_is before.source now.source rest (Whole config said) is cause in absurd cc
+  refuses (Drives config n) cause told holds read_well = absurd cause
+  refuses (Simulates seed n) cause told holds read_well = absurd cause
+  refuses (Shows k log) cause told holds read_well = absurd cause
+  refuses DiskFails cause told holds read_well = absurd cause
+  refuses (Overflows size need) cause told holds read_well = absurd cause
+  refuses (Breaks place) cause told holds read_well = absurd cause
+  refuses Starved cause told holds read_well = inr (starved_status before.sink now.sink [] status told)
+
+  -- ---- a run without input
+
+  -- with status 0 the ending is the one that was meant
+  meant_is : (meant ending : Ending) → IsRunCause meant ending → Tells ending → status ≡ 0 → ending ≡ meant
+  meant_is meant ending (inl is) told none_failed = is
+  meant_is meant ending (inr is) told none_failed = absurd (clash Starved (λ e. cc) (subst Tells is told) none_failed)
+
+  prints : (meant ending : Ending) (config own : Counts) → IsRunCause meant ending → entries_in trail ≡ run_to ending → config ≡ own → IsInAgreement config (entries_in trail) → Tells ending → status ≡ 0 → Prints own (run_to meant) (text_of meant) before now trail
+  prints meant ending config own cause run same agreement told none_failed =
+      let is = meant_is meant ending cause told none_failed in
+      let whole = done ending before.sink now.sink status told none_failed in
+      let runs = run ∙ ap run_to is in
+      record {
+        agreement = subst (λ (c : Counts). IsInAgreement c (run_to meant)) same (subst (IsInAgreement config) runs agreement);
+        run = runs;
+        steady = whole.steady;
+        written = subst (λ (text : List ℕ). AppendsWhole before.sink.bytes now.sink.bytes text) (ap text_of is) whole.written;
+      }
+
+  run_completes : (meant ending : Ending) → status_of meant ≡ 0 → IsRunCause meant ending → Tells ending → ¬ Rose before.sink.faults now.sink.faults → (status ≡ 0) ⊎ (status ≡ 1)
+  run_completes meant ending well (inl is) told written_well =
+      let P : ℕ → Type 0 = λ n. (status ≡ n) ⊎ (status ≡ 1) in
+      subst P (ap status_of is ∙ well) (one_status before.sink now.sink (text_of ending) (status_of ending) (status_at_fault (status_of ending)) status written_well told)
+  run_completes meant ending well (inr is) told written_well = inr (starved_status before.sink now.sink [] status (subst Tells is told))
+
+  -- ---- the log of a disk
+
+  shows_log : (k : ℕ) (ending : Ending) → Causes (Some (Log k)) ending → Tells ending → status ≡ 0 → ShowsLog k before now
+  shows_log k Misused cause told none_failed = absurd cause
+  shows_log k Unread cause told none_failed = absurd cause
+  shows_log k (Refuses line reason said) cause told none_failed = absurd cause
+  shows_log k (Plays config said) cause told none_failed = absurd cause
+  shows_log k (Drives config n) cause told none_failed = absurd cause
+  shows_log k (Simulates seed n) cause told none_failed = absurd cause
+  shows_log k (Shows j log) cause told none_failed = let whole = done (Shows j log) before.sink now.sink status told none_failed in record {
+    log = log;
+    same = cause.1;
+    shows = cause.2;
+    steady = whole.steady;
+    written = subst (λ (i : ℕ). AppendsWhole before.sink.bytes now.sink.bytes (text_of (Shows i log))) cause.0 whole.written;
+  }
+  shows_log k DiskFails cause told none_failed = absurd (clash DiskFails (λ e. cc) told none_failed)
+  shows_log k (Overflows size need) cause told none_failed = absurd cause
+  shows_log k (Breaks place) cause told none_failed = absurd (clash (Breaks place) (λ e. cc) told none_failed)
+  shows_log k Starved cause told none_failed = absurd (clash Starved (λ e. cc) told none_failed)
+
+  shows_taken_on : (k : ℕ) (ending : Ending) → Causes (Some (Upgrade k)) ending → Tells ending → status ≡ 0 → ShowsTakenOn k before now
+  shows_taken_on k Misused cause told none_failed = absurd cause
+  shows_taken_on k Unread cause told none_failed = absurd cause
+  shows_taken_on k (Refuses line reason said) cause told none_failed = absurd cause
+  shows_taken_on k (Plays config said) cause told none_failed = absurd cause
+  shows_taken_on k (Drives config n) cause told none_failed = absurd cause
+  shows_taken_on k (Simulates seed n) cause told none_failed = absurd cause
+  shows_taken_on k (Shows j log) cause told none_failed = let whole = done (Shows j log) before.sink now.sink status told none_failed in record {
+    log = log;
+    steady_disk = cause.1;
+    shows = cause.2;
+    steady = whole.steady;
+    written = subst (λ (i : ℕ). AppendsWhole before.sink.bytes now.sink.bytes (text_of (Shows i log))) cause.0 whole.written;
+  }
+  shows_taken_on k DiskFails cause told none_failed = absurd (clash DiskFails (λ e. cc) told none_failed)
+  shows_taken_on k (Overflows size need) cause told none_failed = absurd (clash (Overflows size need) (λ e. cc) told none_failed)
+  shows_taken_on k (Breaks place) cause told none_failed = absurd (clash (Breaks place) (λ e. cc) told none_failed)
+  shows_taken_on k Starved cause told none_failed = absurd (clash Starved (λ e. cc) told none_failed)
+
+  no_clash : (bytes : Option (List ℕ)) (s : List ℕ) (log : Contents) (place : ℕ) → bytes ≡ Some s → read_log is_limit s ≡ Ok log → IfRevealed bytes (λ t. read_log is_limit t ≡ Err place) → ⊥
+  no_clash bytes s log place is reads broken = let differ = sym reads ∙ at_bytes bytes _ s is broken in cc
+
+  log_completes : (k : ℕ) (ending : Ending) → Causes (Some (Log k)) ending → Tells ending → HoldsLog k before → ¬ Rose (seen_at k before.disks).faults (seen_at k now.disks).faults → ¬ Rose before.sink.faults now.sink.faults → (status ≡ 0) ⊎ (status ≡ 1)
+  log_completes k Misused cause told holds disk_well written_well = absurd cause
+  log_completes k Unread cause told holds disk_well written_well = absurd cause
+  log_completes k (Refuses line reason said) cause told holds disk_well written_well = absurd cause
+  log_completes k (Plays config said) cause told holds disk_well written_well = absurd cause
+  log_completes k (Drives config n) cause told holds disk_well written_well = absurd cause
+  log_completes k (Simulates seed n) cause told holds disk_well written_well = absurd cause
+  log_completes k (Shows j log) cause told holds disk_well written_well = one_status before.sink now.sink (text_of (Shows j log)) 0 5 status written_well told
+  log_completes k DiskFails cause told holds disk_well written_well = absurd (disk_well cause.0)
+  log_completes k (Overflows size need) cause told holds disk_well written_well = absurd cause
+  log_completes k (Breaks place) cause told (s, log, is, reads) disk_well written_well = absurd (no_clash (seen_at k before.disks).bytes s log place is reads cause.1)
+  log_completes k Starved cause told holds disk_well written_well = inr (starved_status before.sink now.sink [] status told)
+
+  -- only a log that is shown or taken on overflows, breaks, or has a disk that fails
+  overflowed : (sub : Option Subcommand) (size need : ℕ) → Causes sub (Overflows size need) → Tells (Overflows size need) → (k : ℕ) × (sub ≡ Some (Upgrade k)) × Causes (Some (Upgrade k)) (Overflows size need)
+  overflowed None size need cause told = cc
+  overflowed (Some Play) size need cause told = absurd cause
+  overflowed (Some (Sim seed n)) size need cause told = elim cause [ inl is ↦ cc | inr is ↦ cc ]
+  overflowed (Some (Drive a l n)) size need cause told = elim cause [ inl is ↦ cc | inr is ↦ cc ]
+  overflowed (Some (Log k)) size need cause told = absurd cause
+  overflowed (Some (Upgrade k)) size need cause told = (k, refl, cause)
+
+  broke : (sub : Option Subcommand) (place : ℕ) → Causes sub (Breaks place) → (k : ℕ) × (disk_used sub ≡ Some k) × Causes (Some (Log k)) (Breaks place)
+  broke None place cause = cc
+  broke (Some Play) place cause = absurd cause
+  broke (Some (Sim seed n)) place cause = elim cause [ inl is ↦ cc | inr is ↦ cc ]
+  broke (Some (Drive a l n)) place cause = elim cause [ inl is ↦ cc | inr is ↦ cc ]
+  broke (Some (Log k)) place cause = (k, refl, cause)
+  broke (Some (Upgrade k)) place cause = (k, refl, cause)
+
+  disk_failed : (sub : Option Subcommand) → Causes sub DiskFails → (k : ℕ) × (disk_used sub ≡ Some k) × Rose (seen_at k before.disks).faults (seen_at k now.disks).faults
+  disk_failed None cause = cc
+  disk_failed (Some Play) cause = absurd cause
+  disk_failed (Some (Sim seed n)) cause = elim cause [ inl is ↦ cc | inr is ↦ cc ]
+  disk_failed (Some (Drive a l n)) cause = elim cause [ inl is ↦ cc | inr is ↦ cc ]
+  disk_failed (Some (Log k)) cause = (k, refl, cause.0)
+  disk_failed (Some (Upgrade k)) cause = (k, refl, cause)
+
+  -- with status 2 the words name nothing
+  named_nothing : (sub : Option Subcommand) (ending : Ending) → Causes sub ending → status_of ending ≡ 2 → sub ≡ None
+  named_nothing None ending cause two = refl
+  named_nothing (Some sub) Misused cause two = absurd (by sub cause) where
+    by : (sub : Subcommand) → Causes (Some sub) Misused → ⊥
+    by Play cause = cause
+    by (Sim seed n) cause = elim cause [ inl is ↦ cc | inr is ↦ cc ]
+    by (Drive a l n) cause = elim cause [ inl is ↦ cc | inr is ↦ cc ]
+    by (Log k) cause = cause
+    by (Upgrade k) cause = cause
+  named_nothing (Some sub) Unread cause two = cc
+  named_nothing (Some sub) (Refuses line reason said) cause two = cc
+  named_nothing (Some sub) (Plays config said) cause two = cc
+  named_nothing (Some sub) (Drives config n) cause two = cc
+  named_nothing (Some sub) (Simulates seed n) cause two = cc
+  named_nothing (Some sub) (Shows k log) cause two = cc
+  named_nothing (Some sub) DiskFails cause two = cc
+  named_nothing (Some sub) (Overflows size need) cause two = cc
+  named_nothing (Some sub) (Breaks place) cause two = cc
+  named_nothing (Some sub) Starved cause two = cc
+
+  source_failed : (sub : Option Subcommand) → Causes sub Unread → Rose before.source.faults now.source.faults
+  source_failed None cause = cc
+  source_failed (Some Play) cause = cause.0
+  source_failed (Some (Sim seed n)) cause = elim cause [ inl is ↦ cc | inr is ↦ cc ]
+  source_failed (Some (Drive a l n)) cause = elim cause [ inl is ↦ cc | inr is ↦ cc ]
+  source_failed (Some (Log k)) cause = absurd cause
+  source_failed (Some (Upgrade k)) cause = absurd cause
+
+  usage_told : (ending : Ending) → Causes None ending → Tells ending → (status ≡ 2) ⊎ (status ≡ 1)
+  usage_told ending cause told = same_status before.sink now.sink (text_of Misused) 2 status (subst Tells cause told)
+
+  -- the endings of statuses 4, 6, 7 and 8
+  unread_is : (ending : Ending) → status_of ending ≡ 4 → ending ≡ Unread
+  unread_is Misused e = cc
+  unread_is Unread e = refl
+  unread_is (Refuses line reason said) e = cc
+  unread_is (Plays config said) e = cc
+  unread_is (Drives config n) e = cc
+  unread_is (Simulates seed n) e = cc
+  unread_is (Shows k log) e = cc
+  unread_is DiskFails e = cc
+  unread_is (Overflows size need) e = cc
+  unread_is (Breaks place) e = cc
+  unread_is Starved e = cc
+
+  disk_fails_is : (ending : Ending) → status_of ending ≡ 6 → ending ≡ DiskFails
+  disk_fails_is Misused e = cc
+  disk_fails_is Unread e = cc
+  disk_fails_is (Refuses line reason said) e = cc
+  disk_fails_is (Plays config said) e = cc
+  disk_fails_is (Drives config n) e = cc
+  disk_fails_is (Simulates seed n) e = cc
+  disk_fails_is (Shows k log) e = cc
+  disk_fails_is DiskFails e = refl
+  disk_fails_is (Overflows size need) e = cc
+  disk_fails_is (Breaks place) e = cc
+  disk_fails_is Starved e = cc
+
+  overflows_is : (ending : Ending) → status_of ending ≡ 7 → (size : ℕ) × (need : ℕ) × (ending ≡ Overflows size need)
+  overflows_is Misused e = cc
+  overflows_is Unread e = cc
+  overflows_is (Refuses line reason said) e = cc
+  overflows_is (Plays config said) e = cc
+  overflows_is (Drives config n) e = cc
+  overflows_is (Simulates seed n) e = cc
+  overflows_is (Shows k log) e = cc
+  overflows_is DiskFails e = cc
+  overflows_is (Overflows size need) e = (size, need, refl)
+  overflows_is (Breaks place) e = cc
+  overflows_is Starved e = cc
+
+  breaks_is : (ending : Ending) → status_of ending ≡ 8 → (place : ℕ) × (ending ≡ Breaks place)
+  breaks_is Misused e = cc
+  breaks_is Unread e = cc
+  breaks_is (Refuses line reason said) e = cc
+  breaks_is (Plays config said) e = cc
+  breaks_is (Drives config n) e = cc
+  breaks_is (Simulates seed n) e = cc
+  breaks_is (Shows k log) e = cc
+  breaks_is DiskFails e = cc
+  breaks_is (Overflows size need) e = cc
+  breaks_is (Breaks place) e = (place, refl)
+  breaks_is Starved e = cc
+
+  -- a disk that holds no log
+  no_log_shown : (bytes : Option (List ℕ)) (s : List ℕ) (place : ℕ) (P : Contents → Type 0) → bytes ≡ Some s → read_log is_limit s ≡ Err place → IfLog bytes P → ⊥
+  no_log_shown bytes s place P is broken shows =
+      let found = at_bytes bytes (λ t. (log : Contents) × (read_log is_limit t ≡ Ok log) × P log) s is shows in
+      let differ = sym broken ∙ found.1 in cc
+
+  unlogged : (k : ℕ) (ending : Ending) → Causes (Some (Log k)) ending → Tells ending → HoldsNoLog k before → ¬ Rose (seen_at k before.disks).faults (seen_at k now.disks).faults → (status ≡ 8) ⊎ (status ≡ 1)
+  unlogged k Misused cause told holds well = absurd cause
+  unlogged k Unread cause told holds well = absurd cause
+  unlogged k (Refuses line reason said) cause told holds well = absurd cause
+  unlogged k (Plays config said) cause told holds well = absurd cause
+  unlogged k (Drives config n) cause told holds well = absurd cause
+  unlogged k (Simulates seed n) cause told holds well = absurd cause
+  unlogged k (Shows j log) cause told (s, place, is, broken) well = absurd (no_log_shown (seen_at k before.disks).bytes s place _ is broken cause.2)
+  unlogged k DiskFails cause told holds well = absurd (well cause.0)
+  unlogged k (Overflows size need) cause told holds well = absurd cause
+  unlogged k (Breaks place) cause told holds well = same_status before.sink now.sink (text_of (Breaks place)) 8 status told
+  unlogged k Starved cause told holds well = inr (starved_status before.sink now.sink [] status told)
+
+  unlogged_upgrade : (k : ℕ) (ending : Ending) → Causes (Some (Upgrade k)) ending → Tells ending → HoldsNoLog k before → ¬ Rose (seen_at k before.disks).faults (seen_at k now.disks).faults → (status ≡ 8) ⊎ (status ≡ 1)
+  unlogged_upgrade k Misused cause told holds well = absurd cause
+  unlogged_upgrade k Unread cause told holds well = absurd cause
+  unlogged_upgrade k (Refuses line reason said) cause told holds well = absurd cause
+  unlogged_upgrade k (Plays config said) cause told holds well = absurd cause
+  unlogged_upgrade k (Drives config n) cause told holds well = absurd cause
+  unlogged_upgrade k (Simulates seed n) cause told holds well = absurd cause
+  unlogged_upgrade k (Shows j log) cause told (s, place, is, broken) well = absurd (no_log_shown (seen_at k before.disks).bytes s place _ is broken cause.2)
+  unlogged_upgrade k DiskFails cause told holds well = absurd (well cause)
+  unlogged_upgrade k (Overflows size need) cause told (s, place, is, broken) well = absurd (no_log_shown (seen_at k before.disks).bytes s place _ is broken cause.1)
+  unlogged_upgrade k (Breaks place) cause told holds well = same_status before.sink now.sink (text_of (Breaks place)) 8 status told
+  unlogged_upgrade k Starved cause told holds well = inr (starved_status before.sink now.sink [] status told)
 
 -- ---- by the words
 
-module _ (words : List (List ℕ)) (before now : Outside) (ran : Ran) (ends : Ends (IsCause words) before now ran) where
-  pub plays_whole : ran.status ≡ 0 → PlaysWhole before now ran
-  plays_whole zero = played before now ran (named words) ends.ending ends.cause ends.trail ends.told zero
+module _ (words : List (List ℕ)) (before now : Outside) (status : ℕ) (trail : List Record) (ends : Ends (IsCause words) before now status trail) where
+  by_name : (sub : Option Subcommand) → named words ≡ sub → IsCauseFor sub before now ends.ending
+  by_name sub is = subst (λ (s : Option Subcommand). IsCauseFor s before now ends.ending) is ends.cause
 
-  pub stops_at_line : ran.status ≡ 3 → StopsAtLine before now ran
-  stops_at_line three = stopped before now ran (named words) ends.ending ends.cause ends.trail ends.told three
+  own : (n : ℕ) → status ≡ suc (suc n) → ¬ (suc (suc n) ≡ 5) → status_of ends.ending ≡ suc (suc n)
+  own n e not = own_status ends.ending before.sink now.sink status n ends.told e not
 
-  pub read_to_end : (ran.status ≡ 0) ⊎ (ran.status ≡ 5) → IfSome now.source.bytes (λ rest. rest ≡ [])
-  read_to_end done = to_its_end before now ran (named words) ends.ending ends.cause ends.told done
+  cause_at : (ending : Ending) → ends.ending ≡ ending → IsCauseFor (named words) before now ending
+  cause_at ending is = subst (λ (x : Ending). IsCauseFor (named words) before now x) is ends.cause
 
-  pub misused : ran.status ≡ 2 → named words ≡ None
-  misused two = named_nothing before now ran (named words) ends.ending ends.cause ends.told two
+  told_at : (ending : Ending) → ends.ending ≡ ending → TellsEnding ending before.sink now.sink status
+  told_at ending is = subst (λ (x : Ending). TellsEnding x before.sink now.sink status) is ends.told
 
-  pub usage : named words ≡ None → (ran.status ≡ 2) ⊎ (ran.status ≡ 1)
-  usage is = usage_told before now ran (named words) ends.ending ends.cause ends.told is
+  pub plays_whole : named words ≡ Some Play → status ≡ 0 → PlaysWhole before now trail
+  plays_whole is none_failed = played before now status trail ends.ending (by_name (Some Play) is) ends.run ends.told none_failed
 
-  pub unread : ran.status ≡ 4 → Rose before.source.faults now.source.faults
-  unread four = source_failed before now ran (named words) ends.ending ends.cause ends.told four
+  pub stops_at_line : status ≡ 3 → StopsAtLine before now status trail
+  stops_at_line three = stops before now status trail (named words) ends.ending ends.cause ends.run ends.told (own 1 three (λ e. cc))
 
-  pub unwritten : ran.status ≡ 5 → Rose before.sink.faults now.sink.faults
-  unwritten five = sink_failed before now ran ends.ending ends.told five
+  pub read_to_end : named words ≡ Some Play → (status ≡ 0) ⊎ (status ≡ 5) → IfSome now.source.bytes (λ rest. rest ≡ [])
+  read_to_end is (inl none_failed) = to_its_end before now status trail ends.ending (by_name (Some Play) is) (done ends.ending before.sink now.sink status ends.told none_failed).well
+  read_to_end is (inr five) = to_its_end before now status trail ends.ending (by_name (Some Play) is) (sink_failed ends.ending before.sink now.sink status (never_five ends.ending) ends.told five).0
 
-  play_cause : named words ≡ Some Play → IsCauseFor (Some Play) before.source now.source ends.ending
-  play_cause is = let P : Option Subcommand → Type 0 = λ sub. IsCauseFor sub before.source now.source ends.ending in subst P is ends.cause
+  pub complete : named words ≡ Some Play → HoldsScript before.source → ¬ Rose before.source.faults now.source.faults → ¬ Rose before.sink.faults now.sink.faults → (status ≡ 0) ⊎ (status ≡ 1)
+  complete is holds read_well written_well = completes before now status trail ends.ending (by_name (Some Play) is) ends.told holds read_well written_well
 
-  pub complete : named words ≡ Some Play → HoldsScript before.source → ¬ Rose before.source.faults now.source.faults → ¬ Rose before.sink.faults now.sink.faults → (ran.status ≡ 0) ⊎ (ran.status ≡ 1)
-  complete is holds read_well written_well = completes before now ran ends.ending (play_cause is) ends.told holds read_well written_well
+  pub refuse : named words ≡ Some Play → HoldsBadLine before.source → ¬ Rose before.source.faults now.source.faults → (status ≡ 3) ⊎ (status ≡ 1)
+  refuse is holds read_well = refuses before now status trail ends.ending (by_name (Some Play) is) ends.told holds read_well
 
-  pub refuse : named words ≡ Some Play → HoldsBadLine before.source → ¬ Rose before.source.faults now.source.faults → (ran.status ≡ 3) ⊎ (ran.status ≡ 1)
-  refuse is holds read_well = refuses before now ran ends.ending (play_cause is) ends.told holds read_well
+  -- the configuration of a run that was made as it should be
+  config_is : (config : Counts) (ending : Ending) → IsConfig (Some config) ends.config → ends.config ≡ config
+  config_is config ending own = own
+
+  pub drives : (a l n : ℕ) → named words ≡ Some (Drive a l n) → status ≡ 0 → PrintsDriven (driven_config a l) n before now trail
+  drives a l n is none_failed =
+      let config = driven_config a l in
+      let cause = by_name (Some (Drive a l n)) is in
+      let meant = meant_is before now status trail (Drives config n) ends.ending cause ends.told none_failed in
+      let own_config = subst (λ (x : Ending). IsConfig (config_of x) ends.config) meant ends.own_config in
+      prints before now status trail (Drives config n) ends.ending ends.config config cause ends.run own_config ends.agreement ends.told none_failed
+
+  pub simulates : (seed n : ℕ) → named words ≡ Some (Sim seed n) → status ≡ 0 → PrintsSimulated seed n before now trail
+  simulates seed n is none_failed =
+      let cause = by_name (Some (Sim seed n)) is in
+      let meant = meant_is before now status trail (Simulates seed n) ends.ending cause ends.told none_failed in
+      let own_config = subst (λ (x : Ending). IsConfig (config_of x) ends.config) meant ends.own_config in
+      prints before now status trail (Simulates seed n) ends.ending ends.config sim_config cause ends.run own_config ends.agreement ends.told none_failed
+
+  pub drive_completes : (a l n : ℕ) → named words ≡ Some (Drive a l n) → ¬ Rose before.sink.faults now.sink.faults → (status ≡ 0) ⊎ (status ≡ 1)
+  drive_completes a l n is well = run_completes before now status trail (Drives (driven_config a l) n) ends.ending refl (by_name (Some (Drive a l n)) is) ends.told well
+
+  pub sim_completes : (seed n : ℕ) → named words ≡ Some (Sim seed n) → ¬ Rose before.sink.faults now.sink.faults → (status ≡ 0) ⊎ (status ≡ 1)
+  sim_completes seed n is well = run_completes before now status trail (Simulates seed n) ends.ending refl (by_name (Some (Sim seed n)) is) ends.told well
+
+  pub log_shown : (k : ℕ) → named words ≡ Some (Log k) → status ≡ 0 → ShowsLog k before now
+  log_shown k is none_failed = shows_log before now status trail k ends.ending (by_name (Some (Log k)) is) ends.told none_failed
+
+  pub log_taken_on : (k : ℕ) → named words ≡ Some (Upgrade k) → status ≡ 0 → ShowsTakenOn k before now
+  log_taken_on k is none_failed = shows_taken_on before now status trail k ends.ending (by_name (Some (Upgrade k)) is) ends.told none_failed
+
+  pub log_complete : (k : ℕ) → named words ≡ Some (Log k) → HoldsLog k before → ¬ Rose (seen_at k before.disks).faults (seen_at k now.disks).faults → ¬ Rose before.sink.faults now.sink.faults → (status ≡ 0) ⊎ (status ≡ 1)
+  log_complete k is holds disk_well written_well = log_completes before now status trail k ends.ending (by_name (Some (Log k)) is) ends.told holds disk_well written_well
+
+  pub full : status ≡ 7 → HasNoSpace words before now status
+  full seven =
+      let is = overflows_is before now status trail ends.ending (own 5 seven (λ e. cc)) in
+      let over = overflowed before now status trail (named words) is.0 is.1 (cause_at (Overflows is.0 is.1) is.2) (told_at (Overflows is.0 is.1) is.2) in
+      record { disk = over.0; size = is.0; need = is.1; is_upgrade = over.1; same = over.2.0; no_room = over.2.1; told = told_at (Overflows is.0 is.1) is.2 }
+
+  pub broken : status ≡ 8 → IsBrokenAt words before now status
+  broken eight =
+      let is = breaks_is before now status trail ends.ending (own 6 eight (λ e. cc)) in
+      let at = broke before now status trail (named words) is.0 (cause_at (Breaks is.0) is.1) in
+      record { disk = at.0; place = is.0; used = at.1; same = at.2.0; broken = at.2.1; told = told_at (Breaks is.0) is.1 }
+
+  no_log_for : (k : ℕ) (sub : Option Subcommand) → named words ≡ sub → disk_used sub ≡ Some k → HoldsNoLog k before → ¬ Rose (seen_at k before.disks).faults (seen_at k now.disks).faults → (status ≡ 8) ⊎ (status ≡ 1)
+  no_log_for k None is used holds well = cc
+  no_log_for k (Some Play) is used holds well = cc
+  no_log_for k (Some (Sim seed n)) is used holds well = cc
+  no_log_for k (Some (Drive a l n)) is used holds well = cc
+  no_log_for k (Some (Log j)) is used holds well =
+      let same : named words ≡ Some (Log k) = is ∙ ap (λ (i : ℕ). Some (Log i)) (let e : j ≡ k = cc in e) in
+      unlogged before now status trail k ends.ending (by_name (Some (Log k)) same) ends.told holds well
+  no_log_for k (Some (Upgrade j)) is used holds well =
+      let same : named words ≡ Some (Upgrade k) = is ∙ ap (λ (i : ℕ). Some (Upgrade i)) (let e : j ≡ k = cc in e) in
+      unlogged_upgrade before now status trail k ends.ending (by_name (Some (Upgrade k)) same) ends.told holds well
+
+  pub no_log : (k : ℕ) → disk_used (named words) ≡ Some k → HoldsNoLog k before → ¬ Rose (seen_at k before.disks).faults (seen_at k now.disks).faults → (status ≡ 8) ⊎ (status ≡ 1)
+  no_log k used holds well = no_log_for k (named words) refl used holds well
+
+  pub misused : status ≡ 2 → named words ≡ None
+  misused two = named_nothing before now status trail (named words) ends.ending ends.cause (own 0 two (λ e. cc))
+
+  pub usage : named words ≡ None → (status ≡ 2) ⊎ (status ≡ 1)
+  usage is = usage_told before now status trail ends.ending (by_name None is) ends.told
+
+  pub unread : status ≡ 4 → Rose before.source.faults now.source.faults
+  unread four = source_failed before now status trail (named words) (cause_at Unread (unread_is before now status trail ends.ending (own 2 four (λ e. cc))))
+
+  pub unwritten : status ≡ 5 → Rose before.sink.faults now.sink.faults
+  unwritten five = (sink_failed ends.ending before.sink now.sink status (never_five ends.ending) ends.told five).1
+
+  pub disk_fault : status ≡ 6 → (k : ℕ) × (disk_used (named words) ≡ Some k) × Rose (seen_at k before.disks).faults (seen_at k now.disks).faults
+  disk_fault six = disk_failed before now status trail (named words) (cause_at DiskFails (disk_fails_is before now status trail ends.ending (own 4 six (λ e. cc))))

@@ -1,26 +1,35 @@
--- How a run of the program ends: its cause, its run, its text and its status.
-use Rattle.std.specs.Prelude.{◌≡◌, ℕ, List, [], Option, Some, None}
+-- How a run of the program ends: its run, its text and its status.
+use Rattle.std.specs.Prelude.{ℕ, zero, suc, List, [], Option, Some, None}
 use Rattle.gp_round.specs.Counts.{Counts}
-use Rattle.gp_msg.specs.Messages.{Entry}
+use Rattle.gp_msg.specs.Messages.{Entry, EpochPart}
 use Rattle.gp_run.specs.Runs.{run_of}
 use Rattle.gp_script.specs.declared.reason.Reason.{Reason}
-use Rattle.gp_edge.specs.Faults.{Rose}
-use Rattle.gp_edge.specs.Reads.{ReadsUpTo, LosesUpTo}
-use Rattle.gp_text.specs.Reading.{Reading, Whole, Refused, Script, Sofar, run_before, reading}
+use Rattle.gp_report.specs.Texts.{report}
+use Rattle.gp_report.specs.Summaries.{summary}
+use Rattle.gp_sim.specs.Driven.{driven}
+use Rattle.gp_sim.specs.Simulated.{sim_config, simulated}
+use Rattle.gp_text.specs.Reading.{Script, Sofar, run_before}
 use Rattle.gp_text.specs.Texts.{output}
-use Rattle.gp_cli.specs.declared.subcommand.Subcommand.{Subcommand}
-use Rattle.gp_cli.specs.declared.subcommand.Subcommand.TheVariants.{Play}
-use Rattle.gp_cli.specs.declared.serving.TheConstants.{MOST_READ}
-use Rattle.gp_cli.specs.Subcommands.{named}
-use Rattle.gp_cli.specs.Outside.{Seen}
-use Rattle.gp_cli.specs.Texts.{usage, read_fault, refusal_text}
+use Rattle.gp_text.specs.Logs.{log_text}
+use Rattle.gp_cli.specs.Texts.{usage, read_fault, disk_fault, full_text, broken_text, refusal_text}
 
--- the words name no subcommand; the source failed; a line of the script is refused, and this is what the lines before it said; the script was played; memory ran out before any of these was known
+-- the durable parts that a log holds, the oldest first, and its size
+pub record Shown : Type 0 where
+  pub parts : List EpochPart
+  pub size : ℕ
+
+-- the words name no subcommand; the source failed; a line of the script is refused, and this is what the lines before it said; the script was played; commands were driven; the workload of a seed was settled; the log of a disk is shown; the disk failed; the renewed log, of this size, would need too much; the disk's bytes are no log, at this place; memory ran out before any of these was known
 pub data Ending : Type 0 where
   Misused : Ending
   Unread : Ending
   Refuses : ℕ → Reason → Option Script → Ending
   Plays : Counts → Sofar → Ending
+  Drives : Counts → ℕ → Ending
+  Simulates : ℕ → ℕ → Ending
+  Shows : ℕ → Shown → Ending
+  DiskFails : Ending
+  Overflows : ℕ → ℕ → Ending
+  Breaks : ℕ → Ending
   Starved : Ending
 
 -- its status once its text was written
@@ -29,15 +38,18 @@ status_of Misused = 2
 status_of Unread = 4
 status_of (Refuses line reason before) = 3
 status_of (Plays config said) = 0
+status_of (Drives config commands) = 0
+status_of (Simulates seed commands) = 0
+status_of (Shows disk log) = 0
+status_of DiskFails = 6
+status_of (Overflows size need) = 7
+status_of (Breaks place) = 8
 status_of Starved = 1
 
--- its status if the sink failed
-abbrev pub status_at_fault : Ending → ℕ
-status_at_fault Misused = 2
-status_at_fault Unread = 4
-status_at_fault (Refuses line reason before) = 3
-status_at_fault (Plays config said) = 5
-status_at_fault Starved = 1
+-- a run that would have ended well ends with 5 if the sink failed, and another one as it would have
+abbrev pub status_at_fault : ℕ → ℕ
+status_at_fault zero = 5
+status_at_fault (suc n) = suc n
 
 -- what it prints
 abbrev pub text_of : Ending → List ℕ
@@ -45,6 +57,12 @@ text_of Misused = usage
 text_of Unread = read_fault
 text_of (Refuses line reason before) = refusal_text line reason
 text_of (Plays config said) = output config said
+text_of (Drives config commands) = report config (driven config commands)
+text_of (Simulates seed commands) = summary seed commands sim_config (simulated seed commands)
+text_of (Shows disk log) = log_text disk log.parts log.size
+text_of DiskFails = disk_fault
+text_of (Overflows size need) = full_text size need
+text_of (Breaks place) = broken_text place
 text_of Starved = []
 
 -- the run that it leads to, the newest entry first
@@ -53,51 +71,29 @@ run_to Misused = []
 run_to Unread = []
 run_to (Refuses line reason before) = run_before before
 run_to (Plays config said) = run_of config said.events
+run_to (Drives config commands) = driven config commands
+run_to (Simulates seed commands) = simulated seed commands
+run_to (Shows disk log) = []
+run_to DiskFails = []
+run_to (Overflows size need) = []
+run_to (Breaks place) = []
 run_to Starved = []
 
--- the configuration is the one that was said, if one was
-abbrev pub IsConfigIn : Option Script → Counts → Type 0
-IsConfigIn None config = Unit {0}
-IsConfigIn (Some script) config = config ≡ script.config
+-- the configuration of what was said, if anything was
+abbrev pub config_in : Option Script → Option Counts
+config_in None = None
+config_in (Some script) = Some script.config
 
--- the configuration is that of the script, if there is one
-abbrev pub IsConfigOf : Ending → Counts → Type 0
-IsConfigOf Misused config = Unit {0}
-IsConfigOf Unread config = Unit {0}
-IsConfigOf (Refuses line reason before) config = IsConfigIn before config
-IsConfigOf (Plays own said) config = config ≡ own
-IsConfigOf Starved config = Unit {0}
-
--- ---- causes, by what is seen of the source before and now
-
--- the bytes read, up to one more than a script may have, have this reading, and no fault was counted
-pub record HasRead (before now : Seen) (read : Reading) : Type 0 where
-  pub bytes : List ℕ
-  pub taken : ReadsUpTo MOST_READ before.bytes now.bytes bytes
-  pub steady : now.faults ≡ before.faults
-  pub says : reading bytes ≡ read
-
--- why a run ends so if a script is to be read
-abbrev pub IsReadCause : Seen → Seen → Ending → Type 0
-IsReadCause before now Misused = ⊥
-IsReadCause before now Unread = Rose before.faults now.faults × LosesUpTo MOST_READ before.bytes now.bytes
-IsReadCause before now (Refuses line reason said) = HasRead before now (Refused line reason said)
-IsReadCause before now (Plays config said) = HasRead before now (Whole config said)
-IsReadCause before now Starved = (now.faults ≡ before.faults) × LosesUpTo MOST_READ before.bytes now.bytes
-
--- why it ends so, by the subcommand, if there is one: `play` reads a script, and without a subcommand nothing is read
-abbrev pub IsCauseFor : Option Subcommand → Seen → Seen → Ending → Type 0
-IsCauseFor None before now ending = (ending ≡ Misused) × (now ≡ before)
-IsCauseFor (Some Play) before now ending = IsReadCause before now ending
-
--- the same, by the words
-abbrev pub IsCause : List (List ℕ) → Seen → Seen → Ending → Type 0
-IsCause words before now ending = IsCauseFor (named words) before now ending
-
--- why a run with a script at hand ends so, by the script's reading
-abbrev pub IsScriptCause : Reading → Ending → Type 0
-IsScriptCause read Misused = ⊥
-IsScriptCause read Unread = ⊥
-IsScriptCause read (Refuses line reason before) = read ≡ Refused line reason before
-IsScriptCause read (Plays config said) = read ≡ Whole config said
-IsScriptCause read Starved = Unit {0}
+-- the configuration of the script or of the subcommand, if there is one
+abbrev pub config_of : Ending → Option Counts
+config_of Misused = None
+config_of Unread = None
+config_of (Refuses line reason before) = config_in before
+config_of (Plays config said) = Some config
+config_of (Drives config commands) = Some config
+config_of (Simulates seed commands) = Some sim_config
+config_of (Shows disk log) = None
+config_of DiskFails = None
+config_of (Overflows size need) = None
+config_of (Breaks place) = None
+config_of Starved = None

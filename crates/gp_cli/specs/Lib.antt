@@ -2,5 +2,8 @@ pub mod Texts
 pub mod Subcommands
 pub mod Outside
 pub mod Endings
+pub mod Causes
+pub mod Logs
 pub mod Serving
+pub mod LogRuns
 pub mod Program

@@ -1,45 +1,61 @@
 -- What a run of the program writes and answers.
-use Rattle.std.specs.Prelude.{◌≡◌, ℕ, List, take, Option, Some, None}
+use Rattle.std.specs.Prelude.{◌≡◌, ℕ, List, take, slice_get, Option, Some, None}
 use Rattle.gp_round.specs.Counts.{Counts}
+use Rattle.gp_msg.specs.declared.record.Record.{Record}
+use Rattle.gp_msg.specs.Messages.{Entry}
 use Rattle.gp_run.specs.Runs.{run_of, entries_in}
 use Rattle.gp_edge.specs.Writes.{AppendsWhole}
 use Rattle.gp_script.specs.declared.reason.Reason.{Reason}
 use Rattle.gp_report.specs.Replicas.{IsInAgreement}
+use Rattle.gp_report.specs.Texts.{report}
+use Rattle.gp_report.specs.Summaries.{summary}
+use Rattle.gp_sim.specs.Driven.{driven}
+use Rattle.gp_sim.specs.Simulated.{sim_config, simulated}
 use Rattle.gp_text.specs.Reading.{Whole, Refused, Script, Sofar, run_before, reading}
 use Rattle.gp_text.specs.Limits.{IsLegalBefore, IsLegalScript}
 use Rattle.gp_text.specs.Texts.{output}
-use Rattle.gp_cli.specs.declared.serving.TheConstants.{MOST_READ}
+use Rattle.gp_cli.specs.declared.runs.TheConstants.{MOST_READ}
 use Rattle.gp_cli.specs.Outside.{Seen, Outside, Told}
-use Rattle.gp_cli.specs.Endings.{Ending, HasRead, status_of, status_at_fault, text_of, run_to, IsConfigOf}
+use Rattle.gp_cli.specs.Endings.{Ending, run_to, config_of}
+use Rattle.gp_cli.specs.Causes.{HasRead}
+use Rattle.gp_cli.specs.Logs.{TellsEnding}
 use Rattle.gp_cli.specs.Texts.{refusal_text}
-use Rattle.gp_cli.specs.declared.serving.Ran.{Ran}
 
 -- ---- the two clauses of every run
 
--- the run ended in a way that has its cause, and the records are legal and in agreement for the configuration of the script, if there is one
-pub record AgreesInItsConfig (Cause : Ending → Type 0) (ran : Ran) : Type 0 where
+-- the configuration is the one that is named, if one is
+abbrev pub IsConfig : Option Counts → Counts → Type 0
+IsConfig None config = Unit {0}
+IsConfig (Some own) config = config ≡ own
+
+-- the run ended in a way that has its cause, and its records are legal and in agreement for the configuration of the script or the subcommand, if there is one
+pub record AgreesInItsConfig (Cause : Ending → Type 0) (trail : List Record) : Type 0 where
   pub ending : Ending
   pub cause : Cause ending
   pub config : Counts
-  pub own_config : IsConfigOf ending config
-  pub agreement : IsInAgreement config (entries_in ran.trail)
+  pub own_config : IsConfig (config_of ending) config
+  pub agreement : IsInAgreement config (entries_in trail)
 
--- the run ended in a way that has its cause: its trail is the run of that ending, and the text of that ending went to the sink, with its status
-pub record EndsBy (Cause : Ending → Type 0) (before now : Seen) (ran : Ran) : Type 0 where
+-- the run ended in a way that has its cause: its records are the run of that ending, and the text of that ending went to the sink, with its status
+pub record EndsBy (Cause : Ending → Type 0) (before now : Seen) (status : ℕ) (trail : List Record) : Type 0 where
   pub ending : Ending
   pub cause : Cause ending
-  pub trail : entries_in ran.trail ≡ run_to ending
+  pub run : entries_in trail ≡ run_to ending
   pub config : Counts
-  pub own_config : IsConfigOf ending config
-  pub agreement : IsInAgreement config (entries_in ran.trail)
-  pub told : Told before now (text_of ending) (status_of ending) (status_at_fault ending) ran.status
+  pub own_config : IsConfig (config_of ending) config
+  pub agreement : IsInAgreement config (entries_in trail)
+  pub told : TellsEnding ending before now status
 
--- the same, where the cause is one by the source before and now
-abbrev pub Ends : (Seen → Seen → Ending → Type 0) → Outside → Outside → Ran → Type 0
-Ends Cause before now ran = EndsBy (Cause before.source now.source) before.sink now.sink ran
+-- the same, where the cause is one by the outside before and now
+abbrev pub Ends : (Outside → Outside → Ending → Type 0) → Outside → Outside → ℕ → List Record → Type 0
+Ends Cause before now status trail = EndsBy (Cause before now) before.sink now.sink status trail
 
-abbrev pub IsInAgreementFor : (Seen → Seen → Ending → Type 0) → Outside → Outside → Ran → Type 0
-IsInAgreementFor Cause before now ran = AgreesInItsConfig (Cause before.source now.source) ran
+abbrev pub IsInAgreementFor : (Outside → Outside → Ending → Type 0) → Outside → Outside → List Record → Type 0
+IsInAgreementFor Cause before now trail = AgreesInItsConfig (Cause before now) trail
+
+-- this holds of each disk before and now
+abbrev pub EachDisk : {D : Type 0} → (D → D → Type 0) → List D → List D → Type 0
+EachDisk {D} P before now = (i : ℕ) (was is : D) → slice_get before i ≡ Some was → slice_get now i ≡ Some is → P was is
 
 -- ---- what statuses say
 
@@ -52,21 +68,36 @@ abbrev pub HoldsBadLine : Seen → Type 0
 HoldsBadLine source = (rest : List ℕ) × (line : ℕ) × (reason : Reason) × (said : Option Script) × (source.bytes ≡ Some rest) × (reading (take MOST_READ rest) ≡ Refused line reason said)
 
 -- a script was read whole, what it says is legal and in agreement, the trail is the run of its events, and all that it prints was written without a fault
-pub record PlaysWhole (before now : Outside) (ran : Ran) : Type 0 where
+pub record PlaysWhole (before now : Outside) (trail : List Record) : Type 0 where
   pub config : Counts
   pub said : Sofar
   pub read : HasRead before.source now.source (Whole config said)
   pub legal : IsLegalScript config said.events
-  pub trail : entries_in ran.trail ≡ run_of config said.events
+  pub run : entries_in trail ≡ run_of config said.events
   pub steady : now.sink.faults ≡ before.sink.faults
   pub written : AppendsWhole before.sink.bytes now.sink.bytes (output config said)
 
 -- a line of the script is refused, what was said before it is legal and in agreement, the trail is its run, and the line and the reason were told
-pub record StopsAtLine (before now : Outside) (ran : Ran) : Type 0 where
+pub record StopsAtLine (before now : Outside) (status : ℕ) (trail : List Record) : Type 0 where
   pub line : ℕ
   pub reason : Reason
   pub said : Option Script
   pub read : HasRead before.source now.source (Refused line reason said)
   pub legal : IsLegalBefore said
-  pub trail : entries_in ran.trail ≡ run_before said
-  pub told : Told before.sink now.sink (refusal_text line reason) 3 3 ran.status
+  pub run : entries_in trail ≡ run_before said
+  pub told : Told before.sink now.sink (refusal_text line reason) 3 3 status
+
+-- the trail is this run, which is legal and in agreement, and this text was written whole without a fault
+pub record Prints (config : Counts) (meant : List Entry) (text : List ℕ) (before now : Outside) (trail : List Record) : Type 0 where
+  pub agreement : IsInAgreement config meant
+  pub run : entries_in trail ≡ meant
+  pub steady : now.sink.faults ≡ before.sink.faults
+  pub written : AppendsWhole before.sink.bytes now.sink.bytes text
+
+-- the trail is the driven run, and its report was written
+abbrev pub PrintsDriven : Counts → ℕ → Outside → Outside → List Record → Type 0
+PrintsDriven config commands = Prints config (driven config commands) (report config (driven config commands))
+
+-- the trail is the settled run of a seed, and its summary was written
+abbrev pub PrintsSimulated : ℕ → ℕ → Outside → Outside → List Record → Type 0
+PrintsSimulated seed commands = Prints sim_config (simulated seed commands) (summary seed commands sim_config (simulated seed commands))

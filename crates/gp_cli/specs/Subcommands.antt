@@ -1,16 +1,58 @@
 -- The words that name a subcommand.
-use Rattle.std.specs.Prelude.{ℕ, List, [], ◌∷◌, Option, Some, None, map, codes, if◌then◌else◌, String, string_bytes}
+use Rattle.std.specs.Prelude.{◌≡◌, ◌≤◌, ◌<◌, ℕ, List, [], ◌∷◌, Option, Some, None, map, codes, if◌then◌else◌, String, string_bytes}
+use Rattle.std.specs.Option.{option_and_then, option_map}
 use Rattle.std.specs.Str.{bytes_eq}
 use Rattle.std.specs.declared.alloc.Global.{Global}
+use Rattle.gp_round.specs.Configs.{is_between, bad_count}
+use Rattle.gp_words.specs.Numbers.{number_of}
+use Rattle.gp_random.specs.declared.workload.TheConstants.{MOST_COMMANDS}
+use Rattle.gp_sim.specs.declared.driving.TheConstants.{MOST_DRIVEN}
 use Rattle.gp_cli.specs.declared.subcommand.Subcommand.{Subcommand}
-use Rattle.gp_cli.specs.declared.subcommand.Subcommand.TheVariants.{Play}
+use Rattle.gp_cli.specs.declared.subcommand.Subcommand.TheVariants.{Play, Sim, Drive, Log, Upgrade}
 
 -- the words, each as its bytes
 abbrev pub texts_of : List (String Global) → List (List ℕ)
 texts_of words = map (λ word. string_bytes word) words
 
--- the subcommand that the words name: the one word `play`
+-- the number that a word spells, if it is in the range
+abbrev pub number_within : ℕ → ℕ → List ℕ → Option ℕ
+number_within least most word = option_and_then (λ n. if is_between least most n then Some n else None) (number_of word)
+
+-- the numbers of acceptors, of learners and of commands
+abbrev pub drive_named : List ℕ → List ℕ → List ℕ → Option Subcommand
+drive_named acceptors learners commands =
+    option_and_then (λ a. option_and_then (λ l. option_map (λ n. Drive a l n) (number_within 1 MOST_DRIVEN commands)) (number_within 1 4 learners)) (number_within 3 7 acceptors)
+
+-- the seed and the number of commands
+abbrev pub sim_named : List ℕ → List ℕ → Option Subcommand
+sim_named seed commands = option_and_then (λ s. option_map (λ n. Sim s n) (number_within 1 MOST_COMMANDS commands)) (number_of seed)
+
+-- the number of a disk
+abbrev pub disk_named : List ℕ → Option ℕ
+disk_named = number_within 0 11
+
+-- what is done with the log of a disk
+abbrev pub log_named : List ℕ → ℕ → Option Subcommand
+log_named word k = if bytes_eq word (codes "log") then Some (Log k) else if bytes_eq word (codes "upgrade") then Some (Upgrade k) else None
+
+-- `log K` and `upgrade K`
+abbrev pub named_by_two : List ℕ → List ℕ → Option Subcommand
+named_by_two word number =
+    option_and_then (log_named word) (disk_named number)
+
+-- the subcommand that the words name
 abbrev pub named : List (List ℕ) → Option Subcommand
 named [] = None
 named (word ∷ []) = if bytes_eq word (codes "play") then Some Play else None
-named (word ∷ other ∷ others) = None
+named (word ∷ x ∷ []) = named_by_two word x
+named (word ∷ x ∷ y ∷ []) = if bytes_eq word (codes "sim") then sim_named x y else None
+named (word ∷ x ∷ y ∷ z ∷ []) = if bytes_eq word (codes "drive") then drive_named x y z else None
+named (word ∷ x ∷ y ∷ z ∷ other ∷ others) = None
+
+-- the numbers of a subcommand are in range
+abbrev pub IsWithin : Subcommand → Type 0
+IsWithin Play = Unit {0}
+IsWithin (Sim seed commands) = (1 ≤ commands) × (commands ≤ MOST_COMMANDS)
+IsWithin (Drive acceptors learners commands) = (bad_count acceptors 3 learners ≡ None) × (commands ≤ MOST_DRIVEN)
+IsWithin (Log disk) = disk < 12
+IsWithin (Upgrade disk) = disk < 12

@@ -5,11 +5,23 @@ use Rattle.gp_script.specs.declared.reason.Reason.TheVariants.{TooLong, NoNodesL
 
 -- what is printed if the words name no subcommand
 abbrev pub usage : List ℕ
-usage = codes "usage: mcgp play | run [LIMIT] | sim SEED COMMANDS | drive A L K | log K\n"
+usage = codes "usage: mcgp play | run [LIMIT] | sim SEED COMMANDS | drive A L K | log K | upgrade K\n"
 
 -- what is printed if the source failed
 abbrev pub read_fault : List ℕ
 read_fault = codes "read fault\n"
+
+-- what is printed if a disk failed
+abbrev pub disk_fault : List ℕ
+disk_fault = codes "disk fault\n"
+
+-- what is printed if a log of this size has no room for an entry of this need
+abbrev pub full_text : ℕ → ℕ → List ℕ
+full_text size need = codes "log full: size " ++ decimal size ++ codes " need " ++ decimal need ++ codes "\n"
+
+-- what is printed if the bytes of a disk are no log, at this place
+abbrev pub broken_text : ℕ → List ℕ
+broken_text place = codes "not a log: at " ++ decimal place ++ codes "\n"
 
 -- why a line is refused
 abbrev pub reason_text : Reason → List ℕ

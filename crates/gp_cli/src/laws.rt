@@ -1,55 +1,99 @@
 //! What the exit statuses of a run say. Each function does nothing, and its contract is the law.
-ghost use Rattle.std.specs.Prelude.{◌≡◌, ◌⊎◌, List, [], ℕ, None, Some, IfSome};
+ghost use Rattle.std.specs.Prelude.{◌≡◌, ◌⊎◌, List, [], ℕ, true, false, None, Some, IfSome};
 ghost use Rattle.gp_edge.specs.Faults.{Rose};
-ghost use Rattle.gp_cli.specs.declared.serving.Ran.{Ran};
-ghost use Rattle.gp_cli.specs.declared.subcommand.Subcommand.TheVariants.{Play};
+ghost use Rattle.gp_msg.specs.declared.record.Record.{Record};
+ghost use Rattle.gp_cli.specs.declared.subcommand.Subcommand.TheVariants.{Play, Sim, Drive, Log, Upgrade};
 ghost use Rattle.gp_cli.specs.Subcommands.{named};
 ghost use Rattle.gp_cli.specs.Outside.{Outside};
-ghost use Rattle.gp_cli.specs.Endings.{IsCause};
-ghost use Rattle.gp_cli.specs.Serving.{Ends, HoldsScript, HoldsBadLine, PlaysWhole, StopsAtLine};
-ghost use Rattle.gp_cli.specs.Program.{Arguments, AreWords, IsNoText, IsProgramCause};
+ghost use Rattle.gp_cli.specs.Causes.{IsCause, seen_at, driven_config, disk_used};
+ghost use Rattle.gp_cli.specs.Serving.{Ends, HoldsScript, HoldsBadLine, PlaysWhole, StopsAtLine, PrintsDriven, PrintsSimulated};
+ghost use Rattle.gp_cli.specs.LogRuns.{HoldsLog, HoldsNoLog, ShowsLog, ShowsTakenOn, HasNoSpace, IsBrokenAt};
+ghost use Rattle.gp_cli.specs.Program.{Arguments, AreWords, IsProgramCause};
 
 /// With status 0 a script was read to its end and played, and all that it prints was written, with no
-/// fault of the source or the sink. With status 3 a line of it was refused, and nothing else was printed
-/// than which, and why.
+/// fault of the source or the sink. With status 3 a line of a script was refused, and nothing else was
+/// printed than which, and why. With status 5 too the script was read to its end.
 pub fn a_script_was_played_or_refused()
-    ensures played { (words : List (List ℕ)) (before now : Outside) (ran : Ran) → Ends (IsCause words) before now ran
-        → ran.status ≡ 0 → PlaysWhole before now ran }
-    ensures refused { (words : List (List ℕ)) (before now : Outside) (ran : Ran) → Ends (IsCause words) before now ran
-        → ran.status ≡ 3 → StopsAtLine before now ran }
-    ensures read_to_end { (words : List (List ℕ)) (before now : Outside) (ran : Ran) → Ends (IsCause words) before now ran
-        → (ran.status ≡ 0) ⊎ (ran.status ≡ 5) → IfSome now.source.bytes (λ rest. rest ≡ []) }
+    ensures played { (words : List (List ℕ)) (before now : Outside) (status : ℕ) (trail : List Record) → Ends (IsCause words) before now status trail
+        → named words ≡ Some Play → status ≡ 0 → PlaysWhole before now trail }
+    ensures refused { (words : List (List ℕ)) (before now : Outside) (status : ℕ) (trail : List Record) → Ends (IsCause words) before now status trail
+        → status ≡ 3 → StopsAtLine before now status trail }
+    ensures read_to_end { (words : List (List ℕ)) (before now : Outside) (status : ℕ) (trail : List Record) → Ends (IsCause words) before now status trail
+        → named words ≡ Some Play → (status ≡ 0) ⊎ (status ≡ 5) → IfSome now.source.bytes (λ rest. rest ≡ []) }
 {}
 
 /// A whole script is played, and one with a bad line is refused, if nothing fails and there is memory.
 pub fn a_script_has_its_status()
-    ensures complete { (words : List (List ℕ)) (before now : Outside) (ran : Ran) → Ends (IsCause words) before now ran → named words ≡ Some Play → HoldsScript before.source
-        → ¬ Rose before.source.faults now.source.faults → ¬ Rose before.sink.faults now.sink.faults → (ran.status ≡ 0) ⊎ (ran.status ≡ 1) }
-    ensures refuses { (words : List (List ℕ)) (before now : Outside) (ran : Ran) → Ends (IsCause words) before now ran → named words ≡ Some Play → HoldsBadLine before.source
-        → ¬ Rose before.source.faults now.source.faults → (ran.status ≡ 3) ⊎ (ran.status ≡ 1) }
+    ensures complete { (words : List (List ℕ)) (before now : Outside) (status : ℕ) (trail : List Record) → Ends (IsCause words) before now status trail → named words ≡ Some Play → HoldsScript before.source
+        → ¬ Rose before.source.faults now.source.faults → ¬ Rose before.sink.faults now.sink.faults → (status ≡ 0) ⊎ (status ≡ 1) }
+    ensures refuses { (words : List (List ℕ)) (before now : Outside) (status : ℕ) (trail : List Record) → Ends (IsCause words) before now status trail → named words ≡ Some Play → HoldsBadLine before.source
+        → ¬ Rose before.source.faults now.source.faults → (status ≡ 3) ⊎ (status ≡ 1) }
+{}
+
+/// `drive` and `sim` end with status 0 or 5, or because memory ran out; without a fault of the sink they do
+/// not end with 5. With status 0 the records are those of the driven run, or of the settled one, and all of
+/// its report, or its summary, was written.
+pub fn a_run_without_input_is_printed()
+    ensures driven { (words : List (List ℕ)) (before now : Outside) (status : ℕ) (trail : List Record) → Ends (IsCause words) before now status trail → (a l n : ℕ)
+        → named words ≡ Some (Drive a l n) → status ≡ 0 → PrintsDriven (driven_config a l) n before now trail }
+    ensures simulated { (words : List (List ℕ)) (before now : Outside) (status : ℕ) (trail : List Record) → Ends (IsCause words) before now status trail → (seed n : ℕ)
+        → named words ≡ Some (Sim seed n) → status ≡ 0 → PrintsSimulated seed n before now trail }
+    ensures drive_complete { (words : List (List ℕ)) (before now : Outside) (status : ℕ) (trail : List Record) → Ends (IsCause words) before now status trail → (a l n : ℕ)
+        → named words ≡ Some (Drive a l n) → ¬ Rose before.sink.faults now.sink.faults → (status ≡ 0) ⊎ (status ≡ 1) }
+    ensures sim_complete { (words : List (List ℕ)) (before now : Outside) (status : ℕ) (trail : List Record) → Ends (IsCause words) before now status trail → (seed n : ℕ)
+        → named words ≡ Some (Sim seed n) → ¬ Rose before.sink.faults now.sink.faults → (status ≡ 0) ⊎ (status ≡ 1) }
+{}
+
+/// With status 0 `log` has shown the log that its disk holds, and `upgrade` the log that it then holds: if
+/// an entry was of version 1 that is the last entry alone, in version 2. If the disk holds a log, no call
+/// of it fails, and a log that is taken on has room for its last entry, both end with status 0, or 5, or
+/// because memory ran out.
+pub fn a_log_is_shown()
+    ensures shown { (words : List (List ℕ)) (before now : Outside) (status : ℕ) (trail : List Record) → Ends (IsCause words) before now status trail → (k : ℕ)
+        → named words ≡ Some (Log k) → status ≡ 0 → ShowsLog k before now }
+    ensures taken_on { (words : List (List ℕ)) (before now : Outside) (status : ℕ) (trail : List Record) → Ends (IsCause words) before now status trail → (k : ℕ)
+        → named words ≡ Some (Upgrade k) → status ≡ 0 → ShowsTakenOn k before now }
+    ensures log_complete { (words : List (List ℕ)) (before now : Outside) (status : ℕ) (trail : List Record) → Ends (IsCause words) before now status trail → (k : ℕ) → named words ≡ Some (Log k)
+        → HoldsLog k before → ¬ Rose (seen_at k before.disks).faults (seen_at k now.disks).faults → ¬ Rose before.sink.faults now.sink.faults → (status ≡ 0) ⊎ (status ≡ 1) }
+{}
+
+/// Status 7 is for a log with entries of version 1 that has no room for its last entry, and status 8 for
+/// bytes that are no log. Such bytes have no other status, unless the disk fails or memory runs out.
+pub fn a_log_was_full_or_broken()
+    ensures full { (words : List (List ℕ)) (before now : Outside) (status : ℕ) (trail : List Record) → Ends (IsCause words) before now status trail
+        → status ≡ 7 → HasNoSpace words before now status }
+    ensures broken { (words : List (List ℕ)) (before now : Outside) (status : ℕ) (trail : List Record) → Ends (IsCause words) before now status trail
+        → status ≡ 8 → IsBrokenAt words before now status }
+    ensures no_log { (words : List (List ℕ)) (before now : Outside) (status : ℕ) (trail : List Record) → Ends (IsCause words) before now status trail → (k : ℕ) → disk_used (named words) ≡ Some k
+        → HoldsNoLog k before → ¬ Rose (seen_at k before.disks).faults (seen_at k now.disks).faults → (status ≡ 8) ⊎ (status ≡ 1) }
 {}
 
 /// Status 2 is for words that name no subcommand, which have no other status, unless memory runs out.
 pub fn the_usage_is_for_words_that_name_nothing()
-    ensures misused { (words : List (List ℕ)) (before now : Outside) (ran : Ran) → Ends (IsCause words) before now ran
-        → ran.status ≡ 2 → named words ≡ None }
-    ensures usage { (words : List (List ℕ)) (before now : Outside) (ran : Ran) → Ends (IsCause words) before now ran
-        → named words ≡ None → (ran.status ≡ 2) ⊎ (ran.status ≡ 1) }
+    ensures misused { (words : List (List ℕ)) (before now : Outside) (status : ℕ) (trail : List Record) → Ends (IsCause words) before now status trail
+        → status ≡ 2 → named words ≡ None }
+    ensures usage { (words : List (List ℕ)) (before now : Outside) (status : ℕ) (trail : List Record) → Ends (IsCause words) before now status trail
+        → named words ≡ None → (status ≡ 2) ⊎ (status ≡ 1) }
 {}
 
-/// Status 4 comes only if the source failed, and status 5 only if the sink did.
+/// Status 4 comes only if the source failed, status 5 only if the sink did, and status 6 only if the disk
+/// of the subcommand did.
 pub fn a_fault_was_counted()
-    ensures unread { (words : List (List ℕ)) (before now : Outside) (ran : Ran) → Ends (IsCause words) before now ran
-        → ran.status ≡ 4 → Rose before.source.faults now.source.faults }
-    ensures unwritten { (words : List (List ℕ)) (before now : Outside) (ran : Ran) → Ends (IsCause words) before now ran
-        → ran.status ≡ 5 → Rose before.sink.faults now.sink.faults }
+    ensures unread { (words : List (List ℕ)) (before now : Outside) (status : ℕ) (trail : List Record) → Ends (IsCause words) before now status trail
+        → status ≡ 4 → Rose before.source.faults now.source.faults }
+    ensures unwritten { (words : List (List ℕ)) (before now : Outside) (status : ℕ) (trail : List Record) → Ends (IsCause words) before now status trail
+        → status ≡ 5 → Rose before.sink.faults now.sink.faults }
+    ensures disk_failed { (words : List (List ℕ)) (before now : Outside) (status : ℕ) (trail : List Record) → Ends (IsCause words) before now status trail
+        → status ≡ 6 → (k : ℕ) × (disk_used (named words) ≡ Some k) × Rose (seen_at k before.disks).faults (seen_at k now.disks).faults }
 {}
 
-/// The program ends as the words after its name lead to. If the environment gave no arguments, for
-/// another reason than that one is no text, it ends with status 1 and reads nothing.
+/// The program ends as the words after its name lead to, if there was memory for its disks. Without it, and
+/// if the environment gave no arguments for another reason than that one is no text, it ends with status 1.
 pub fn a_program_ends_as_its_words_lead_to()
-    ensures words { (given : Arguments) (words : List (List ℕ)) (before now : Outside) (ran : Ran) → Ends (IsProgramCause given) before now ran
-        → AreWords given words → Ends (IsCause words) before now ran }
-    ensures none { (given : Arguments) (before now : Outside) (ran : Ran) → Ends (IsProgramCause given) before now ran
-        → ((words : List (List ℕ)) → ¬ AreWords given words) → (ran.status ≡ 1) × (now.source ≡ before.source) }
+    ensures words { (given : Arguments) (words : List (List ℕ)) (before now : Outside) (status : ℕ) (trail : List Record) → Ends (IsProgramCause given true) before now status trail
+        → AreWords given words → Ends (IsCause words) before now status trail }
+    ensures none { (given : Arguments) (before now : Outside) (status : ℕ) (trail : List Record) → Ends (IsProgramCause given true) before now status trail
+        → ((words : List (List ℕ)) → ¬ AreWords given words) → status ≡ 1 }
+    ensures no_disks { (given : Arguments) (before now : Outside) (status : ℕ) (trail : List Record) → Ends (IsProgramCause given false) before now status trail
+        → status ≡ 1 }
 {}

@@ -1,38 +1,41 @@
 //! The program, from its arguments to its exit status.
-ghost use Rattle.std.specs.Prelude.{◌≡◌, ◌≤◌, IfOk, OnErr};
+ghost use Rattle.std.specs.Prelude.{◌≡◌, ◌≤◌, [], true, IfOk, OnErr, is_ok, length};
 ghost use Rattle.std.specs.Process.{exit_status};
 ghost use Rattle.gp_cli.specs.Subcommands.{texts_of};
-ghost use Rattle.gp_cli.specs.Outside.{outside};
-ghost use Rattle.gp_cli.specs.Serving.{Ends, IsInAgreementFor};
-ghost use Rattle.gp_cli.specs.Program.{IsNoText, AreWords, AreNoSubcommand, IsProgramCause};
+ghost use Rattle.gp_cli.specs.Outside.{outside, AllBut};
+ghost use Rattle.gp_cli.specs.Causes.{IsReader, disk_used};
+ghost use Rattle.gp_cli.specs.Logs.{KeepsLast};
+ghost use Rattle.gp_cli.specs.Serving.{Ends, IsInAgreementFor, EachDisk};
+ghost use Rattle.gp_cli.specs.Program.{IsNoText, AreWords, subcommand_in, given_disks, IsProgramCause};
 
 use crate::serving::{Ran, serve};
 use crate::status::NO_MEMORY;
 use gp_command::NoMemory;
-use gp_edge::{Sink, Source};
+use gp_edge::{Disk, Sink, Source};
 use gp_msg::Records;
 use std::alloc::Global;
 use std::env::Args;
 use std::io::{self, ErrorKind};
 use std::marker::Model;
 use std::process::{ExitCode, Termination};
+use std::sync::Wait;
 
 /// How the program ended. Only `run_program` makes one, so a `main` that returns one ends with the status
 /// of that run. A contract sees the run.
 #[derive(Drop)]
-pub struct Ended {
-    ran: Ran,
+pub struct Ended<D: Disk> {
+    ran: Ran<D>,
 }
 
-impl Model for Ended {
+impl<D: Disk> Model for Ended<D> {
     ghost use Rattle.gp_cli.specs.declared.serving.Ran.{Ran};
 
-    ghost Value = { Ran };
+    ghost Value = { Ran D };
 
     ghost view = { λ e. e.ran };
 }
 
-impl Termination for Ended {
+impl<D: Disk> Termination for Ended<D> {
     /// The exit status of the run. Nothing more is printed.
     fn report<R: Eprint>(self, _rt: &R) -> ExitCode
         ensures { exit_status result ≡ self.status }
@@ -53,39 +56,85 @@ fn words_after_name(alloc: Global, arguments: io::Result<Args>) -> Result<Vec<St
     }
 }
 
-/// Runs the program: the subcommand that its arguments name, over its input and its output.
-///
-/// The arguments are what `std::env::args` gives. The first is the program's name, and the others are the
-/// words that `serve` gets. If an argument is no text there is no subcommand, which ends with the usage
-/// and status 2. After any other error of `std::env::args`, and if memory runs out for the words, nothing
-/// is read or written, and the status is 1. What each exit status says is in `laws`.
-pub fn run_program<S: Source, K: Sink>(
+// A run without memory, which left everything as it was.
+fn starved<D: Disk>(alloc: Global, disks: Vec<D>) -> Ran<D>
+    ensures status { result.status ≡ 1 }
+    ensures trail { result.trail ≡ [] }
+    ensures disks { result.disks.items ≡ disks.items }
+{
+    Ran {
+        status: NO_MEMORY,
+        trail: Records::new(alloc),
+        disks,
+    }
+}
+
+// The subcommand that the arguments name runs over these disks.
+fn run_arguments<W: Wait, S: Source, K: Sink, D: Disk>(
+    rt: &W,
     alloc: Global,
     arguments: io::Result<Args>,
     source: &mut S,
     sink: &mut K,
-) -> Ended
-    // Whatever the status is: the records are a legal run of the script's configuration, what learners showed at any moments agrees, and so do replicas.
-    ensures agreement { IsInAgreementFor (IsProgramCause arguments) (outside S.rest S.faults K.written K.faults source.old sink.old)
-        (outside S.rest S.faults K.written K.faults source.new sink.new) result }
-
-    // The run ends in one way, which has its cause: its records, its text and its status are those of that ending.
-    ensures ends { Ends (IsProgramCause arguments) (outside S.rest S.faults K.written K.faults source.old sink.old)
-        (outside S.rest S.faults K.written K.faults source.new sink.new) result }
-
-    ensures untouched { AreNoSubcommand arguments → source.new ≡ source.old }
+    disks: Vec<D>,
+) -> Ran<D>
+    requires twelve { length disks.items ≡ 12 }
+    ensures agreement { IsInAgreementFor (IsProgramCause arguments true) (outside S.rest S.faults K.written K.faults D.content D.faults source.old sink.old disks.items)
+        (outside S.rest S.faults K.written K.faults D.content D.faults source.new sink.new result.disks.items) result.trail }
+    ensures ends { Ends (IsProgramCause arguments true) (outside S.rest S.faults K.written K.faults D.content D.faults source.old sink.old disks.items)
+        (outside S.rest S.faults K.written K.faults D.content D.faults source.new sink.new result.disks.items) result.status result.trail }
+    ensures crash { EachDisk (KeepsLast D.content D.image D.moment D.since) disks.items result.disks.items }
+    ensures untouched { ¬ IsReader (subcommand_in arguments) → source.new ≡ source.old }
+    ensures others { AllBut (disk_used (subcommand_in arguments)) disks.items result.disks.items }
     ensures source_never_falls { S.faults source.old ≤ S.faults source.new }
     ensures sink_never_falls { K.faults sink.old ≤ K.faults sink.new }
+    ensures disks_never_fall { EachDisk (λ was is. D.faults was ≤ D.faults is) disks.items result.disks.items }
 {
     match words_after_name(alloc, arguments) {
-        Ok(words) => Ended {
-            ran: serve(alloc, &words, source, sink),
+        Ok(words) => serve(rt, alloc, &words, source, sink, disks),
+        Err(NoMemory) => starved(alloc, disks),
+    }
+}
+
+/// Runs the program: the subcommand that its arguments name, over its input, its output and its disks.
+///
+/// The arguments are what `std::env::args` gives. The first is the program's name, and the others are the
+/// words that `serve` gets. If an argument is no text there is no subcommand, which ends with the usage
+/// and status 2. After any other error of `std::env::args`, and if memory runs out for the words or ran out
+/// for the disks, nothing is read or written, and the status is 1. What each exit status says is in `laws`.
+pub fn run_program<W: Wait, S: Source, K: Sink, D: Disk>(
+    rt: &W,
+    alloc: Global,
+    arguments: io::Result<Args>,
+    source: &mut S,
+    sink: &mut K,
+    disks: Result<Vec<D>, NoMemory>,
+) -> Ended<D>
+    requires twelve { IfOk disks (λ d. length d.items ≡ 12) }
+
+    // Whatever the status is: the records are a legal run of the configuration of the script or the subcommand, what learners showed at any moments agrees, and so do replicas.
+    ensures agreement { IsInAgreementFor (IsProgramCause arguments (is_ok disks)) (outside S.rest S.faults K.written K.faults D.content D.faults source.old sink.old (given_disks disks))
+        (outside S.rest S.faults K.written K.faults D.content D.faults source.new sink.new result.disks.items) result.trail }
+
+    // The run ends in one way, which has its cause: its records, its text and its status are those of that ending.
+    ensures ends { Ends (IsProgramCause arguments (is_ok disks)) (outside S.rest S.faults K.written K.faults D.content D.faults source.old sink.old (given_disks disks))
+        (outside S.rest S.faults K.written K.faults D.content D.faults source.new sink.new result.disks.items) result.status result.trail }
+
+    // A crash at any moment leaves of each disk what it might have left before the call, or a log with all its entries or with the last one.
+    ensures crash { EachDisk (KeepsLast D.content D.image D.moment D.since) (given_disks disks) result.disks.items }
+
+    ensures untouched { ¬ IsReader (subcommand_in arguments) → source.new ≡ source.old }
+    ensures others { AllBut (disk_used (subcommand_in arguments)) (given_disks disks) result.disks.items }
+    ensures source_never_falls { S.faults source.old ≤ S.faults source.new }
+    ensures sink_never_falls { K.faults sink.old ≤ K.faults sink.new }
+    ensures disks_never_fall { EachDisk (λ was is. D.faults was ≤ D.faults is) (given_disks disks) result.disks.items }
+{
+    match disks {
+        Ok(disks) => Ended {
+            ran: run_arguments(rt, alloc, arguments, source, sink, disks),
         },
         Err(NoMemory) => Ended {
-            ran: Ran {
-                status: NO_MEMORY,
-                trail: Records::new(alloc),
-            },
+            ran: starved(alloc, Vec::new(alloc)),
         },
     }
 }

@@ -1,138 +1,158 @@
-//! The subcommands of the program, over any source and sink.
-ghost use Rattle.std.specs.Prelude.{◌≡◌, ◌≤◌, [], None};
-ghost use Rattle.gp_text.specs.Reading.{reading};
-ghost use Rattle.gp_cli.specs.Texts.{usage, refusal_text};
+//! The subcommands of the program, over any source, sink and disks.
+ghost use Rattle.std.specs.Prelude.{◌≡◌, ◌≤◌, ◌<◌, Some, length, vec_len, vec_capacity};
+ghost use Rattle.std.specs.List.{insert};
 ghost use Rattle.gp_cli.specs.Subcommands.{texts_of, named};
-ghost use Rattle.gp_cli.specs.Outside.{seen, outside, Told};
-ghost use Rattle.gp_cli.specs.Endings.{IsCause, IsReadCause, IsScriptCause};
-ghost use Rattle.gp_cli.specs.Serving.{EndsBy, Ends, IsInAgreementFor};
+ghost use Rattle.gp_cli.specs.Outside.{seen, disks_seen, outside, AllBut};
+ghost use Rattle.gp_cli.specs.Causes.{IsCause, IsMisuse, IsReader, log_cause, seen_at, disk_used};
+ghost use Rattle.gp_cli.specs.Logs.{KeepsLast};
+ghost use Rattle.gp_cli.specs.Serving.{EndsBy, Ends, IsInAgreementFor, EachDisk};
 
-use crate::status::{DONE, MISUSED, NO_MEMORY, REFUSED, UNREAD, UNWRITTEN};
+use crate::logs::use_disk;
+use crate::runs::{Outcome, drive_and_report, read_and_play, simulate_and_summarize};
+use crate::status::MISUSED;
 use crate::subcommand::{Subcommand, subcommand_of};
-use crate::telling::{READ_FAULT, USAGE, refusal_text, tell};
-use gp_edge::{Refused, Sink, Source, read_up_to};
+use crate::telling::{USAGE, tell};
+use gp_edge::{Disk, Sink, Source};
 use gp_msg::Records;
-use gp_script::Reason;
-use gp_text::{MOST_BYTES, Played, Unplayed, play};
 use std::alloc::Global;
-
-/// The most bytes that are read: one more than a script may have.
-pub const MOST_READ: usize = MOST_BYTES + 1;
+use std::sync::Wait;
 
 /// How a run of the program ended.
 #[derive(Drop)]
-pub struct Ran {
+pub struct Ran<D: Disk> {
     /// The exit status: 0 if the input was read to its end and all was written, 1 if memory ran out, 2 if
     /// the words name no subcommand, 3 if a line of the input is refused, 4 if the source failed, 5 if the
-    /// sink failed.
+    /// sink failed, 6 if a disk failed, 7 if a log has no room for an entry, 8 if the bytes of a disk are
+    /// no log.
     pub status: u8,
     /// The records of the run, the oldest first. There are none if it ended before any event.
     pub trail: Records,
+    /// The disks, in the order in which they were given.
+    pub disks: Vec<D>,
 }
 
 // Prints the usage.
-fn misuse<K: Sink>(alloc: Global, sink: &mut K) -> Ran
-    ensures told { Told (seen (K.written sink.old) (K.faults sink.old)) (seen (K.written sink.new) (K.faults sink.new))
-        usage 2 2 result.status }
-    ensures trail { result.trail ≡ [] }
+fn misuse<K: Sink>(alloc: Global, sink: &mut K) -> Outcome
+    ensures ends { EndsBy IsMisuse (seen (K.written sink.old) (K.faults sink.old)) (seen (K.written sink.new) (K.faults sink.new))
+        result.status result.trail }
     ensures never_falls { K.faults sink.old ≤ K.faults sink.new }
 {
-    Ran {
+    Outcome {
         status: tell(sink, USAGE, MISUSED, MISUSED),
         trail: Records::new(alloc),
     }
 }
 
-// Prints which line is refused, and why. The records are those of the lines before it.
-fn refuse<K: Sink>(alloc: Global, line: u64, reason: Reason, records: Records, sink: &mut K) -> Ran
-    ensures told { Told (seen (K.written sink.old) (K.faults sink.old)) (seen (K.written sink.new) (K.faults sink.new))
-        (refusal_text line reason) 3 3 result.status }
-    ensures trail { result.trail ≡ records }
+// Puts a disk back to where it was taken from.
+fn put_back<D: Disk>(disks: &mut Vec<D>, index: usize, disk: D)
+    requires within { index ≤ vec_len disks.old }
+    requires room { vec_len disks.old < vec_capacity disks.old }
+    ensures { disks.new.items ≡ insert disks.old.items index disk }
+{
+    match disks.insert(index, disk) {
+        Ok(()) => {}
+        Err(_) => unreachable!(),
+    }
+}
+
+// Gives the disks back beside how a run ended that used none of them.
+fn with_disks<D: Disk>(outcome: Outcome, disks: Vec<D>) -> Ran<D>
+    ensures status { result.status ≡ outcome.status }
+    ensures trail { result.trail ≡ outcome.trail }
+    ensures disks { result.disks.items ≡ disks.items }
+{
+    Ran {
+        status: outcome.status,
+        trail: outcome.trail,
+        disks,
+    }
+}
+
+// Shows the log of one of the disks, and before that takes it on if `upgrades`.
+fn use_log<D: Disk, K: Sink>(
+    alloc: Global,
+    number: u32,
+    upgrades: bool,
+    disks: Vec<D>,
+    sink: &mut K,
+) -> Ran<D>
+    requires within { number < length disks.items }
+    ensures ends { EndsBy (log_cause upgrades number (seen_at number (disks_seen D.content D.faults disks.items)) (seen_at number (disks_seen D.content D.faults result.disks.items)))
+        (seen (K.written sink.old) (K.faults sink.old)) (seen (K.written sink.new) (K.faults sink.new)) result.status result.trail }
+    ensures others { AllBut (Some number) disks.items result.disks.items }
+    ensures crash { EachDisk (KeepsLast D.content D.image D.moment D.since) disks.items result.disks.items }
+    ensures disks_never_fall { EachDisk (λ was is. D.faults was ≤ D.faults is) disks.items result.disks.items }
     ensures never_falls { K.faults sink.old ≤ K.faults sink.new }
 {
-    let status = match refusal_text(alloc, line, reason) {
-        Ok(text) => tell(sink, &text, REFUSED, REFUSED),
-        Err(_) => NO_MEMORY,
-    };
+    let mut disks = disks;
+    let index = number as usize;
+    let disk = disks.remove(index);
+    let (status, disk) = use_disk(alloc, number, upgrades, disk, sink);
+    put_back(&mut disks, index, disk);
     Ran {
         status,
-        trail: records,
+        trail: Records::new(alloc),
+        disks,
     }
 }
 
-// Plays a script, and prints what it prints, or its first refused line.
-fn play_script<K: Sink>(alloc: Global, script: &[u8], sink: &mut K) -> Ran
-    ensures ends { EndsBy (IsScriptCause (reading script.now))
-        (seen (K.written sink.old) (K.faults sink.old)) (seen (K.written sink.new) (K.faults sink.new)) result }
-    ensures never_falls { K.faults sink.old ≤ K.faults sink.new }
-{
-    match play(alloc, script) {
-        Ok(Played { world, text }) => Ran {
-            status: tell(sink, &text, DONE, UNWRITTEN),
-            trail: world.into_records(),
-        },
-        Err(
-            Unplayed::Bad {
-                line,
-                reason,
-                records,
-            },
-        ) => refuse(alloc, line, reason, records, sink),
-        Err(Unplayed::NoMemory) => Ran {
-            status: NO_MEMORY,
-            trail: Records::new(alloc),
-        },
-    }
-}
-
-// Reads a script, and plays it.
-fn read_and_play<S: Source, K: Sink>(alloc: Global, source: &mut S, sink: &mut K) -> Ran
-    ensures ends { EndsBy
-        (IsReadCause (seen (S.rest source.old) (S.faults source.old)) (seen (S.rest source.new) (S.faults source.new)))
-        (seen (K.written sink.old) (K.faults sink.old)) (seen (K.written sink.new) (K.faults sink.new)) result }
-    ensures source_never_falls { S.faults source.old ≤ S.faults source.new }
-    ensures sink_never_falls { K.faults sink.old ≤ K.faults sink.new }
-{
-    match read_up_to(alloc, source, MOST_READ) {
-        Ok(script) => play_script(alloc, &script, sink),
-        Err(Refused::Failed) => Ran {
-            status: tell(sink, READ_FAULT, UNREAD, UNREAD),
-            trail: Records::new(alloc),
-        },
-        Err(Refused::NoMemory) => Ran {
-            status: NO_MEMORY,
-            trail: Records::new(alloc),
-        },
-    }
-}
-
-/// Runs the subcommand that the words name, reads its input from the source and writes its text to the
-/// sink.
+/// Runs the subcommand that the words name: it reads its input from the source, writes its text to the
+/// sink, and uses the disks, of which there are twelve.
 ///
 /// `play` reads a script to its end, or to one byte past the most that a script may have, plays it, and
 /// prints what its `show` lines ask for and the report. If a read fails the script is not played. If a
-/// line is refused only the refusal is printed. Words that name no subcommand get the usage, and nothing
-/// is read. What each exit status says is in `laws`.
-pub fn serve<S: Source, K: Sink>(
+/// line is refused only the refusal is printed. `sim` makes the workload of a seed, settles it, and
+/// prints a summary. `drive` drives commands one by one in a multi round of which one coordinator takes no
+/// part, and prints the report. `log` prints the entries of the log of a disk, and changes no byte of it;
+/// `upgrade` does the same after it has renewed a log with entries of version 1 of the format. Words that
+/// name no subcommand get the usage. What each exit status says is in `laws`.
+pub fn serve<W: Wait, S: Source, K: Sink, D: Disk>(
+    rt: &W,
     alloc: Global,
     words: &[String],
     source: &mut S,
     sink: &mut K,
-) -> Ran
-    // Whatever the status is: the records are a legal run of the script's configuration, what learners showed at any moments agrees, and so do replicas.
-    ensures agreement { IsInAgreementFor (IsCause (texts_of words.now)) (outside S.rest S.faults K.written K.faults source.old sink.old)
-        (outside S.rest S.faults K.written K.faults source.new sink.new) result }
+    disks: Vec<D>,
+) -> Ran<D>
+    requires twelve { length disks.items ≡ 12 }
+
+    // Whatever the status is: the records are a legal run of the configuration of the script or the subcommand, what learners showed at any moments agrees, and so do replicas.
+    ensures agreement { IsInAgreementFor (IsCause (texts_of words.now)) (outside S.rest S.faults K.written K.faults D.content D.faults source.old sink.old disks.items)
+        (outside S.rest S.faults K.written K.faults D.content D.faults source.new sink.new result.disks.items) result.trail }
 
     // The run ends in one way, which has its cause: its records, its text and its status are those of that ending.
-    ensures ends { Ends (IsCause (texts_of words.now)) (outside S.rest S.faults K.written K.faults source.old sink.old)
-        (outside S.rest S.faults K.written K.faults source.new sink.new) result }
+    ensures ends { Ends (IsCause (texts_of words.now)) (outside S.rest S.faults K.written K.faults D.content D.faults source.old sink.old disks.items)
+        (outside S.rest S.faults K.written K.faults D.content D.faults source.new sink.new result.disks.items) result.status result.trail }
 
-    ensures untouched { named (texts_of words.now) ≡ None → source.new ≡ source.old }
+    // A crash at any moment leaves of each disk what it might have left before the call, or a log with all its entries or with the last one.
+    ensures crash { EachDisk (KeepsLast D.content D.image D.moment D.since) disks.items result.disks.items }
+
+    ensures untouched { ¬ IsReader (named (texts_of words.now)) → source.new ≡ source.old }
+    ensures others { AllBut (disk_used (named (texts_of words.now))) disks.items result.disks.items }
     ensures source_never_falls { S.faults source.old ≤ S.faults source.new }
     ensures sink_never_falls { K.faults sink.old ≤ K.faults sink.new }
+    ensures disks_never_fall { EachDisk (λ was is. D.faults was ≤ D.faults is) disks.items result.disks.items }
 {
     match subcommand_of(words) {
-        Some(Subcommand::Play) => read_and_play(alloc, source, sink),
-        None => misuse(alloc, sink),
+        Some(Subcommand::Play) => with_disks(read_and_play(alloc, source, sink), disks),
+        Some(Subcommand::Sim { seed, commands }) => {
+            with_disks(
+                simulate_and_summarize(rt, alloc, seed, commands, sink),
+                disks,
+            )
+        }
+        Some(
+            Subcommand::Drive {
+                acceptors,
+                learners,
+                commands,
+            },
+        ) => with_disks(
+            drive_and_report(rt, alloc, acceptors, learners, commands, sink),
+            disks,
+        ),
+        Some(Subcommand::Log { disk }) => use_log(alloc, disk, false, disks, sink),
+        Some(Subcommand::Upgrade { disk }) => use_log(alloc, disk, true, disks, sink),
+        None => with_disks(misuse(alloc, sink), disks),
     }
 }

@@ -17,3 +17,12 @@ pub const UNREAD: u8 = 4;
 
 /// The sink failed.
 pub const UNWRITTEN: u8 = 5;
+
+/// A disk failed.
+pub const DISK_FAILED: u8 = 6;
+
+/// A log has no room for an entry.
+pub const LOG_FULL: u8 = 7;
+
+/// The bytes of a disk are no log.
+pub const NO_LOG: u8 = 8;

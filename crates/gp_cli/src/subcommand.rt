@@ -1,20 +1,105 @@
 //! The subcommands, and the words that name them.
-ghost use Rattle.std.specs.Prelude.{◌≡◌};
-ghost use Rattle.gp_cli.specs.Subcommands.{texts_of, named};
+ghost use Rattle.std.specs.Prelude.{◌≡◌, IfSome};
+ghost use Rattle.gp_cli.specs.Subcommands.{texts_of, number_within, drive_named, sim_named, disk_named, named_by_two, named, IsWithin};
+
+use gp_random::MOST_COMMANDS;
+use gp_sim::MOST_DRIVEN;
+use gp_words::number_of;
+
+/// The number of disks: one for each acceptor, 0 to 6, and one for each coordinator, 7 to 11.
+pub const DISKS: u32 = 12;
 
 /// What the words of the command line ask for.
 #[derive(Clone, Copy, Debug, PartialEq, Eq)]
 pub enum Subcommand {
     /// Read a script, play it, and print what its `show` lines ask for and its report.
     Play,
+    /// Make a workload from a seed, play and settle it, and print a summary.
+    Sim {
+        /// The seed of the generator.
+        seed: u64,
+        /// The number of commands, 1 to 256.
+        commands: u32,
+    },
+    /// Drive commands one by one to all learners, and print the report. Of three coordinators the last
+    /// does nothing.
+    Drive {
+        /// The number of acceptors, 3 to 7.
+        acceptors: u32,
+        /// The number of learners, 1 to 4.
+        learners: u32,
+        /// The number of commands, 1 to 64.
+        commands: u32,
+    },
+    /// Print the entries of the log on a disk.
+    Log {
+        /// The number of the disk, 0 to 11.
+        disk: u32,
+    },
+    /// Renew the log on a disk if it was written in version 1 of the format, and print its entries.
+    Upgrade {
+        /// The number of the disk, 0 to 11.
+        disk: u32,
+    },
 }
 
-/// The subcommand that the words name, if they name one.
+// The number that a word spells, if it is in the range.
+fn number_within(least: u32, most: u32, word: &str) -> Option<u32>
+    ensures { result ≡ number_within least most word.now }
+{
+    let number = u32::try_from(number_of(word.as_bytes())?).ok()?;
+    if least <= number && number <= most {
+        Some(number)
+    } else {
+        None
+    }
+}
+
+fn drive_of(acceptors: &str, learners: &str, commands: &str) -> Option<Subcommand>
+    ensures { result ≡ drive_named acceptors.now learners.now commands.now }
+{
+    Some(Subcommand::Drive {
+        acceptors: number_within(3, 7, acceptors)?,
+        learners: number_within(1, 4, learners)?,
+        commands: number_within(1, MOST_DRIVEN, commands)?,
+    })
+}
+
+fn sim_of(seed: &str, commands: &str) -> Option<Subcommand>
+    ensures { result ≡ sim_named seed.now commands.now }
+{
+    Some(Subcommand::Sim {
+        seed: number_of(seed.as_bytes())?,
+        commands: number_within(1, MOST_COMMANDS, commands)?,
+    })
+}
+
+// A word and a number.
+fn of_two(word: &str, number: &str) -> Option<Subcommand>
+    ensures { result ≡ named_by_two word.now number.now }
+{
+    let disk = number_within(0, DISKS - 1, number)?;
+    match word {
+        "log" => Some(Subcommand::Log { disk }),
+        "upgrade" => Some(Subcommand::Upgrade { disk }),
+        _ => None,
+    }
+}
+
+/// The subcommand that the words name, if they name one. Its numbers are in range.
 pub fn subcommand_of(words: &[String]) -> Option<Subcommand>
-    ensures { result ≡ named (texts_of words.now) }
+    ensures named { result ≡ named (texts_of words.now) }
+    ensures within { IfSome result IsWithin }
 {
     match words {
         [word] if word.as_str() == "play" => Some(Subcommand::Play),
+        [word, number] => of_two(word.as_str(), number.as_str()),
+        [word, seed, commands] if word.as_str() == "sim" => {
+            sim_of(seed.as_str(), commands.as_str())
+        }
+        [word, acceptors, learners, commands] if word.as_str() == "drive" => {
+            drive_of(acceptors.as_str(), learners.as_str(), commands.as_str())
+        }
         _ => None,
     }
 }

@@ -1,6 +1,6 @@
 //! The texts that are printed, and the status that goes with each.
-ghost use Rattle.std.specs.Prelude.{◌≡◌, ◌≤◌, IfOk};
-ghost use Rattle.gp_cli.specs.Texts.{reason_text, refusal_text};
+ghost use Rattle.std.specs.Prelude.{ℕ, ◌≡◌, ◌≤◌, ◌<◌, List, length, IfOk, IfErr};
+ghost use Rattle.gp_cli.specs.Texts.{reason_text, refusal_text, full_text, broken_text};
 ghost use Rattle.gp_cli.specs.Outside.{seen, Told};
 
 use crate::status::NO_MEMORY;
@@ -12,10 +12,13 @@ use std::alloc::Global;
 
 /// What is printed if the words name no subcommand.
 pub const USAGE: &[u8] =
-    b"usage: mcgp play | run [LIMIT] | sim SEED COMMANDS | drive A L K | log K\n";
+    b"usage: mcgp play | run [LIMIT] | sim SEED COMMANDS | drive A L K | log K | upgrade K\n";
 
 /// What is printed if the source failed.
 pub const READ_FAULT: &[u8] = b"read fault\n";
+
+/// What is printed if a disk failed.
+pub const DISK_FAULT: &[u8] = b"disk fault\n";
 
 fn reason_text(reason: Reason) -> &'static [u8]
     ensures { result.now ≡ reason_text reason }
@@ -46,6 +49,45 @@ pub fn refusal_text(alloc: Global, line: u64, reason: Reason) -> Result<Vec<u8>,
     text.extend_from_slice(reason_text(reason))?;
     text.push(b'\n')?;
     Ok(text)
+}
+
+/// What is printed if a log of this size, in bytes, has no room for an entry of this need.
+pub fn full_text(alloc: Global, size: u64, need: u64) -> Result<Vec<u8>, NoMemory>
+    ensures { IfOk result (λ text. text.items ≡ full_text size need) }
+{
+    let mut text = Vec::new(alloc);
+    text.extend_from_slice(b"log full: size ")?;
+    push_number(size, &mut text)?;
+    text.extend_from_slice(b" need ")?;
+    push_number(need, &mut text)?;
+    text.push(b'\n')?;
+    Ok(text)
+}
+
+/// What is printed if the bytes of a disk break the format of a log at this place, counted from 0.
+pub fn broken_text(alloc: Global, place: u64) -> Result<Vec<u8>, NoMemory>
+    ensures { IfOk result (λ text. text.items ≡ broken_text place) }
+{
+    let mut text = Vec::new(alloc);
+    text.extend_from_slice(b"not a log: at ")?;
+    push_number(place, &mut text)?;
+    text.push(b'\n')?;
+    Ok(text)
+}
+
+/// Writes a text that may not have been made for want of memory, with the same status whether all of it
+/// is written or the sink fails.
+pub fn tell_of<K: Sink>(sink: &mut K, text: Result<Vec<u8>, NoMemory>, status: u8) -> u8
+    ensures told { IfOk text (λ t. Told (seen (K.written sink.old) (K.faults sink.old)) (seen (K.written sink.new) (K.faults sink.new))
+        t.items status status result) }
+    ensures untold { IfErr text (λ _. (meant : List ℕ) → 0 < length meant → Told (seen (K.written sink.old) (K.faults sink.old)) (seen (K.written sink.new) (K.faults sink.new))
+        meant status status result) }
+    ensures never_falls { K.faults sink.old ≤ K.faults sink.new }
+{
+    match text {
+        Ok(text) => tell(sink, &text, status, status),
+        Err(NoMemory) => NO_MEMORY,
+    }
 }
 
 /// Writes a text, and answers the status: `whole` if all of it was written, `at_fault` if the sink failed,

@@ -1,47 +1,61 @@
 //! The words of the command, and the status with which the program ends.
+ghost use Rattle.std.specs.Prelude.{◌≡◌, IfOk, length};
+
+use crate::stage::{disks_with, owned};
 use gp_cli::{run_program, serve};
-use gp_edge::{CalmSink, CalmSource};
+use gp_command::NoMemory;
+use gp_edge::{CalmSink, CalmSource, MemDisk};
 use std::alloc::Global;
 use std::env::Args;
 use std::io::{self, ErrorKind};
 use std::process::{ExitCode, Termination};
+use std::sync::Wait;
 use std::test::Fail;
 
-const USAGE: &[u8] = b"usage: mcgp play | run [LIMIT] | sim SEED COMMANDS | drive A L K | log K\n";
+const USAGE: &[u8] = b"usage: mcgp play | run [LIMIT] | sim SEED COMMANDS | drive A L K | log K | upgrade K\n";
 
 const SCRIPT: &[u8] = b"nodes 3 1 1\n";
 
 const PRINTS: &[u8] = b"l0 learned 0: -\nl0 state: -\nl0 replies: -\nevents 0 messages 0\n";
 
-fn owned(alloc: Global, words: &[&str]) -> Result<Vec<String>, Fail> {
-    let mut given = Vec::new(alloc);
-    for word in words {
-        given.push(String::from_str(alloc, word)?)?;
-    }
-    Ok(given)
-}
-
 // Whether these words end with status 2 and the usage line, and leave the input unread.
-fn are_refused(alloc: Global, words: &[&str]) -> Result<bool, Fail> {
+fn are_refused<W: Wait>(rt: &W, alloc: Global, words: &[&str]) -> Result<bool, Fail> {
     let mut source = CalmSource::new(alloc, SCRIPT)?;
     let mut sink = CalmSink::new(alloc)?;
-    let ran = serve(alloc, &owned(alloc, words)?, &mut source, &mut sink);
+    let disks = disks_with(alloc, 0, b"", &[])?;
+    let words = owned(alloc, words)?;
+    let ran = serve(rt, alloc, &words, &mut source, &mut sink, disks);
     Ok(ran.status == 2 && ran.trail.as_slice().is_empty() && sink.written() == USAGE)
 }
 
 #[test]
 fn unknown_words_print_the_usage(rt: HostRuntime) -> Result<(), Fail> {
     let alloc = rt.alloc();
-    assert!(rt; are_refused(alloc, &[])?);
-    assert!(rt; are_refused(alloc, &["play", "now"])?);
-    assert!(rt; are_refused(alloc, &["log", "12"])?);
-    assert!(rt; are_refused(alloc, &["Play"])?);
-    assert!(rt; are_refused(alloc, &["--help"])?);
+    assert!(rt; are_refused(&rt, alloc, &[])?);
+    assert!(rt; are_refused(&rt, alloc, &["play", "now"])?);
+    assert!(rt; are_refused(&rt, alloc, &["run"])?);
+    assert!(rt; are_refused(&rt, alloc, &["log", "12"])?);
+    assert!(rt; are_refused(&rt, alloc, &["upgrade", "12"])?);
+    assert!(rt; are_refused(&rt, alloc, &["log", "00"])?);
+    assert!(rt; are_refused(&rt, alloc, &["sim", "0"])?);
+    assert!(rt; are_refused(&rt, alloc, &["sim", "1", "0"])?);
+    assert!(rt; are_refused(&rt, alloc, &["sim", "1", "257"])?);
+    assert!(rt; are_refused(&rt, alloc, &["drive", "8", "1", "1"])?);
+    assert!(rt; are_refused(&rt, alloc, &["drive", "3", "5", "1"])?);
+    assert!(rt; are_refused(&rt, alloc, &["drive", "3", "1", "65"])?);
+    assert!(rt; are_refused(&rt, alloc, &["Play"])?);
+    assert!(rt; are_refused(&rt, alloc, &["--help"])?);
     Ok(())
 }
 
+fn disks_for(alloc: Global) -> Result<Result<Vec<MemDisk>, NoMemory>, Fail>
+    ensures { IfOk result (λ disks. IfOk disks (λ d. length d.items ≡ 12)) }
+{
+    Ok(Ok(disks_with(alloc, 0, b"", &[])?))
+}
+
 // Whether the program ends with this status, and prints this.
-fn ends<R: Eprint>(
+fn ends<R: Eprint + Wait>(
     rt: &R,
     alloc: Global,
     arguments: io::Result<Args>,
@@ -50,12 +64,13 @@ fn ends<R: Eprint>(
 ) -> Result<bool, Fail> {
     let mut source = CalmSource::new(alloc, SCRIPT)?;
     let mut sink = CalmSink::new(alloc)?;
-    let ended = run_program(alloc, arguments, &mut source, &mut sink);
+    let disks = disks_for(alloc)?;
+    let ended = run_program(rt, alloc, arguments, &mut source, &mut sink, disks);
     Ok(ended.report(rt) == ExitCode::from(status) && sink.written() == prints)
 }
 
 // The same, where the environment gives these arguments.
-fn given<R: Eprint>(
+fn given<R: Eprint + Wait>(
     rt: &R,
     alloc: Global,
     words: &[&str],
@@ -91,5 +106,18 @@ fn no_memory_for_the_arguments_ends_with_1(rt: HostRuntime) -> Result<(), Fail> 
     let alloc = rt.alloc();
     let no_memory = Err(io::Error::from(ErrorKind::OutOfMemory));
     assert!(rt; ends(&rt, alloc, no_memory, 1, b"")?);
+    Ok(())
+}
+
+#[test]
+fn no_memory_for_the_disks_ends_with_1(rt: HostRuntime) -> Result<(), Fail> {
+    let alloc = rt.alloc();
+    let mut source = CalmSource::new(alloc, SCRIPT)?;
+    let mut sink = CalmSink::new(alloc)?;
+    let arguments = Ok(owned(alloc, &["mcgp", "play"])?.into_iter());
+    let disks: Result<Vec<MemDisk>, NoMemory> = Err(NoMemory);
+    let ended = run_program(&rt, alloc, arguments, &mut source, &mut sink, disks);
+    assert!(rt; ended.report(&rt) == ExitCode::from(1));
+    assert!(rt; sink.written().is_empty());
     Ok(())
 }

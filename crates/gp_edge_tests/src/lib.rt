@@ -1,6 +1,8 @@
-//! Tests of sources and sinks.
+//! Tests of sources, sinks and disks.
 #![tactic(auto)]
 
+#[cfg(test)]
+mod disks;
 #[cfg(test)]
 mod sources_and_sinks;
 #[cfg(test)]

@@ -1,19 +1,23 @@
-//! Plays each script `NAME.txt` of the folders that its arguments name, and compares the exit status and
-//! the output with the page `NAME.md` beside it.
+//! Runs the examples in the folders that its arguments name, and compares the exit status and the output of
+//! each with the page `NAME.md` beside it: a script `NAME.txt` is played, and a log `NAME.log` is shown.
 #![tactic(auto)]
 
+ghost use Rattle.std.specs.Prelude.{◌≡◌, IfOk, length};
+
 use gp_cli::serve;
-use gp_edge::{ReadSource, WriteSink};
+use gp_edge::{CalmDisk, ReadSource, WriteSink};
 use std::alloc::Global;
 use std::fs::{self, File};
+use std::io::ErrorKind;
+use std::sync::Wait;
 use std::{env, io};
 
-// The names of the scripts in a folder, without their ending, in byte order.
-fn names_in(rt: &HostRuntime, folder: &str) -> io::Result<Vec<String>> {
+// The names of the examples in a folder, in byte order, without the ending of their files.
+fn names_in(rt: &HostRuntime, folder: &str, ending: &str) -> io::Result<Vec<String>> {
     let mut names = Vec::new(rt.alloc());
     for entry in fs::read_dir(rt, folder)? {
         let entry = entry?;
-        if let Some(name) = entry.file_name().strip_suffix(".txt") {
+        if let Some(name) = entry.file_name().strip_suffix(ending) {
             names.push(String::from_str(rt.alloc(), name)?)?;
         }
     }
@@ -21,43 +25,92 @@ fn names_in(rt: &HostRuntime, folder: &str) -> io::Result<Vec<String>> {
     Ok(names)
 }
 
-// The words with which a page gives the exit status and the output of this script.
-fn passage(alloc: Global, script: File) -> io::Result<String> {
-    let words = [String::from_str(alloc, "play")?];
-    let mut source = ReadSource::new(script);
+// Twelve disks in memory with these bytes.
+fn disks_with(alloc: Global, bytes: &[u8]) -> io::Result<Vec<CalmDisk>>
+    ensures { IfOk result (λ disks. length disks.items ≡ 12) }
+{
+    let mut disks = Vec::new(alloc);
+    for _count in 0..12 {
+        match CalmDisk::new(alloc, bytes) {
+            Ok(disk) => disks.push(disk)?,
+            Err(_) => return Err(io::Error::from(ErrorKind::OutOfMemory)),
+        }
+    }
+    Ok(disks)
+}
+
+// The words with which a page gives the exit status and the output of a command.
+fn passage(
+    wait: &impl Wait,
+    alloc: Global,
+    words: &[String],
+    input: File,
+    disks: Vec<CalmDisk>,
+) -> io::Result<String>
+    requires { length disks.items ≡ 12 }
+{
+    let mut source = ReadSource::new(input);
     let mut output = Vec::new(alloc);
     let mut sink = WriteSink::new(&mut output);
-    let status = serve(alloc, &words, &mut source, &mut sink).status;
+    let status = serve(wait, alloc, words, &mut source, &mut sink, disks).status;
     let text = String::from_utf8_lossy(alloc, &output)?;
     Ok(format!(in alloc; "ends with status {status}:\n\n```text\n{text}```\n")?)
 }
 
-// What the page of an example lacks, if anything.
-fn lacks(rt: &HostRuntime, folder: &str, name: &str) -> io::Result<Option<String>> {
-    let script = format!(in rt.alloc(); "{folder}/{name}.txt")?;
+// The passage of a script, which is played.
+fn played(rt: &HostRuntime, wait: &impl Wait, path: &str) -> io::Result<String> {
+    let alloc = rt.alloc();
+    let words = [String::from_str(alloc, "play")?];
+    let disks = disks_with(alloc, b"")?;
+    passage(wait, alloc, &words, fs::open(rt, path)?, disks)
+}
+
+// The passage of a log, which is shown as that of disk 0.
+fn shown(rt: &HostRuntime, wait: &impl Wait, path: &str) -> io::Result<String> {
+    let alloc = rt.alloc();
+    let words = [
+        String::from_str(alloc, "log")?,
+        String::from_str(alloc, "0")?,
+    ];
+    let disks = disks_with(alloc, &fs::read(rt, path)?)?;
+    passage(wait, alloc, &words, fs::open(rt, path)?, disks)
+}
+
+// Prints how the page of an example compares with what its command gave.
+fn compare(rt: &HostRuntime, folder: &str, name: &str, passage: &str) -> io::Result<()> {
     let page = format!(in rt.alloc(); "{folder}/{name}.md")?;
-    let passage = passage(rt.alloc(), fs::open(rt, script.as_str())?)?;
-    if fs::read_to_string(rt, page.as_str())?.contains(passage.as_str()) {
-        Ok(None)
+    if fs::read_to_string(rt, page.as_str())?.contains(passage) {
+        println!(rt; "{name}: the page agrees")
     } else {
-        Ok(Some(passage))
+        println!(rt; "{name}: the page lacks: {passage}")
     }
 }
 
-// Prints how the pages of a folder compare with its scripts.
-fn compare(rt: &HostRuntime, folder: &str) -> io::Result<()> {
-    for name in names_in(rt, folder)? {
-        match lacks(rt, folder, name.as_str())? {
-            None => println!(rt; "{name}: the page agrees")?,
-            Some(passage) => println!(rt; "{name}: the page lacks: {passage}")?,
-        }
+fn compare_all(rt: &HostRuntime, wait: &impl Wait, folder: &str) -> io::Result<()> {
+    for name in names_in(rt, folder, ".txt")? {
+        let script = format!(in rt.alloc(); "{folder}/{name}.txt")?;
+        compare(
+            rt,
+            folder,
+            name.as_str(),
+            played(rt, wait, script.as_str())?.as_str(),
+        )?;
+    }
+    for name in names_in(rt, folder, ".log")? {
+        let log = format!(in rt.alloc(); "{folder}/{name}.log")?;
+        compare(
+            rt,
+            folder,
+            name.as_str(),
+            shown(rt, wait, log.as_str())?.as_str(),
+        )?;
     }
     Ok(())
 }
 
 fn main(rt: HostRuntime) -> io::Result<()> {
     for folder in env::args(&rt)?.skip(1) {
-        compare(&rt, folder.as_str())?;
+        compare_all(&rt, &rt, folder.as_str())?;
     }
     Ok(())
 }

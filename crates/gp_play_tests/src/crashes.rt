@@ -127,7 +127,15 @@ events 24 messages 17
 
 #[test]
 fn every_kind_of_fall(rt: HostRuntime) -> Result<(), Fail> {
-    assert!(rt; plays(rt.alloc(), EVERY_KIND_OF_FALL, 0, EVERY_KIND_OF_FALL_PRINTS)?);
+    assert!(rt;
+        plays(
+            &rt,
+            rt.alloc(),
+            EVERY_KIND_OF_FALL,
+            0,
+            EVERY_KIND_OF_FALL_PRINTS
+        )?
+    );
     Ok(())
 }
 
@@ -135,6 +143,7 @@ fn every_kind_of_fall(rt: HostRuntime) -> Result<(), Fail> {
 fn kept_steps_of_each_kind_of_message(rt: HostRuntime) -> Result<(), Fail> {
     assert!(rt;
         goes_on(
+            &rt,
             rt.alloc(),
             CHECKPOINT_BETWEEN_PUTS,
             KEPT_STEPS_OF_EACH_KIND,
@@ -148,6 +157,7 @@ fn kept_steps_of_each_kind_of_message(rt: HostRuntime) -> Result<(), Fail> {
 fn kept_vote_for_a_proposal(rt: HostRuntime) -> Result<(), Fail> {
     assert!(rt;
         plays(
+            &rt,
             rt.alloc(),
             KEPT_VOTE_FOR_A_PROPOSAL,
             0,

@@ -174,6 +174,7 @@ events 33 messages 10
 fn what_follows_a_checkpoint_is_not_learned_with_it(rt: HostRuntime) -> Result<(), Fail> {
     assert!(rt;
         plays(
+            &rt,
             rt.alloc(),
             CHECKPOINT_BETWEEN_PUTS,
             0,
@@ -208,6 +209,7 @@ fn a_checkpoint_that_is_learned_is_sent_in_a_final(rt: HostRuntime) -> Result<()
 fn a_learner_takes_the_final_of_another(rt: HostRuntime) -> Result<(), Fail> {
     assert!(rt;
         goes_on(
+            &rt,
             rt.alloc(),
             CHECKPOINT_FOR_TWO,
             THE_OTHER_LEARNER_TAKES_THE_FINAL,
@@ -221,6 +223,7 @@ fn a_learner_takes_the_final_of_another(rt: HostRuntime) -> Result<(), Fail> {
 fn the_next_epoch_learns_what_was_left(rt: HostRuntime) -> Result<(), Fail> {
     assert!(rt;
         goes_on(
+            &rt,
             rt.alloc(),
             CHECKPOINT_BETWEEN_PUTS,
             THE_NEXT_EPOCH,
@@ -234,6 +237,7 @@ fn the_next_epoch_learns_what_was_left(rt: HostRuntime) -> Result<(), Fail> {
 fn a_coordinator_takes_each_kind_of_message(rt: HostRuntime) -> Result<(), Fail> {
     assert!(rt;
         goes_on(
+            &rt,
             rt.alloc(),
             CHECKPOINT_BETWEEN_PUTS,
             A_COORDINATOR_TAKES,
@@ -247,6 +251,7 @@ fn a_coordinator_takes_each_kind_of_message(rt: HostRuntime) -> Result<(), Fail>
 fn an_acceptor_takes_each_kind_of_message(rt: HostRuntime) -> Result<(), Fail> {
     assert!(rt;
         goes_on(
+            &rt,
             rt.alloc(),
             CHECKPOINT_BETWEEN_PUTS,
             AN_ACCEPTOR_TAKES,
@@ -260,6 +265,7 @@ fn an_acceptor_takes_each_kind_of_message(rt: HostRuntime) -> Result<(), Fail> {
 fn a_proposer_and_a_learner_take_each_kind_of_message(rt: HostRuntime) -> Result<(), Fail> {
     assert!(rt;
         goes_on(
+            &rt,
             rt.alloc(),
             CHECKPOINT_FOR_TWO,
             A_PROPOSER_AND_A_LEARNER_TAKE,

@@ -66,12 +66,28 @@ events 21 messages 12
 
 #[test]
 fn single_value_grows(rt: HostRuntime) -> Result<(), Fail> {
-    assert!(rt; plays(rt.alloc(), SINGLE_VALUE_GROWS, 0, SINGLE_VALUE_GROWS_PRINTS)?);
+    assert!(rt;
+        plays(
+            &rt,
+            rt.alloc(),
+            SINGLE_VALUE_GROWS,
+            0,
+            SINGLE_VALUE_GROWS_PRINTS
+        )?
+    );
     Ok(())
 }
 
 #[test]
 fn multi_values_grow(rt: HostRuntime) -> Result<(), Fail> {
-    assert!(rt; plays(rt.alloc(), MULTI_VALUES_GROW, 0, MULTI_VALUES_GROW_PRINTS)?);
+    assert!(rt;
+        plays(
+            &rt,
+            rt.alloc(),
+            MULTI_VALUES_GROW,
+            0,
+            MULTI_VALUES_GROW_PRINTS
+        )?
+    );
     Ok(())
 }

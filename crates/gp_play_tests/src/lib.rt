@@ -23,5 +23,3 @@ mod traces;
 mod watches;
 #[cfg(test)]
 mod whole_scripts;
-#[cfg(test)]
-mod words;

@@ -34,7 +34,7 @@ fn events(alloc: Global, count: usize) -> Result<Vec<u8>, Fail> {
 fn a_script_has_1024_offers(rt: HostRuntime) -> Result<(), Fail> {
     let alloc = rt.alloc();
     let script = repeated(alloc, b"offer p0 put a 1\n", 1024)?;
-    assert!(rt; plays(alloc, &script, 0, OFFERS_PRINT)?);
+    assert!(rt; plays(&rt, rt.alloc(), &script, 0, OFFERS_PRINT)?);
     Ok(())
 }
 
@@ -49,7 +49,7 @@ events 1024 messages 1024
 fn a_1025th_offer_is_refused(rt: HostRuntime) -> Result<(), Fail> {
     let alloc = rt.alloc();
     let script = repeated(alloc, b"offer p0 put a 1\n", 1025)?;
-    assert!(rt; refuses(alloc, &script, b"line 1026: too many commands")?);
+    assert!(rt; refuses(&rt, rt.alloc(), &script, b"line 1026: too many commands")?);
     Ok(())
 }
 
@@ -57,7 +57,7 @@ fn a_1025th_offer_is_refused(rt: HostRuntime) -> Result<(), Fail> {
 fn a_script_has_16384_events(rt: HostRuntime) -> Result<(), Fail> {
     let alloc = rt.alloc();
     let script = events(alloc, 16384)?;
-    assert!(rt; plays(alloc, &script, 0, EVENTS_PRINT)?);
+    assert!(rt; plays(&rt, rt.alloc(), &script, 0, EVENTS_PRINT)?);
     Ok(())
 }
 
@@ -72,7 +72,7 @@ events 16384 messages 1
 fn a_16385th_event_is_refused(rt: HostRuntime) -> Result<(), Fail> {
     let alloc = rt.alloc();
     let script = events(alloc, 16385)?;
-    assert!(rt; refuses(alloc, &script, b"line 16386: too many events")?);
+    assert!(rt; refuses(&rt, rt.alloc(), &script, b"line 16386: too many events")?);
     Ok(())
 }
 
@@ -87,7 +87,7 @@ events 0 messages 0
 fn a_script_has_1048576_bytes(rt: HostRuntime) -> Result<(), Fail> {
     let alloc = rt.alloc();
     let script = filled(alloc, b"nodes 3 1 1\n#", 1_048_576)?;
-    assert!(rt; plays(alloc, &script, 0, NOTHING_PRINTS)?);
+    assert!(rt; plays(&rt, rt.alloc(), &script, 0, NOTHING_PRINTS)?);
     Ok(())
 }
 
@@ -95,7 +95,7 @@ fn a_script_has_1048576_bytes(rt: HostRuntime) -> Result<(), Fail> {
 fn one_byte_more_is_refused(rt: HostRuntime) -> Result<(), Fail> {
     let alloc = rt.alloc();
     let script = filled(alloc, b"nodes 3 1 1\n#", 1_048_577)?;
-    assert!(rt; refuses(alloc, &script, b"line 2: too long")?);
+    assert!(rt; refuses(&rt, rt.alloc(), &script, b"line 2: too long")?);
     Ok(())
 }
 
@@ -103,6 +103,6 @@ fn one_byte_more_is_refused(rt: HostRuntime) -> Result<(), Fail> {
 fn one_byte_more_is_refused_before_a_configuration(rt: HostRuntime) -> Result<(), Fail> {
     let alloc = rt.alloc();
     let script = filled(alloc, b"#", 1_048_577)?;
-    assert!(rt; refuses(alloc, &script, b"line 1: too long")?);
+    assert!(rt; refuses(&rt, rt.alloc(), &script, b"line 1: too long")?);
     Ok(())
 }

@@ -73,6 +73,7 @@ events 31 messages 18
 fn operations_at_absent_keys(rt: HostRuntime) -> Result<(), Fail> {
     assert!(rt;
         plays(
+            &rt,
             rt.alloc(),
             OPERATIONS_AT_ABSENT_KEYS,
             0,

@@ -78,7 +78,7 @@ const ROWS: [Row; 25] = [
 #[test]
 fn a_script_is_refused_at_its_first_bad_line(rt: HostRuntime) -> Result<(), Fail> {
     for (script, line) in ROWS {
-        assert!(rt; refuses(rt.alloc(), script, line)?);
+        assert!(rt; refuses(&rt, rt.alloc(), script, line)?);
     }
     Ok(())
 }
@@ -87,6 +87,6 @@ fn a_script_is_refused_at_its_first_bad_line(rt: HostRuntime) -> Result<(), Fail
 fn a_message_is_there_before_it_is_taken(rt: HostRuntime) -> Result<(), Fail> {
     let mut script = Vec::from_slice(rt.alloc(), ONE_PUT)?;
     script.extend_from_slice(b"take l1 7\n")?;
-    assert!(rt; refuses(rt.alloc(), &script, b"line 13: no message")?);
+    assert!(rt; refuses(&rt, rt.alloc(), &script, b"line 13: no message")?);
     Ok(())
 }

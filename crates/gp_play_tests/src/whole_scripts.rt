@@ -439,13 +439,13 @@ events 1 messages 1
 
 #[test]
 fn no_records(rt: HostRuntime) -> Result<(), Fail> {
-    assert!(rt; plays(rt.alloc(), NO_RECORDS, 0, NO_RECORDS_PRINTS)?);
+    assert!(rt; plays(&rt, rt.alloc(), NO_RECORDS, 0, NO_RECORDS_PRINTS)?);
     Ok(())
 }
 
 #[test]
 fn one_put(rt: HostRuntime) -> Result<(), Fail> {
-    assert!(rt; plays(rt.alloc(), ONE_PUT, 0, ONE_PUT_PRINTS)?);
+    assert!(rt; plays(&rt, rt.alloc(), ONE_PUT, 0, ONE_PUT_PRINTS)?);
     Ok(())
 }
 
@@ -453,6 +453,7 @@ fn one_put(rt: HostRuntime) -> Result<(), Fail> {
 fn one_put_heard_again(rt: HostRuntime) -> Result<(), Fail> {
     assert!(rt;
         plays(
+            &rt,
             rt.alloc(),
             ONE_PUT_HEARD_AGAIN,
             0,
@@ -464,7 +465,7 @@ fn one_put_heard_again(rt: HostRuntime) -> Result<(), Fail> {
 
 #[test]
 fn fast_two_keys(rt: HostRuntime) -> Result<(), Fail> {
-    assert!(rt; plays(rt.alloc(), FAST_TWO_KEYS, 0, FAST_TWO_KEYS_PRINTS)?);
+    assert!(rt; plays(&rt, rt.alloc(), FAST_TWO_KEYS, 0, FAST_TWO_KEYS_PRINTS)?);
     Ok(())
 }
 
@@ -472,6 +473,7 @@ fn fast_two_keys(rt: HostRuntime) -> Result<(), Fail> {
 fn fast_one_key_collides(rt: HostRuntime) -> Result<(), Fail> {
     assert!(rt;
         plays(
+            &rt,
             rt.alloc(),
             FAST_ONE_KEY_COLLIDES,
             0,
@@ -485,6 +487,7 @@ fn fast_one_key_collides(rt: HostRuntime) -> Result<(), Fail> {
 fn fast_collision_then_single(rt: HostRuntime) -> Result<(), Fail> {
     assert!(rt;
         plays(
+            &rt,
             rt.alloc(),
             FAST_COLLISION_THEN_SINGLE,
             0,
@@ -498,6 +501,7 @@ fn fast_collision_then_single(rt: HostRuntime) -> Result<(), Fail> {
 fn multi_one_coordinator_unheard(rt: HostRuntime) -> Result<(), Fail> {
     assert!(rt;
         plays(
+            &rt,
             rt.alloc(),
             MULTI_ONE_COORDINATOR_UNHEARD,
             0,
@@ -511,6 +515,7 @@ fn multi_one_coordinator_unheard(rt: HostRuntime) -> Result<(), Fail> {
 fn multi_conflicting_orders(rt: HostRuntime) -> Result<(), Fail> {
     assert!(rt;
         plays(
+            &rt,
             rt.alloc(),
             MULTI_CONFLICTING_ORDERS,
             0,
@@ -524,6 +529,7 @@ fn multi_conflicting_orders(rt: HostRuntime) -> Result<(), Fail> {
 fn four_acceptors_chosen_prefix(rt: HostRuntime) -> Result<(), Fail> {
     assert!(rt;
         plays(
+            &rt,
             rt.alloc(),
             FOUR_ACCEPTORS_CHOSEN_PREFIX,
             0,
@@ -535,7 +541,15 @@ fn four_acceptors_chosen_prefix(rt: HostRuntime) -> Result<(), Fail> {
 
 #[test]
 fn eight_operations(rt: HostRuntime) -> Result<(), Fail> {
-    assert!(rt; plays(rt.alloc(), EIGHT_OPERATIONS, 0, EIGHT_OPERATIONS_PRINTS)?);
+    assert!(rt;
+        plays(
+            &rt,
+            rt.alloc(),
+            EIGHT_OPERATIONS,
+            0,
+            EIGHT_OPERATIONS_PRINTS
+        )?
+    );
     Ok(())
 }
 
@@ -543,6 +557,7 @@ fn eight_operations(rt: HostRuntime) -> Result<(), Fail> {
 fn kept_vote_never_sent(rt: HostRuntime) -> Result<(), Fail> {
     assert!(rt;
         plays(
+            &rt,
             rt.alloc(),
             KEPT_VOTE_NEVER_SENT,
             0,
@@ -556,6 +571,7 @@ fn kept_vote_never_sent(rt: HostRuntime) -> Result<(), Fail> {
 fn coordinator_falls_in_its_round(rt: HostRuntime) -> Result<(), Fail> {
     assert!(rt;
         plays(
+            &rt,
             rt.alloc(),
             COORDINATOR_FALLS_IN_ITS_ROUND,
             0,
@@ -567,12 +583,12 @@ fn coordinator_falls_in_its_round(rt: HostRuntime) -> Result<(), Fail> {
 
 #[test]
 fn proposer_takes(rt: HostRuntime) -> Result<(), Fail> {
-    assert!(rt; plays(rt.alloc(), PROPOSER_TAKES, 0, PROPOSER_TAKES_PRINTS)?);
+    assert!(rt; plays(&rt, rt.alloc(), PROPOSER_TAKES, 0, PROPOSER_TAKES_PRINTS)?);
     Ok(())
 }
 
 #[test]
 fn passed_lines(rt: HostRuntime) -> Result<(), Fail> {
-    assert!(rt; plays(rt.alloc(), PASSED_LINES, 0, PASSED_LINES_PRINTS)?);
+    assert!(rt; plays(&rt, rt.alloc(), PASSED_LINES, 0, PASSED_LINES_PRINTS)?);
     Ok(())
 }

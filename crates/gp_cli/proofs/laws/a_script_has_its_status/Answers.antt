@@ -1,8 +1,9 @@
+-- The lemmas are the law.
 use Rattle.gp_cli.proofs.Statuses.{complete, refuse}
 use Rattle.gp_cli.proofs.laws.a_script_has_its_status.Goals as goal
 
 pub returns-clause-complete : goal.returns-clause-complete
-returns-clause-complete g = complete
+returns-clause-complete g = λ words before now status trail ends. complete words before now status trail ends
 
 pub returns-clause-refuses : goal.returns-clause-refuses
-returns-clause-refuses g = refuse
+returns-clause-refuses g = λ words before now status trail ends. refuse words before now status trail ends

@@ -1,8 +1,9 @@
+-- The lemmas are the law.
 use Rattle.gp_cli.proofs.Statuses.{misused, usage}
 use Rattle.gp_cli.proofs.laws.the_usage_is_for_words_that_name_nothing.Goals as goal
 
 pub returns-clause-misused : goal.returns-clause-misused
-returns-clause-misused g = misused
+returns-clause-misused g = λ words before now status trail ends. misused words before now status trail ends
 
 pub returns-clause-usage : goal.returns-clause-usage
-returns-clause-usage g = usage
+returns-clause-usage g = λ words before now status trail ends. usage words before now status trail ends

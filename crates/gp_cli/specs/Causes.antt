@@ -1,0 +1,147 @@
+-- Why a run of the program ends as it does, by what is seen of the outside before and now.
+use Rattle.std.specs.Prelude.{◌≡◌, ◌⊎◌, ℕ, ◌+◌, ◌<◌, Bool, true, false, List, [], ◌∷◌, map, slice_get, Option, Some, None, unwrap_or, Ok, Err}
+use Rattle.gp_round.specs.Counts.{Counts}
+use Rattle.gp_round.specs.Configs.{counts}
+use Rattle.gp_edge.specs.Disks.{IfRevealed}
+use Rattle.gp_edge.specs.Faults.{Rose}
+use Rattle.gp_edge.specs.Reads.{ReadsUpTo, LosesUpTo}
+use Rattle.gp_text.specs.Reading.{Reading, Whole, Refused, reading}
+use Rattle.gp_msg.specs.Messages.{EpochPart}
+use Rattle.gp_vlog.specs.Bodies.{LogEntry, need}
+use Rattle.gp_vlog.specs.Files.{Contents, is_limit, read_log}
+use Rattle.gp_vlog.specs.Logs.{has_old}
+use Rattle.gp_cli.specs.declared.subcommand.Subcommand.{Subcommand}
+use Rattle.gp_cli.specs.declared.subcommand.Subcommand.TheVariants.{Play, Sim, Drive, Log, Upgrade}
+use Rattle.gp_cli.specs.declared.runs.TheConstants.{MOST_READ}
+use Rattle.gp_cli.specs.Subcommands.{named}
+use Rattle.gp_cli.specs.Outside.{Seen, seen, Outside}
+use Rattle.gp_cli.specs.Endings.{Shown, Ending, Misused, Unread, Refuses, Plays, Drives, Simulates, Shows, DiskFails, Overflows, Breaks, Starved}
+
+-- ---- a script
+
+-- the bytes read, up to one more than a script may have, have this reading, and no fault was counted
+pub record HasRead (before now : Seen) (read : Reading) : Type 0 where
+  pub bytes : List ℕ
+  pub taken : ReadsUpTo MOST_READ before.bytes now.bytes bytes
+  pub steady : now.faults ≡ before.faults
+  pub says : reading bytes ≡ read
+
+-- why a run ends so if a script is to be read, by the source before and now
+abbrev pub IsReadCause : Seen → Seen → Ending → Type 0
+IsReadCause before now Unread = Rose before.faults now.faults × LosesUpTo MOST_READ before.bytes now.bytes
+IsReadCause before now (Refuses line reason said) = HasRead before now (Refused line reason said)
+IsReadCause before now (Plays config said) = HasRead before now (Whole config said)
+IsReadCause before now Starved = (now.faults ≡ before.faults) × LosesUpTo MOST_READ before.bytes now.bytes
+IsReadCause before now ending = ⊥
+
+-- why a run with a script at hand ends so, by the script's reading
+abbrev pub IsScriptCause : Reading → Ending → Type 0
+IsScriptCause read (Refuses line reason before) = read ≡ Refused line reason before
+IsScriptCause read (Plays config said) = read ≡ Whole config said
+IsScriptCause read Starved = Unit {0}
+IsScriptCause read ending = ⊥
+
+-- ---- a run that needs no input
+
+-- why it ends so: as it should, or because memory ran out
+abbrev pub IsRunCause : Ending → Ending → Type 0
+IsRunCause meant ending = (ending ≡ meant) ⊎ (ending ≡ Starved)
+
+-- ---- a log
+
+-- what a log shows
+abbrev pub shown : Contents → Shown
+shown log = record { parts = map (λ e. e.part) log.entries; size = 17 + log.closed }
+
+-- if the bytes are revealed, they are a log, and this holds of it
+abbrev pub IfLog : Option (List ℕ) → (Contents → Type 0) → Type 0
+IfLog bytes P = IfRevealed bytes (λ s. (log : Contents) × (read_log is_limit s ≡ Ok log) × P log)
+
+-- why a run ends so if the log of a disk is to be shown, by the disk before and now; what it holds stays
+abbrev pub IsLogCause : ℕ → Seen → Seen → Ending → Type 0
+IsLogCause disk before now (Shows k log) = (k ≡ disk) × (now ≡ before) × IfLog before.bytes (λ found. log ≡ shown found)
+IsLogCause disk before now DiskFails = Rose before.faults now.faults × (now.bytes ≡ before.bytes)
+IsLogCause disk before now (Breaks place) = (now ≡ before) × IfRevealed before.bytes (λ s. read_log is_limit s ≡ Err place)
+IsLogCause disk before now Starved = now ≡ before
+IsLogCause disk before now ending = ⊥
+
+-- the last of some entries, in version 2 and alone
+abbrev pub last_alone : List LogEntry → List LogEntry
+last_alone [] = []
+last_alone (e ∷ []) = (record { old = false; part = e.part }) ∷ []
+last_alone (e ∷ f ∷ es) = last_alone (f ∷ es)
+
+-- what a log holds once it was taken on: if one of its entries is of version 1, the last one alone, in version 2; and otherwise what it held
+pub record IsTakenOn (before now : Contents) : Type 0 where
+  pub limit : now.limit ≡ before.limit
+  pub renewed : has_old before.entries ≡ true → now.entries ≡ last_alone before.entries
+  pub same : has_old before.entries ≡ false → now ≡ before
+
+-- a log with entries of version 1 has no room for its last one, whole
+pub record HasNoRoom (size need_of_last limit : ℕ) (entries : List LogEntry) : Type 0 where
+  pub old : has_old entries ≡ true
+  pub smallest : size ≡ 17
+  pub last : EpochPart
+  pub is_last : last_alone entries ≡ (record { old = false; part = last }) ∷ []
+  pub its_need : need_of_last ≡ need None last
+  pub great : limit < size + need_of_last
+
+-- why a run ends so if the log of a disk is to be renewed and shown
+abbrev pub IsUpgradeCause : ℕ → Seen → Seen → Ending → Type 0
+IsUpgradeCause disk before now (Shows k log) =
+    (k ≡ disk) × (now.faults ≡ before.faults) × IfLog before.bytes (λ was. IfLog now.bytes (λ found. IsTakenOn was found × (log ≡ shown found)))
+IsUpgradeCause disk before now DiskFails = Rose before.faults now.faults
+IsUpgradeCause disk before now (Overflows size need) = (now ≡ before) × IfLog before.bytes (λ log. HasNoRoom size need log.limit log.entries)
+IsUpgradeCause disk before now (Breaks place) = (now ≡ before) × IfRevealed before.bytes (λ s. read_log is_limit s ≡ Err place)
+IsUpgradeCause disk before now Starved = now.faults ≡ before.faults
+IsUpgradeCause disk before now ending = ⊥
+
+-- why a run ends so that shows the log of a disk, and before that takes it on if it upgrades
+abbrev pub log_cause : Bool → ℕ → Seen → Seen → Ending → Type 0
+log_cause false = IsLogCause
+log_cause true = IsUpgradeCause
+
+-- what is seen of a disk, by its number, and nothing if there is none
+abbrev pub seen_at : ℕ → List Seen → Seen
+seen_at k disks = unwrap_or (slice_get disks k) (seen None 0)
+
+-- ---- by the words
+
+-- three coordinators, of which the last does nothing
+abbrev pub driven_config : ℕ → ℕ → Counts
+driven_config acceptors learners = counts acceptors 3 learners
+
+-- why it ends so if the words name no subcommand
+abbrev pub IsMisuse : Ending → Type 0
+IsMisuse ending = ending ≡ Misused
+
+-- why a run ends so, by the subcommand, if there is one
+abbrev pub IsCauseFor : Option Subcommand → Outside → Outside → Ending → Type 0
+IsCauseFor None before now ending = IsMisuse ending
+IsCauseFor (Some Play) before now ending = IsReadCause before.source now.source ending
+IsCauseFor (Some (Sim seed commands)) before now ending = IsRunCause (Simulates seed commands) ending
+IsCauseFor (Some (Drive acceptors learners commands)) before now ending = IsRunCause (Drives (driven_config acceptors learners) commands) ending
+IsCauseFor (Some (Log k)) before now ending = IsLogCause k (seen_at k before.disks) (seen_at k now.disks) ending
+IsCauseFor (Some (Upgrade k)) before now ending = IsUpgradeCause k (seen_at k before.disks) (seen_at k now.disks) ending
+
+-- the same, by the words
+abbrev pub IsCause : List (List ℕ) → Outside → Outside → Ending → Type 0
+IsCause words before now ending = IsCauseFor (named words) before now ending
+
+-- the subcommand reads the source
+abbrev pub IsReader : Option Subcommand → Type 0
+IsReader None = ⊥
+IsReader (Some Play) = Unit {0}
+IsReader (Some (Sim seed commands)) = ⊥
+IsReader (Some (Drive acceptors learners commands)) = ⊥
+IsReader (Some (Log k)) = ⊥
+IsReader (Some (Upgrade k)) = ⊥
+
+-- the disk that the subcommand uses, if it uses one
+abbrev pub disk_used : Option Subcommand → Option ℕ
+disk_used None = None
+disk_used (Some Play) = None
+disk_used (Some (Sim seed commands)) = None
+disk_used (Some (Drive acceptors learners commands)) = None
+disk_used (Some (Log k)) = Some k
+disk_used (Some (Upgrade k)) = Some k

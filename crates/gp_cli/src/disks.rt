@@ -1,0 +1,28 @@
+//! The disks of the program, over files.
+ghost use Rattle.std.specs.Prelude.{◌≡◌, IfOk, length};
+
+use crate::subcommand::DISKS;
+use gp_command::NoMemory;
+use gp_edge::FileDisk;
+use std::alloc::Global;
+use std::rt::Files;
+
+/// The folder that the files lie in.
+const FOLDER: &str = "mcgp-data";
+
+/// Twelve disks over the files `mcgp-data/0` to `mcgp-data/11`. It opens none of them: a file, and the
+/// folder, are made at the first use of their disk.
+pub fn file_disks<R: Files + Copy + Drop>(
+    alloc: Global,
+    files: R,
+) -> Result<Vec<FileDisk<R>>, NoMemory>
+    ensures { IfOk result (λ disks. length disks.items ≡ 12) }
+{
+    let mut disks = Vec::new(alloc);
+    for number in 0..DISKS {
+        let folder = String::from_str(alloc, FOLDER)?;
+        let path = format!(in alloc; "{FOLDER}/{number}")?;
+        disks.push(FileDisk::new(files, folder, path))?;
+    }
+    Ok(disks)
+}

@@ -1,0 +1,186 @@
+//! The subcommands that make a run: of a script, of commands that are driven, of a workload.
+ghost use Rattle.std.specs.Prelude.{◌≡◌, ◌≤◌, [], None, IfOk, IfErr};
+ghost use Rattle.gp_round.specs.Configs.{bad_count};
+ghost use Rattle.gp_report.specs.Replicas.{IsInAgreement};
+ghost use Rattle.gp_report.specs.Texts.{report};
+ghost use Rattle.gp_report.specs.Summaries.{summary};
+ghost use Rattle.gp_sim.specs.Driven.{driven};
+ghost use Rattle.gp_sim.specs.Simulated.{sim_config, simulated};
+ghost use Rattle.gp_text.specs.Reading.{reading};
+ghost use Rattle.gp_world.specs.State.{entries_of};
+ghost use Rattle.gp_cli.specs.Endings.{Drives, Simulates};
+ghost use Rattle.gp_cli.specs.Outside.{seen, Told};
+ghost use Rattle.gp_cli.specs.Causes.{IsReadCause, IsRunCause, IsScriptCause, driven_config};
+ghost use Rattle.gp_cli.specs.Serving.{EndsBy};
+
+use crate::status::{DONE, NO_MEMORY, REFUSED, UNREAD, UNWRITTEN};
+use crate::telling::{READ_FAULT, refusal_text, tell, tell_of};
+use gp_command::NoMemory;
+use gp_edge::{Refused, Sink, Source, read_up_to};
+use gp_msg::Records;
+use gp_report::summary;
+use gp_round::Config;
+use gp_sim::{drive, simulate};
+use gp_text::{MOST_BYTES, Played, Unplayed, play, report};
+use std::alloc::Global;
+use std::sync::Wait;
+
+/// The most bytes that are read: one more than a script may have.
+pub const MOST_READ: usize = MOST_BYTES + 1;
+
+/// The status with which a run ended, and its records.
+#[derive(Drop)]
+pub(crate) struct Outcome {
+    pub(crate) status: u8,
+    pub(crate) trail: Records,
+}
+
+// A run without records.
+fn without_run(alloc: Global, status: u8) -> Outcome
+    ensures status { result.status ≡ status }
+    ensures trail { result.trail ≡ [] }
+{
+    Outcome {
+        status,
+        trail: Records::new(alloc),
+    }
+}
+
+// Prints what a run that was made prints.
+fn print<K: Sink>(alloc: Global, made: Result<Played, NoMemory>, sink: &mut K) -> Outcome
+    ensures made { IfOk made (λ played. (result.trail ≡ played.world.records)
+        × Told (seen (K.written sink.old) (K.faults sink.old)) (seen (K.written sink.new) (K.faults sink.new)) played.text.items 0 5 result.status) }
+    ensures starved { IfErr made (λ _. (result.trail ≡ [])
+        × Told (seen (K.written sink.old) (K.faults sink.old)) (seen (K.written sink.new) (K.faults sink.new)) [] 1 1 result.status) }
+    ensures never_falls { K.faults sink.old ≤ K.faults sink.new }
+{
+    match made {
+        Ok(Played { world, text }) => Outcome {
+            status: tell(sink, &text, DONE, UNWRITTEN),
+            trail: world.into_records(),
+        },
+        Err(NoMemory) => without_run(alloc, NO_MEMORY),
+    }
+}
+
+// Plays a script, and prints what it prints, or its first refused line.
+fn play_script<K: Sink>(alloc: Global, script: &[u8], sink: &mut K) -> Outcome
+    ensures ends { EndsBy (IsScriptCause (reading script.now))
+        (seen (K.written sink.old) (K.faults sink.old)) (seen (K.written sink.new) (K.faults sink.new)) result.status result.trail }
+    ensures never_falls { K.faults sink.old ≤ K.faults sink.new }
+{
+    match play(alloc, script) {
+        Ok(played) => print(alloc, Ok(played), sink),
+        Err(
+            Unplayed::Bad {
+                line,
+                reason,
+                records,
+            },
+        ) => Outcome {
+            status: tell_of(sink, refusal_text(alloc, line, reason), REFUSED),
+            trail: records,
+        },
+        Err(Unplayed::NoMemory) => without_run(alloc, NO_MEMORY),
+    }
+}
+
+/// Reads a script, and plays it.
+pub(crate) fn read_and_play<S: Source, K: Sink>(
+    alloc: Global,
+    source: &mut S,
+    sink: &mut K,
+) -> Outcome
+    ensures ends { EndsBy (IsReadCause (seen (S.rest source.old) (S.faults source.old)) (seen (S.rest source.new) (S.faults source.new)))
+        (seen (K.written sink.old) (K.faults sink.old)) (seen (K.written sink.new) (K.faults sink.new)) result.status result.trail }
+    ensures source_never_falls { S.faults source.old ≤ S.faults source.new }
+    ensures sink_never_falls { K.faults sink.old ≤ K.faults sink.new }
+{
+    match read_up_to(alloc, source, MOST_READ) {
+        Ok(script) => play_script(alloc, &script, sink),
+        Err(Refused::Failed) => {
+            let status = tell(sink, READ_FAULT, UNREAD, UNREAD);
+            without_run(alloc, status)
+        }
+        Err(Refused::NoMemory) => without_run(alloc, NO_MEMORY),
+    }
+}
+
+// Three coordinators, and numbers of acceptors and learners that are in range.
+fn driven_config(acceptors: u32, learners: u32) -> Config
+    requires { bad_count acceptors 3 learners ≡ None }
+    ensures { result ≡ driven_config acceptors learners }
+{
+    match Config::new(acceptors, 3, learners) {
+        Ok(config) => config,
+        Err(_) => unreachable!(),
+    }
+}
+
+// The run of commands that are driven, and its report.
+fn driven<W: Wait>(rt: &W, alloc: Global, config: Config, commands: u32) -> Result<Played, NoMemory>
+    requires three { config.coordinators ≡ 3 }
+    requires few { commands ≤ 64 }
+    ensures run { IfOk result (λ played. entries_of played.world ≡ driven config commands) }
+    ensures text { IfOk result (λ played. played.text.items ≡ report config (driven config commands)) }
+    ensures agreement { IfOk result (λ played. IsInAgreement config (entries_of played.world)) }
+{
+    let world = drive(rt, alloc, config, commands)?;
+    let _legal = world.records();
+    let _some = world.config().acceptors();
+    let mut text = Vec::new(alloc);
+    report(alloc, &world, &mut text)?;
+    Ok(Played { world, text })
+}
+
+/// Drives commands, and prints the report.
+pub(crate) fn drive_and_report<W: Wait, K: Sink>(
+    rt: &W,
+    alloc: Global,
+    acceptors: u32,
+    learners: u32,
+    commands: u32,
+    sink: &mut K,
+) -> Outcome
+    requires counts { bad_count acceptors 3 learners ≡ None }
+    requires few { commands ≤ 64 }
+    ensures ends { EndsBy (IsRunCause (Drives (driven_config acceptors learners) commands))
+        (seen (K.written sink.old) (K.faults sink.old)) (seen (K.written sink.new) (K.faults sink.new)) result.status result.trail }
+    ensures never_falls { K.faults sink.old ≤ K.faults sink.new }
+{
+    let made = driven(rt, alloc, driven_config(acceptors, learners), commands);
+    print(alloc, made, sink)
+}
+
+// The run of the workload of a seed, settled, and its summary.
+fn simulated<W: Wait>(rt: &W, alloc: Global, seed: u64, commands: u32) -> Result<Played, NoMemory>
+    requires some { 1 ≤ commands }
+    requires few { commands ≤ 256 }
+    ensures run { IfOk result (λ played. entries_of played.world ≡ simulated seed commands) }
+    ensures text { IfOk result (λ played. played.text.items ≡ summary seed commands sim_config (simulated seed commands)) }
+    ensures agreement { IfOk result (λ played. IsInAgreement sim_config (entries_of played.world)) }
+{
+    let world = simulate(rt, alloc, seed, commands)?;
+    let _legal = world.records();
+    let mut text = Vec::new(alloc);
+    summary(alloc, seed, commands, &world, &mut text)?;
+    Ok(Played { world, text })
+}
+
+/// Makes the workload of a seed, plays and settles it, and prints a summary.
+pub(crate) fn simulate_and_summarize<W: Wait, K: Sink>(
+    rt: &W,
+    alloc: Global,
+    seed: u64,
+    commands: u32,
+    sink: &mut K,
+) -> Outcome
+    requires some { 1 ≤ commands }
+    requires few { commands ≤ 256 }
+    ensures ends { EndsBy (IsRunCause (Simulates seed commands))
+        (seen (K.written sink.old) (K.faults sink.old)) (seen (K.written sink.new) (K.faults sink.new)) result.status result.trail }
+    ensures never_falls { K.faults sink.old ≤ K.faults sink.new }
+{
+    let made = simulated(rt, alloc, seed, commands);
+    print(alloc, made, sink)
+}

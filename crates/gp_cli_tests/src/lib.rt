@@ -1,0 +1,15 @@
+//! Tests of the subcommands that read no script, and of the words that name a subcommand.
+#![tactic(auto)]
+
+#[cfg(test)]
+mod driven_runs;
+#[cfg(test)]
+mod logs;
+#[cfg(test)]
+mod simulated_runs;
+#[cfg(test)]
+mod stage;
+#[cfg(test)]
+mod upgrades;
+#[cfg(test)]
+mod words;

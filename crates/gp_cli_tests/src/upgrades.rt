@@ -1,0 +1,77 @@
+//! The subcommand that takes on a log of version 1.
+ghost use Rattle.std.specs.Prelude.{◌≡◌, length};
+
+use crate::logs::{OLD_LOG, old_log};
+use crate::stage::{Finished, disks_with, served};
+use gp_edge::MemDisk;
+use std::alloc::Global;
+use std::sync::Wait;
+use std::test::Fail;
+
+// A log whose last entry is in the second area, in version 2.
+const TAKEN_ON: &[u8] = b"\
+log 3 entries 1 size 70
+acceptor epoch 0 1.single.0 voted 1.single.0: p0.1
+";
+
+fn upgraded<W: Wait>(
+    rt: &W,
+    alloc: Global,
+    bytes: &[u8],
+    failing: &[u64],
+) -> Result<Finished<MemDisk>, Fail> {
+    served(rt, alloc, &["upgrade", "3"], disks_with(alloc, 3, bytes, failing)?)
+}
+
+#[test]
+fn the_last_entry_of_an_old_log_is_taken_on_once(rt: HostRuntime) -> Result<(), Fail> {
+    let bytes = old_log(rt.alloc(), 128)?;
+    let first = upgraded(&rt, rt.alloc(), &bytes, &[])?;
+    assert!(rt; first.ran.status == 0 && first.sink.written() == TAKEN_ON);
+    let new = first.ran.disks[3].content();
+    assert!(rt; new.len() == 182 && new[12] == 1);
+    // the second time nothing is written
+    let second = upgraded(&rt, rt.alloc(), new, &[3])?;
+    assert!(rt; second.ran.status == 0 && second.sink.written() == TAKEN_ON);
+    assert!(rt; second.ran.disks[3].content() == new);
+    Ok(())
+}
+
+#[test]
+fn a_log_without_room_for_its_last_entry_is_full(rt: HostRuntime) -> Result<(), Fail> {
+    let alloc = rt.alloc();
+    // the vote alone, in a log that has no byte to spare
+    let two = old_log(alloc, 66)?;
+    let mut bytes = Vec::from_slice(alloc, &two[..17])?;
+    bytes.extend_from_slice(&two[45..])?;
+    let ended = upgraded(&rt, alloc, &bytes, &[])?;
+    assert!(rt; ended.ran.status == 7);
+    assert!(rt; ended.sink.written() == b"log full: size 17 need 53\n".as_slice());
+    assert!(rt; ended.ran.disks[3].content() == bytes.as_slice());
+    Ok(())
+}
+
+// Whether a log is whole: `log` shows both entries, or the last one.
+fn is_whole<W: Wait>(rt: &W, alloc: Global, bytes: &[u8]) -> Result<bool, Fail> {
+    let shown = served(rt, alloc, &["log", "3"], disks_with(alloc, 3, bytes, &[])?)?;
+    let text = shown.sink.written();
+    Ok(shown.ran.status == 0 && (text == OLD_LOG || text == TAKEN_ON))
+}
+
+// Whether a failure of this call is a disk fault, and leaves the log whole.
+fn stops_at<W: Wait>(rt: &W, alloc: Global, call: u64) -> Result<bool, Fail> {
+    let bytes = old_log(alloc, 128)?;
+    let ended = upgraded(rt, alloc, &bytes, &[call])?;
+    let fault = ended.ran.status == 6 && ended.sink.written() == b"disk fault\n".as_slice();
+    Ok(fault && is_whole(rt, alloc, ended.ran.disks[3].content())?)
+}
+
+#[test]
+fn a_stop_at_each_call_leaves_the_log_whole(rt: HostRuntime) -> Result<(), Fail> {
+    // a sync, the length, a read, two writes with a sync each
+    for call in 0..7 {
+        assert!(rt; stops_at(&rt, rt.alloc(), call)?);
+    }
+    assert!(rt; !stops_at(&rt, rt.alloc(), 7)?);
+    Ok(())
+}
