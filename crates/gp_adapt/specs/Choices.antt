@@ -1,0 +1,22 @@
+-- What is asked of the closure of an adapting coordinator.
+use Rattle.std.specs.Prelude.{◌≡◌, ◌≤◌}
+use Rattle.std.specs.Borrow.{Bor}
+use Rattle.gp_round.specs.declared.round.Mode.{Mode}
+use Rattle.gp_round.specs.declared.round.Mode.TheVariants.{Single}
+use Rattle.gp_adapt.specs.declared.scene.TheConstants.{MOST_CLASHES}
+use Rattle.gp_adapt.specs.declared.scene.Scene.{Scene}
+use Rattle.gp_adapt.specs.Courses.{CourseState, scene_of}
+
+-- it may be called on every scene
+abbrev pub TakesScenes : (Bor Scene → Type 0) → Type 0
+TakesScenes pre = (s : Bor Scene) → pre s
+
+-- from two clashes on it answers a single round
+abbrev pub AnswersSingleRounds : (Bor Scene → Mode → Type 0) → Type 0
+AnswersSingleRounds post = (s : Bor Scene) (m : Mode) → MOST_CLASHES ≤ s.now.clashes → post s m → m ≡ Single
+
+-- it answers this mode to the scene of this course
+pub record AnswersMode (post : Bor Scene → Mode → Type 0) (s : CourseState) (m : Mode) : Type 0 where
+  pub shown : Bor Scene
+  pub shows : shown.now ≡ scene_of s
+  pub says : post shown m

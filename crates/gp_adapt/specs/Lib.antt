@@ -1,0 +1,4 @@
+pub mod Courses
+pub mod Choices
+pub mod Calls
+pub mod Told

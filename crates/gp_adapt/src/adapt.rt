@@ -1,0 +1,102 @@
+//! Rounds that adapt to clashes.
+ghost use Rattle.std.specs.Prelude.{◌≡◌, ◌<◌, ◌≤◌, ◌+◌, ◌&&◌, true, nat_lt, IfSome};
+ghost use Rattle.std.specs.Option.{is_some};
+ghost use Rattle.gp_round.specs.Configs.{is_owner, lead_of};
+ghost use Rattle.gp_round.specs.Rounds.{earlier};
+ghost use Rattle.gp_adapt.specs.Choices.{TakesScenes, AnswersSingleRounds, AnswersMode};
+ghost use Rattle.gp_adapt.specs.Courses.{opening, moved, begins};
+ghost use Rattle.gp_adapt.specs.Calls.{IsAnswered};
+
+use crate::course::Course;
+use crate::scene::Scene;
+use gp_round::{Config, Mode, Round};
+
+/// The greatest count of a round.
+pub const LAST_COUNT: u32 = 1_000_000;
+
+/// The greatest number of calls without a clash that can make a calm.
+pub const MOST_CALM: u32 = 1_000;
+
+/// A closure that says in which mode the next round begins.
+pub type ChooseMode = Box<dyn Fn(&Scene) -> Mode>;
+
+/// When a coordinator begins a round, and which: at its first call, after each clash, and at a calm, which
+/// is enough calls without a clash, if there were clashes before.
+///
+/// It keeps a closure beside the facts that it may be called on every scene, and that it answers a single
+/// round from two clashes on. In a single round all values are compatible, so it does not clash.
+#[derive(Drop)]
+pub struct Adapt {
+    pub config: Config,
+    pub coordinator: u32,
+    pub choose: ChooseMode,
+    /// What it remembers of its calls.
+    pub course: Course,
+    pub ghost known: { coordinator < config.coordinators },
+    pub ghost callable: { TakesScenes (ChooseMode.pre choose) },
+    pub ghost single: { AnswersSingleRounds (ChooseMode.post choose) },
+}
+
+impl Adapt {
+    /// The rounds of a coordinator in a configuration, in the modes that the closure answers. `calm` is the
+    /// number of calls without a clash that make a calm, from 1 to `MOST_CALM`. There was no call yet. It
+    /// takes no memory.
+    pub fn new(config: Config, coordinator: u32, calm: u32, choose: ChooseMode) -> Adapt
+        requires known { coordinator < config.coordinators }
+        requires some_calm { 1 ≤ calm }
+        requires most_calm { calm ≤ MOST_CALM }
+        requires callable { TakesScenes (ChooseMode.pre choose) }
+        requires single { AnswersSingleRounds (ChooseMode.post choose) }
+        ensures config { result.config ≡ config }
+        ensures coordinator { result.coordinator ≡ coordinator }
+        ensures choose { result.choose ≡ choose }
+        ensures course { result.course ≡ opening calm }
+    {
+        Adapt {
+            config,
+            coordinator,
+            choose,
+            course: Course::new(calm),
+        }
+    }
+
+    /// The round that the coordinator is to begin next, if it is to begin one: its count is one above that of
+    /// `highest`, and its mode is what the closure answers. `clashed` says whether the round last begun has
+    /// clashed. It takes no memory of its own.
+    ///
+    /// It is `None` if this call begins no round, or if the count of `highest` is `LAST_COUNT` or more. What
+    /// is remembered changes in either case.
+    pub fn next(&mut self, highest: Round, clashed: bool) -> Option<Round>
+        ensures course { self.new.course ≡ moved self.old.course clashed }
+        ensures config { self.new.config ≡ self.old.config }
+        ensures coordinator { self.new.coordinator ≡ self.old.coordinator }
+        ensures choose { self.new.choose ≡ self.old.choose }
+        ensures when { is_some result ≡ (begins self.old.course clashed && nat_lt highest.count LAST_COUNT) }
+        ensures count { IfSome result (λ r. r.count ≡ highest.count + 1) }
+        ensures mode { IfSome result (λ r. AnswersMode (ChooseMode.post self.old.choose) self.new.course r.mode) }
+        ensures lead { IfSome result (λ r. r.lead ≡ lead_of r.mode self.old.coordinator) }
+        ensures owned { IfSome result (λ r. is_owner self.old.config.coordinators self.old.coordinator r ≡ true) }
+        ensures greater { IfSome result (λ r. earlier highest r ≡ true) }
+        ensures answered { IsAnswered self.old.course (record { highest = highest; clashed = clashed; answer = result }) }
+    {
+        if !self.course.advance(clashed) || highest.count >= LAST_COUNT {
+            return None;
+        }
+        let mode = (self.choose)(&self.course.scene());
+        Some(Round {
+            count: highest.count + 1,
+            mode,
+            lead: lead_of(mode, self.coordinator),
+        })
+    }
+}
+
+// The lead of a round of this mode that a coordinator begins.
+fn lead_of(mode: Mode, coordinator: u32) -> u32
+    ensures { result ≡ lead_of mode coordinator }
+{
+    match mode {
+        Mode::Multi => 0,
+        Mode::Single | Mode::Fast => coordinator,
+    }
+}

@@ -1,0 +1,5 @@
+//! Tests of rounds that adapt.
+#![tactic(auto)]
+
+#[cfg(test)]
+mod rounds;
