@@ -1,0 +1,14 @@
+pub mod CanonicalWalk
+pub mod WholeQuorums
+pub mod NewProofs
+pub mod LearnerSteps
+pub mod Hearing
+pub mod OwnEvents
+pub mod Masked
+pub mod TakenVotes
+pub mod News
+pub mod Replaying
+pub mod RecordsTaken
+pub mod StepRecords
+pub mod Finding
+pub mod OneCertificate
