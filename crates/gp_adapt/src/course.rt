@@ -31,7 +31,7 @@ impl Model for Course {
 
 impl Course {
     /// Before the first call; so many calls without a clash make a calm. It takes no memory.
-    pub fn new(calm: u32) -> Course
+    pub(crate) fn new(calm: u32) -> Course
         requires { 1 ≤ calm }
         ensures { result ≡ opening calm }
     {
@@ -53,7 +53,7 @@ impl Course {
     }
 
     /// One more call, and whether it begins a round. It takes no memory.
-    pub fn advance(&mut self, clashed: bool) -> bool
+    pub(crate) fn advance(&mut self, clashed: bool) -> bool
         ensures moved { self.new ≡ moved self.old clashed }
         ensures begins { result ≡ begins self.old clashed }
     {
