@@ -1,5 +1,7 @@
 //! Commands that are driven in a multi round, with a silent coordinator.
-use crate::stage::prints;
+use crate::stage::{disks_with, prints, served};
+use std::alloc::Global;
+use std::sync::Wait;
 use std::test::Fail;
 
 const FOUR_COMMANDS: &[u8] = b"\
@@ -28,5 +30,57 @@ fn four_commands_are_driven(rt: HostRuntime) -> Result<(), Fail> {
 #[test]
 fn one_command_is_driven_to_one_learner(rt: HostRuntime) -> Result<(), Fail> {
     assert!(rt; prints(&rt, rt.alloc(), &["drive", "5", "1", "1"], 0, ONE_COMMAND)?);
+    Ok(())
+}
+
+/// The words of a command, and the last line that it prints: `3 + 5A + AL + K(3 + 2A + AL)` events and
+/// `3 + 2A + K(3 + A)` messages.
+#[derive(Clone, Copy)]
+struct Row {
+    words: [&'static str; 4],
+    totals: &'static [u8],
+}
+
+static ROWS: [Row; 7] = [
+    Row {
+        words: ["drive", "3", "1", "1"],
+        totals: b"events 33 messages 15\n",
+    },
+    Row {
+        words: ["drive", "3", "4", "2"],
+        totals: b"events 72 messages 21\n",
+    },
+    Row {
+        words: ["drive", "4", "3", "8"],
+        totals: b"events 219 messages 67\n",
+    },
+    Row {
+        words: ["drive", "5", "2", "3"],
+        totals: b"events 107 messages 37\n",
+    },
+    Row {
+        words: ["drive", "6", "2", "2"],
+        totals: b"events 99 messages 33\n",
+    },
+    Row {
+        words: ["drive", "7", "1", "1"],
+        totals: b"events 69 messages 27\n",
+    },
+    Row {
+        words: ["drive", "7", "4", "64"],
+        totals: b"events 2946 messages 657\n",
+    },
+];
+
+fn ends_with_totals(rt: &impl Wait, alloc: Global, row: &Row) -> Result<bool, Fail> {
+    let served = served(rt, alloc, &row.words, disks_with(alloc, 0, b"", &[])?)?;
+    Ok(served.ran.status == 0 && served.sink.written().ends_with(row.totals))
+}
+
+#[test]
+fn seven_other_systems_have_their_totals(rt: HostRuntime) -> Result<(), Fail> {
+    for row in &ROWS {
+        assert!(rt; ends_with_totals(&rt, rt.alloc(), row)?);
+    }
     Ok(())
 }

@@ -14,8 +14,8 @@ const ROUND: [u8; 28] = [
 
 /// The entry of its vote for `put a 5` of proposer 0, and the next gate, which is closed.
 const VOTE: [u8; 49] = [
-    44, 0, 0, 0, 1, 1, 0, 0, 0, 0, 0, 0, 0, 0, 1, 0, 0, 0, 0, 0, 0, 0, 0, 1, 0, 0, 0, 0, 0, 0, 0, 1,
-    0, 0, 0, 0, 1, 1, 97, 2, 7, 112, 117, 116, 32, 97, 32, 53, 0,
+    44, 0, 0, 0, 1, 1, 0, 0, 0, 0, 0, 0, 0, 0, 1, 0, 0, 0, 0, 0, 0, 0, 0, 1, 0, 0, 0, 0, 0, 0, 0,
+    1, 0, 0, 0, 0, 1, 1, 97, 2, 7, 112, 117, 116, 32, 97, 32, 53, 0,
 ];
 
 /// A log of version 1 with two entries and this limit, in bytes.
@@ -44,7 +44,12 @@ fn shows<W: Wait>(
     status: u8,
     text: &[u8],
 ) -> Result<bool, Fail> {
-    let served = served(rt, alloc, &["log", "3"], disks_with(alloc, 3, bytes, failing)?)?;
+    let served = served(
+        rt,
+        alloc,
+        &["log", "3"],
+        disks_with(alloc, 3, bytes, failing)?,
+    )?;
     let same = served.ran.disks[3].content() == bytes;
     Ok(same && served.ran.status == status && served.sink.written() == text)
 }

@@ -39,7 +39,9 @@ fn is_learned<W: Wait>(rt: &W, alloc: Global, seed: u32, commands: u32) -> Resul
     let commands_word = format!(in alloc; "{commands}")?;
     let words = ["sim", seed_word.as_str(), commands_word.as_str()];
     let served = served(rt, alloc, &words, disks_with(alloc, 0, b"", &[])?)?;
-    let begin = format!(in alloc; "sim {seed} {commands}\nlearned {commands} {commands}\nsame yes\n")?;
+    let begin = format!(in alloc;
+        "sim {seed} {commands}\nlearned {commands} {commands}\nsame yes\n"
+    )?;
     Ok(served.ran.status == 0 && served.sink.written().starts_with(begin.as_bytes()))
 }
 

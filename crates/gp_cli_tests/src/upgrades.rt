@@ -20,7 +20,12 @@ fn upgraded<W: Wait>(
     bytes: &[u8],
     failing: &[u64],
 ) -> Result<Finished<MemDisk>, Fail> {
-    served(rt, alloc, &["upgrade", "3"], disks_with(alloc, 3, bytes, failing)?)
+    served(
+        rt,
+        alloc,
+        &["upgrade", "3"],
+        disks_with(alloc, 3, bytes, failing)?,
+    )
 }
 
 #[test]

@@ -12,7 +12,8 @@ use std::process::{ExitCode, Termination};
 use std::sync::Wait;
 use std::test::Fail;
 
-const USAGE: &[u8] = b"usage: mcgp play | run [LIMIT] | sim SEED COMMANDS | drive A L K | log K | upgrade K\n";
+const USAGE: &[u8] =
+    b"usage: mcgp play | run [LIMIT] | sim SEED COMMANDS | drive A L K | log K | upgrade K\n";
 
 const SCRIPT: &[u8] = b"nodes 3 1 1\n";
 
