@@ -1,0 +1,5 @@
+pub mod Doing
+pub mod Moves
+pub mod Causes
+pub mod Batches
+pub mod Jobs

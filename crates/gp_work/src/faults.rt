@@ -1,0 +1,40 @@
+//! Why a step or a rise was refused, and why a job ended.
+use gp_msg::Durable;
+
+/// Why a step was refused. It posted nothing.
+#[derive(Drop, Debug)]
+pub enum StepFault {
+    /// The message that it takes was not sent yet.
+    Waiting,
+    /// Memory ran out.
+    NoMemory,
+    /// The disk failed, and the node is down.
+    Disk,
+    /// The log has no room for the durable part, and the node is down: the size of a log with no other entry and the
+    /// need of the part, in bytes, exceed its limit together.
+    Full { size: u64, need: u64 },
+}
+
+/// Why a node did not come up again. It is still down, and posted nothing.
+#[derive(Drop, Debug)]
+pub enum RiseFault {
+    /// Memory ran out.
+    NoMemory,
+    /// The disk failed.
+    Disk,
+    /// The bytes of the disk break the format of a log at this place.
+    NotLog { at: u64 },
+    /// The log has neither the durable part before the move in which the node went down nor that after it. What was found
+    /// is its last entry, if it has one.
+    Changed { found: Option<Durable> },
+}
+
+/// Why a job ended early: the fault of the step or of the rise that ended it.
+#[derive(Drop, Debug)]
+pub enum JobFault {
+    NoMemory,
+    Disk,
+    Full { size: u64, need: u64 },
+    NotLog { at: u64 },
+    Changed { found: Option<Durable> },
+}

@@ -1,0 +1,80 @@
+//! What a worker needs of a node.
+ghost use Rattle.std.specs.Prelude.{◌≡◌, ◌<◌, ◌^◌, ℕ, true, false, [], ◌∷◌, length, slice_get, IfOk, IfErr, OnErr};
+ghost use Rattle.std.specs.Option.{option_map};
+ghost use Rattle.gp_msg.specs.declared.event.Event.{Event};
+ghost use Rattle.gp_msg.specs.Reads.{kind_of};
+ghost use Rattle.gp_wire.specs.Messages.{messages_in};
+ghost use Rattle.gp_work.specs.Doing.{ProcessState, posted, have, Goes, Posted, HasRisen};
+ghost use Rattle.gp_work.specs.Moves.{event_of, Fits, HasRoom};
+ghost use Rattle.gp_work.specs.Causes.{StepCause, RiseCause, Falls};
+
+use crate::faults::{RiseFault, StepFault};
+use crate::moves::Move;
+use gp_edge::Gate;
+use gp_msg::{MsgKind, Node};
+use std::sync::Wait;
+
+/// A node that runs beside others over a net that they share. It can look at what was sent, make a step, and come up
+/// again after its disk failed.
+pub trait Process<N> {
+    ghost state: { Self → ProcessState };
+
+    /// It is a node of this net, and may post to it.
+    ghost is_of: { Self → N → Type 0 };
+
+    /// These numbers, the size of a log and the need of an entry, are too great for an event.
+    ghost too_great: { Self → Event → ℕ → ℕ → Type 0 };
+
+    fn node(&self) -> Node
+        ensures { result ≡ (state self.now).node };
+
+    /// How many records it posted. It takes no memory.
+    fn posted(&self) -> u64
+        ensures { result ≡ posted (state self.now) };
+
+    /// How many records it has seen. It takes no memory.
+    fn seen(&self) -> u64
+        ensures { result ≡ length (state self.now).list };
+
+    /// The kind of message k, from 0, of the list that it has then seen.
+    fn kind<W: Wait>(&mut self, rt: &W, net: &N, k: u64) -> Option<MsgKind>
+        requires { is_of self.old net.now }
+        ensures own { is_of self.new net.now }
+        ensures goes { Goes (state self.old) (state self.new) }
+        ensures posts { Posted (state self.old) (state self.new) [] }
+        ensures up { (state self.new).up ≡ (state self.old).up }
+        ensures risen { HasRisen (state self.old).turn (state self.new).turn }
+        ensures few { have (state self.new) < 2 ^ 64 }
+        ensures answer { result ≡ option_map kind_of (slice_get (messages_in (state self.new).list) k) };
+
+    /// Makes a move of a node that is up: posts exactly one record. If it is refused, it posts nothing.
+    fn step<W: Wait, G: Gate>(
+        &mut self,
+        rt: &W,
+        net: &N,
+        mv: Move,
+        gate: &G,
+        turn: u64,
+    ) -> Result<u64, StepFault>
+        requires own { is_of self.old net.now }
+        requires up { (state self.old).up ≡ true }
+        requires fits { Fits (state self.old).config (state self.old).node mv }
+        requires room { HasRoom (posted (state self.old)) mv }
+        ensures own { is_of self.new net.now }
+        ensures goes { Goes (state self.old) (state self.new) }
+        ensures posted { IfOk result (λ n. Posted (state self.old) (state self.new) (event_of (state self.old).node mv ∷ [])) }
+        ensures up { IfOk result (λ n. (state self.new).up ≡ true) }
+        ensures nothing { OnErr result (Posted (state self.old) (state self.new) []) }
+        ensures cause { IfErr result (StepCause mv (state self.old) (state self.new) (too_great self.new (event_of (state self.old).node mv))) };
+
+    /// Comes up again after it went down: posts exactly one fall. If it is refused, it posts nothing.
+    fn rise<W: Wait>(&mut self, rt: &W, net: &N) -> Result<u64, RiseFault>
+        requires own { is_of self.old net.now }
+        requires down { (state self.old).up ≡ false }
+        ensures own { is_of self.new net.now }
+        ensures goes { Goes (state self.old) (state self.new) }
+        ensures posted { IfOk result (λ n. Falls (state self.old) (state self.new)) }
+        ensures up { IfOk result (λ n. (state self.new).up ≡ true) }
+        ensures nothing { OnErr result (Posted (state self.old) (state self.new) []) }
+        ensures cause { IfErr result (RiseCause (state self.old) (state self.new)) };
+}
