@@ -1,0 +1,71 @@
+-- A pass that goes on.
+use Rattle.std.proofs.Common.{◌≡◌, ℕ, ◌<◌, ◌≤◌, List, [], ◌∷◌, ◌++◌, map, refl, sym, ap, ◌∙◌, subst, append_assoc, arith, Option, Some, None}
+use Rattle.std.proofs.lemmas.List.{append-nil, map-append}
+use Rattle.gp_round.specs.Counts.{Counts}
+use Rattle.gp_msg.specs.declared.node.Node.{Node}
+use Rattle.gp_msg.specs.declared.event.Event.{Event}
+use Rattle.gp_msg.specs.declared.record.Record.{Record}
+use Rattle.gp_wire.specs.Rule.{IsBelow, items, post_of}
+use Rattle.gp_wire.specs.Known.{PassState, records, record_of}
+use Rattle.gp_wire.specs.Passes.{HadTurn, nothing, only}
+use Rattle.gp_rules.specs.Own.{own}
+use Rattle.gp_work.specs.Doing.{IsUpTo}
+use Rattle.gp_cell.specs.Cells.{PostsOne}
+use Rattle.gp_cell.specs.Passing.{Later, GoesOn}
+use Rattle.gp_cell.proofs.Posting.{up_to}
+
+up_on : (t u w : Option ℕ) → IsUpTo t u → IsUpTo u w → IsUpTo t w
+up_on None u w a b = tt
+up_on (Some t) None w a b = absurd a
+up_on (Some t) (Some u) None a b = absurd b
+up_on (Some t) (Some u) (Some w) a b = omega arith
+
+pub later_goes : (p q : PassState) → Later p q → GoesOn p q
+later_goes p q l = record {
+  node = l.node;
+  wire = l.wire;
+  all = l.all;
+  holds = l.holds;
+  turn = l.turn;
+  more = items l.more;
+  grown = ap (map record_of) l.grown ∙ map-append record_of p.seen l.more;
+}
+
+pub had_goes : (p q : PassState) (x : Record) → HadTurn p q (only x) → GoesOn p q
+had_goes p q x t = record {
+  node = ap (λ (y : PassState). y.node) t.after;
+  wire = ap (λ (y : PassState). y.wire) t.after;
+  all = ap (λ (y : PassState). y.all) t.after;
+  holds = ap (λ (y : PassState). y.holds) t.after;
+  turn = subst (IsUpTo p.turn) (sym (ap (λ (y : PassState). y.turn) t.after)) (up_to p.turn t.turn t.risen);
+  more = items t.more ++ x ∷ [];
+  grown =
+      ap (λ (y : PassState). records y) t.after
+      ∙ map-append record_of (p.seen ++ t.more) (post_of x t.turn ∷ [])
+      ∙ ap (λ l. l ++ x ∷ []) (map-append record_of p.seen t.more)
+      ∙ append_assoc (records p) (items t.more) (x ∷ []);
+}
+
+pub goes_on : (p q r : PassState) → GoesOn p q → GoesOn q r → GoesOn p r
+goes_on p q r a b = record {
+  node = b.node ∙ a.node;
+  wire = b.wire ∙ a.wire;
+  all = b.all ∙ a.all;
+  holds = b.holds ∙ a.holds;
+  turn = up_on p.turn q.turn r.turn a.turn b.turn;
+  more = a.more ++ b.more;
+  grown = b.grown ∙ ap (λ l. l ++ b.more) a.grown ∙ append_assoc (records p) a.more b.more;
+}
+
+-- a record that was posted after a list that had grown
+abbrev pub posts_after : (config : Counts) (n : Node) (p q r : PassState) (e f : Event) → Later p q → own n (records q) ≡ own n (records p) → e ≡ f → PostsOne config n (records q) (records r) e → PostsOne config n (records p) (records r) f
+posts_after config n p q r e f l same is x = record {
+  more = items l.more ++ x.more;
+  ahead = x.ahead;
+  item = x.item;
+  begins = x.begins ∙ ap (λ y. y ++ x.more) (ap (map record_of) l.grown ∙ map-append record_of p.seen l.more) ∙ append_assoc (records p) (items l.more) x.more;
+  grown = x.grown;
+  one = x.one ∙ ap (λ y. y ++ x.item ∷ []) same;
+  event_is = x.event_is ∙ is;
+  lawful = x.lawful;
+}

@@ -1,0 +1,14 @@
+pub mod Rooms
+pub mod Owning
+pub mod Offering
+pub mod Acting
+pub mod Lasting
+pub mod Stepping
+pub mod Reading
+pub mod Posting
+pub mod Falling
+pub mod Sameness
+pub mod Thinking
+pub mod Going
+pub mod Reviving
+pub mod Refusing

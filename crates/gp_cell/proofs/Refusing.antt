@@ -1,0 +1,70 @@
+-- What a write leaves of a cell.
+use Rattle.std.proofs.Common.{◌≡◌, ◌≢◌, ℕ, [], ◌++◌, refl, sym, ap, ◌∙◌, subst, Option, Some, None, Result, Ok, Err, inl, inr}
+use Rattle.std.specs.Prelude.{OnOk, OnErr, IfErr}
+use Rattle.gp_msg.specs.declared.event.Event.{Event}
+use Rattle.gp_msg.specs.declared.record.Record.{Record}
+use Rattle.gp_msg.specs.Messages.{EpochPart, entry_of}
+use Rattle.gp_run.specs.Messages.{messages}
+use Rattle.gp_run.specs.Runs.{entries_in}
+use Rattle.std.proofs.lemmas.List.{append-nil}
+use Rattle.gp_vlog.specs.Logs.{LogState}
+use Rattle.gp_wire.specs.Known.{records}
+use Rattle.gp_work.specs.declared.moves.Move.{Move}
+use Rattle.gp_work.specs.declared.faults.StepFault.{StepFault}
+use Rattle.gp_work.specs.declared.faults.StepFault.TheVariants.{Waiting, NoMemory, Disk, Full}
+use Rattle.gp_work.specs.Moves.{event_of}
+use Rattle.gp_rules.specs.declared.roles.Core.{Core}
+use Rattle.gp_rules.specs.Cores.{acts, part_in}
+use Rattle.gp_rules.specs.Lawful.{IsLawful}
+use Rattle.gp_cell.specs.declared.planning.Plan.{Plan}
+use Rattle.gp_cell.specs.Cells.{CellState, cell_of, IsThought}
+use Rattle.gp_cell.specs.Refusals.{HasNoRoom, IsFullWhere, IsFullLogWhere, IsOverFull, IsTooGreat, WriteCause, StepCause}
+
+-- ---- the log had no room
+
+over_full : {D : Type 0} (T : Type 0) (old new : Option (LogState D)) (core next : Core) (part : EpochPart) (size needed : ℕ) → part_in next ≡ Some part → part_in core ≢ Some part → IsFullLogWhere {T = T} old new part (Err (Full size needed))
+    → (size ≡ 17) × IsOverFull old new core next needed
+over_full T None new core next part size needed a b h = absurd h
+over_full T (Some old) None core next part size needed a b h = absurd h
+over_full T (Some old) (Some new) core next part size needed a b h = (h.1, record { log = old; log_is = refl; same = ap Some h.0; part = part; after = a; changes = b; no_room = h.2 })
+
+waits_not : {D : Type 0} (T : Type 0) (old new : Option (LogState D)) (part : EpochPart) → IsFullLogWhere {T = T} old new part (Err Waiting) → ⊥
+waits_not T None new part h = h
+waits_not T (Some old) None part h = h
+waits_not T (Some old) (Some new) part h = h
+
+-- why a part was not written, of a cell that went down before
+pub written_cause : {D T : Type 0} (old new : CellState D) (next : Core) (mv : Move) (part : EpochPart) (r : Result T StepFault) → new.down ≡ Some mv → part_in next ≡ Some part → part_in old.core ≢ Some part
+    → IsFullLogWhere old.log new.log part r → IfErr r (WriteCause old new next mv)
+written_cause old new next mv part (Ok x) down a b h = tt
+written_cause {T} old new next mv part (Err Waiting) down a b h = absurd (waits_not T old.log new.log part h)
+written_cause old new next mv part (Err NoMemory) down a b h = inr down
+written_cause old new next mv part (Err Disk) down a b h = down
+written_cause {T} old new next mv part (Err (Full size needed)) down a b h = let x = over_full T old.log new.log old.core next part size needed a b h in (down, x.0, x.1)
+
+-- ---- a step whose write was refused
+
+pub step_cause : {D : Type 0} (first old new : CellState D) (mv : Move) (plan : Plan) (f : StepFault) → old.log ≡ first.log → new.config ≡ old.config → new.node ≡ old.node → new.core ≡ old.core → new.pass ≡ old.pass
+    → IsThought old mv plan → WriteCause old new plan.next mv f → StepCause first new mv f
+step_cause first old new mv plan Waiting log config node core pass t h = absurd h
+step_cause first old new mv plan NoMemory log config node core pass t (inl h) = inl (h.0, h.1 ∙ log)
+step_cause first old new mv plan NoMemory log config node core pass t (inr h) = inr h
+step_cause first old new mv plan Disk log config node core pass t h = h
+step_cause {D} first old new mv plan (Full size needed) log config node core pass t h =
+    let o = h.2 in
+    let same : cell_of old.config old.node old.core new.log old.pass new.down ≡ new = λ i. cell_of (sym config i) (sym node i) (sym core i) new.log (sym pass i) new.down in
+    let event : plan.made.event ≡ event_of old.node mv = t.plan.event_is in
+    let great : IsTooGreat (cell_of old.config old.node old.core new.log old.pass new.down) (event_of old.node mv) size needed = record {
+      item = plan.made;
+      event_is = event;
+      lawful = t.lawful;
+      log = o.log;
+      log_is = o.same ∙ o.log_is;
+      part = o.part;
+      after = ap (λ ms. part_in (acts old.node old.core ms (event_of old.node mv)).0) (sym (append-nil (messages (entries_in (records old.pass)))))
+          ∙ ap (λ e. part_in (acts old.node old.core (messages (entries_in (records old.pass)) ++ []) e).0) (sym event)
+          ∙ ap part_in (sym (t.next [])) ∙ o.after;
+      changes = o.changes;
+      size_is = h.1;
+      no_room = o.no_room;
+    } in (h.0, subst (λ (x : CellState D). IsTooGreat x (event_of x.node mv) size needed) same great)

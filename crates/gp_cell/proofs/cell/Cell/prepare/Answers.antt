@@ -1,0 +1,45 @@
+use Rattle.std.proofs.Common.{sym, subst, length, ap, ◌∙◌}
+use Rattle.gp_wire.specs.Lists.{Has}
+use Rattle.gp_wire.specs.Known.{records}
+use Rattle.gp_rules.specs.Own.{own}
+use Rattle.gp_work.specs.Moves.{HasRoom}
+use Rattle.gp_cell.specs.Cells.{CellState}
+use Rattle.gp_cell.proofs.Reading.{sound_later, own_later}
+use Rattle.gp_cell.proofs.cell.Cell.prepare.Goals as goal
+
+pub invariant_of-self : goal.invariant_of-self
+invariant_of-self g c =
+    let s = c.self.inside in
+    let holds = subst (λ (x : CellState g.row.D.Denot). Has x.pass.node x.pass.holds) (sym c.self.view_is) c.requires.holds in
+    sound_later s.config s.node s.core s.log s.pass c.read_named.new.pass s.posted s.down c.self.invariant holds c.read_named.ensures.knows
+
+pub invariant_of-self-2 : goal.invariant_of-self-2
+invariant_of-self-2 g c =
+    let s = c.self.inside in
+    let holds = subst (λ (x : CellState g.row.D.Denot). Has x.pass.node x.pass.holds) (sym c.self.view_is) c.requires.holds in
+    sound_later s.config s.node s.core s.log s.pass c.read_named.new.pass s.posted s.down c.self.invariant holds c.read_named.ensures.knows
+
+pub think-made-requires-clause-room : goal.think-made-requires-clause-room
+think-made-requires-clause-room g c =
+    let s = c.self.inside in
+    let mine = subst (λ m. Has m s.pass.holds) c.self.invariant.node_is (subst (λ (x : CellState g.row.D.Denot). Has x.pass.node x.pass.holds) (sym c.self.view_is) c.requires.holds) in
+    let room = subst (λ (x : CellState g.row.D.Denot). HasRoom (length (own x.node (records x.pass))) c.args.mv.now) (sym c.self.view_is) c.requires.room in
+    subst (λ rs. HasRoom (length rs) c.args.mv.now) (sym (own_later s.node s.pass c.read_named.new.pass mine c.read_named.ensures.knows)) room
+
+pub returns-in-Err-clause-own : goal.returns-in-Err-clause-own
+returns-in-Err-clause-own g c =
+    let s = c.self.inside in
+    let mine = subst (λ m. Has m s.pass.holds) c.self.invariant.node_is (subst (λ (x : CellState g.row.D.Denot). Has x.pass.node x.pass.holds) (sym c.self.view_is) c.requires.holds) in
+    own_later s.node s.pass c.read_named.new.pass mine c.read_named.ensures.knows ∙ ap (λ (x : CellState g.row.D.Denot). own x.node (records x.pass)) c.self.view_is
+
+pub returns-in-Ok-made-clause-own : goal.returns-in-Ok-made-clause-own
+returns-in-Ok-made-clause-own g c =
+    let s = c.self.inside in
+    let mine = subst (λ m. Has m s.pass.holds) c.self.invariant.node_is (subst (λ (x : CellState g.row.D.Denot). Has x.pass.node x.pass.holds) (sym c.self.view_is) c.requires.holds) in
+    own_later s.node s.pass c.read_named.new.pass mine c.read_named.ensures.knows ∙ ap (λ (x : CellState g.row.D.Denot). own x.node (records x.pass)) c.self.view_is
+
+pub returns-in-Err-made-clause-own : goal.returns-in-Err-made-clause-own
+returns-in-Err-made-clause-own g c =
+    let s = c.self.inside in
+    let mine = subst (λ m. Has m s.pass.holds) c.self.invariant.node_is (subst (λ (x : CellState g.row.D.Denot). Has x.pass.node x.pass.holds) (sym c.self.view_is) c.requires.holds) in
+    own_later s.node s.pass c.read_named.new.pass mine c.read_named.ensures.knows ∙ ap (λ (x : CellState g.row.D.Denot). own x.node (records x.pass)) c.self.view_is

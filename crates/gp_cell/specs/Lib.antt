@@ -1,0 +1,9 @@
+pub mod Plans
+pub mod Cells
+pub mod Codes
+pub mod Passing
+pub mod Falls
+pub mod Refusals
+pub mod Founds
+pub mod Crashes
+pub mod Working

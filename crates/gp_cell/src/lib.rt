@@ -1,0 +1,16 @@
+//! Running nodes: each has its protocol state, its log and its pass at a wire, makes moves, and comes up again after
+//! its disk failed.
+#![tactic(auto)]
+
+mod cell;
+mod found;
+mod opening;
+mod planning;
+mod rises;
+mod rising;
+mod steps;
+mod writing;
+
+pub use cell::{Cell, Unmade};
+pub use planning::Plan;
+pub use steps::MOST_RECORDS;

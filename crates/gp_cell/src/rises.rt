@@ -1,0 +1,207 @@
+//! A running node comes up again.
+ghost use Rattle.std.specs.Prelude.{◌≡◌, [], None, Some, length, IsSome, IfOk, IfErr, IfSome, OnOk, OnErr};
+ghost use Rattle.gp_msg.specs.declared.event.Event.TheVariants as Event;
+ghost use Rattle.gp_msg.specs.Messages.{part_of};
+ghost use Rattle.gp_run.specs.Messages.{messages};
+ghost use Rattle.gp_run.specs.Runs.{entries_in};
+ghost use Rattle.gp_wire.specs.Lists.{Has};
+ghost use Rattle.gp_wire.specs.Messages.{messages_in};
+ghost use Rattle.gp_wire.specs.Known.{records};
+ghost use Rattle.gp_rules.specs.Own.{own};
+ghost use Rattle.gp_work.specs.Moves.{event_of, Fits, HasRoom};
+ghost use Rattle.gp_rules.specs.Cores.{opening, acts, part_in};
+ghost use Rattle.gp_cell.specs.Cells.{IsLogged, IsThought, WentDown};
+ghost use Rattle.gp_cell.specs.Passing.{Later, GoesOn};
+ghost use Rattle.gp_cell.specs.Falls.{fell, IsFall, IsRevival, Rises, FitsNone};
+ghost use Rattle.gp_cell.specs.Founds.{IsFound, IsChanged, LogBreaksWhere, FallCause, RiseCause, IsNotRisen};
+ghost use Rattle.gp_cell.specs.Refusals.{CountsRiseFaults, faults_of};
+
+use crate::cell::Cell;
+use crate::found::Found;
+use crate::opening::opening_part;
+use crate::planning::Plan;
+use crate::rising::{copy_move, fallen, fit, reopen};
+use gp_command::NoMemory;
+use gp_edge::Disk;
+use gp_msg::{Durable, Event, Kept, Outs, Record};
+use gp_rules::{Core, PaxosRules};
+use gp_wire::Wire;
+use gp_work::{Move, RiseFault};
+use std::sync::Wait;
+
+/// A core after a fall, and the record of the fall.
+#[derive(Drop)]
+struct Revived {
+    next: Core,
+    item: Record,
+}
+
+impl<D: Disk> Cell<D> {
+    // The move in which it went down.
+    fn downed(&self) -> Result<Move, NoMemory>
+        requires down { IsSome self.now.down }
+        ensures same { IfOk result (λ mv. self.now.down ≡ Some mv) }
+        ensures went { IfOk result (λ mv. WentDown self.now.config self.now.node self.now.log (messages (entries_in (records self.now.pass))) mv) }
+        ensures room { IfOk result (λ mv. HasRoom (length (own self.now.node (records self.now.pass))) mv) }
+    {
+        match &self.down {
+            Some(mv) => copy_move(mv),
+            None => unreachable!(),
+        }
+    }
+
+    // Makes its log ready again, and answers what the log has.
+    fn reopen_log(&mut self) -> Result<Found, RiseFault>
+        requires down { IsSome self.old.down }
+        ensures rest { (self.new.config ≡ self.old.config) × (self.new.node ≡ self.old.node) × (self.new.core ≡ self.old.core) × (self.new.pass ≡ self.old.pass) × (self.new.down ≡ self.old.down) }
+        ensures found { IfOk result (IsFound (part_in (opening self.new.config self.new.node)) self.new.log) }
+        ensures count { CountsRiseFaults (faults_of D.faults self.old.log) (faults_of D.faults self.new.log) result }
+        ensures broken { IfErr result (LogBreaksWhere D.content self.old.log) }
+        ensures same { IfErr result (λ e. ¬ (IsChanged e)) }
+    {
+        match opening_part(self.alloc, &self.config, self.node) {
+            Ok(first) => reopen(&mut self.log, first),
+            Err(NoMemory) => Err(RiseFault::NoMemory),
+        }
+    }
+
+    // What a fall with this part keeps of a move, if the part is that before the move or that after it.
+    fn judge(
+        &self,
+        mv: &Move,
+        plan: &Plan,
+        part: &Durable,
+    ) -> Result<Option<Option<Kept>>, NoMemory>
+        requires logged { IsLogged self.now.node }
+        requires fits { Fits self.now.config self.now.node mv.now }
+        requires thought { IsThought self.now mv.now plan.now }
+        ensures fall { IfOk result (λ o. IfSome o (IsFall self.now mv.now (part_of part.now))) }
+        ensures none { IfOk result (λ o. o ≡ None → FitsNone self.now.core (acts self.now.node self.now.core (messages (entries_in (records self.now.pass))) (event_of self.now.node mv.now)).0 (part_of part.now)) }
+    {
+        fit(&self.core, &plan.next, mv, part)
+    }
+
+    // The record of a fall with this part, and the core that the fall leaves.
+    fn fall_with(&self, part: Durable, kept: Option<Kept>) -> Result<Revived, NoMemory>
+        ensures next { IfOk result (λ r. r.next ≡ fell self.now.core (part_of part)) }
+        ensures node { IfOk result (λ r. r.item.node ≡ self.now.node) }
+        ensures event { IfOk result (λ r. r.item.event ≡ Event.Fall self.now.node kept) }
+        ensures sent { IfOk result (λ r. r.item.out ≡ []) }
+    {
+        let next = fallen(&self.core, part)?;
+        let node = self.node;
+        let event = Event::Fall { node, kept };
+        let out = Outs::new(self.alloc);
+        let item = Record { node, event, out };
+        Ok(Revived { next, item })
+    }
+
+    // The record of a fall with what its log has, and the core that the fall leaves.
+    fn fall(&self, mv: &Move, plan: &Plan, found: Found) -> Result<Revived, RiseFault>
+        requires logged { IsLogged self.now.node }
+        requires fits { Fits self.now.config self.now.node mv.now }
+        requires thought { IsThought self.now mv.now plan.now }
+        requires found { IsFound (part_in (opening self.now.config self.now.node)) self.now.log found }
+        ensures revived { IfOk result (λ r. IsRevival self.now mv.now r.item r.next) }
+        ensures cause { IfErr result (FallCause self.now mv.now) }
+    {
+        if found.is_old {
+            let found = found.into_entry();
+            return Err(RiseFault::Changed { found });
+        }
+        match self.judge(mv, plan, &found.part) {
+            Ok(Some(kept)) => match self.fall_with(found.part, kept) {
+                Ok(revived) => Ok(revived),
+                Err(NoMemory) => Err(RiseFault::NoMemory),
+            },
+            Ok(None) => {
+                let found = found.into_entry();
+                Err(RiseFault::Changed { found })
+            }
+            Err(NoMemory) => {
+                drop(found);
+                Err(RiseFault::NoMemory)
+            }
+        }
+    }
+
+    // Makes its log ready, and makes the record of its fall and the core that the fall leaves.
+    fn revive<W: Wait>(
+        &mut self,
+        rt: &W,
+        wire: &Wire<PaxosRules>,
+        mv: &Move,
+    ) -> Result<Revived, RiseFault>
+        requires own { self.old.pass.wire ≡ wire.now.id }
+        requires holds { Has self.old.pass.node self.old.pass.holds }
+        requires down { self.old.down ≡ Some mv.now }
+        requires logged { IsLogged self.old.node }
+        requires fits { Fits self.old.config self.old.node mv.now }
+        requires room { HasRoom (length (own self.old.node (records self.old.pass))) mv.now }
+        ensures rest { (self.new.config ≡ self.old.config) × (self.new.node ≡ self.old.node) × (self.new.core ≡ self.old.core) × (self.new.down ≡ self.old.down) }
+        ensures pass { Later self.old.pass self.new.pass }
+        ensures own { own self.new.node (records self.new.pass) ≡ own self.old.node (records self.old.pass) }
+        ensures revived { IfOk result (λ r. IsRevival self.new mv.now r.item r.next) }
+        ensures cause { IfErr result (RiseCause D.content self.old self.new mv.now) }
+        ensures count { CountsRiseFaults (faults_of D.faults self.old.log) (faults_of D.faults self.new.log) result }
+    {
+        let found = match self.reopen_log() {
+            Ok(found) => found,
+            Err(fault) => return Err(fault),
+        };
+        let plan = match self.prepare(rt, wire, mv) {
+            Ok(plan) => plan,
+            Err(fault) => {
+                drop(fault);
+                drop(found);
+                return Err(RiseFault::NoMemory);
+            }
+        };
+        let made = self.fall(mv, &plan, found);
+        drop(plan);
+        made
+    }
+
+    /// Brings a node that is down up again, and answers how many messages there are then. It makes the log ready again,
+    /// compares its last entry, or the part of a node to which nothing has happened if there is none, with the durable
+    /// part before the move in which the node went down and with that after it, and posts one fall. The fall keeps the move
+    /// exactly if only the part after it fits.
+    ///
+    /// It is refused with `Disk` only if the number of faults of the disk has risen; with `NotLog` if the bytes of the disk
+    /// break the format of a log, at the smallest place where they do; with `Changed`, which has the last entry that was found,
+    /// if neither part fits or the entries are of version 1 of the format; and with `NoMemory` if memory runs out. The node is
+    /// then still down, and posted nothing.
+    pub fn rise<W: Wait>(&mut self, rt: &W, wire: &Wire<PaxosRules>) -> Result<u64, RiseFault>
+        requires own { self.old.pass.wire ≡ wire.now.id }
+        requires config { self.old.config ≡ wire.now.rules.config }
+        requires holds { Has self.old.pass.node self.old.pass.holds }
+        requires down { IsSome self.old.down }
+        ensures same { (self.new.config ≡ self.old.config) × (self.new.node ≡ self.old.node) }
+        ensures goes { GoesOn self.old.pass self.new.pass }
+        ensures rises { OnOk result (Rises self.old self.new) }
+        ensures count { IfOk result (λ n. n ≡ length (messages_in (records self.new.pass))) }
+        ensures up { OnOk result (self.new.down ≡ None) }
+        ensures nothing { OnErr result (own self.old.node (records self.new.pass) ≡ own self.old.node (records self.old.pass)) }
+        ensures core { OnErr result (self.new.core ≡ self.old.core) }
+        ensures down { OnErr result (self.new.down ≡ self.old.down) }
+        ensures cause { IfErr result (IsNotRisen D.content self.old self.new) }
+        ensures faults { CountsRiseFaults (faults_of D.faults self.old.log) (faults_of D.faults self.new.log) result }
+    {
+        let mv = match self.downed() {
+            Ok(mv) => mv,
+            Err(NoMemory) => return Err(RiseFault::NoMemory),
+        };
+        let made = self.revive(rt, wire, &mv);
+        drop(mv);
+        match made {
+            Ok(Revived { next, item }) => match self.post(rt, wire, next, item) {
+                Ok(messages) => Ok(messages),
+                Err(fault) => {
+                    drop(fault);
+                    Err(RiseFault::NoMemory)
+                }
+            },
+            Err(fault) => Err(fault),
+        }
+    }
+}
