@@ -12,3 +12,4 @@ pub mod Thinking
 pub mod Going
 pub mod Reviving
 pub mod Refusing
+pub mod Acts

@@ -6,6 +6,7 @@ mod cell;
 mod found;
 mod opening;
 mod planning;
+mod process;
 mod rises;
 mod rising;
 mod steps;

@@ -1,0 +1,109 @@
+-- A cell as the node of a worker.
+use Rattle.std.proofs.Common.{◌≡◌, ℕ, ◌≤◌, false, List, [], ◌∷◌, ◌++◌, map, refl, sym, ap, ◌∙◌, subst, arith, Option, Some, None, Result, Ok, Err}
+use Rattle.std.specs.Prelude.{IfOk, IfErr, OnOk, OnErr, IsSome}
+use Rattle.std.proofs.lemmas.List.{append-nil, map-append}
+use Rattle.gp_msg.specs.declared.node.Node.{Node}
+use Rattle.gp_msg.specs.declared.event.Event.{Event}
+use Rattle.gp_msg.specs.declared.event.Event.TheVariants.{Fall}
+use Rattle.gp_vlog.specs.Logs.{LogState}
+use Rattle.gp_wire.specs.Lists.{Has}
+use Rattle.gp_wire.specs.Known.{WireState, records}
+use Rattle.gp_wire.specs.declared.view.Post.{Post}
+use Rattle.gp_wire.specs.Rule.{IsBelow}
+use Rattle.gp_wire.specs.Known.{PassState}
+use Rattle.gp_wire.specs.Passes.{HadTurn, nothing}
+use Rattle.gp_work.specs.declared.moves.Move.{Move}
+use Rattle.gp_work.specs.declared.faults.StepFault.{StepFault}
+use Rattle.gp_work.specs.declared.faults.StepFault.TheVariants.{Waiting, NoMemory, Disk, Full}
+use Rattle.gp_work.specs.declared.faults.RiseFault.{RiseFault}
+use Rattle.gp_work.specs.declared.faults.RiseFault.TheVariants as rise
+use Rattle.gp_work.specs.Doing.{ProcessState, Goes, Posted, HasRisen}
+use Rattle.gp_work.specs.Causes as work
+use Rattle.gp_work.specs.Moves.{event_of}
+use Rattle.gp_rules.specs.Own.{own, own_events, event_in}
+use Rattle.gp_rules.specs.declared.rules.PaxosRules.{PaxosRules}
+use Rattle.gp_cell.specs.Cells.{CellState, PostsOne}
+use Rattle.gp_cell.specs.Passing.{Later, GoesOn}
+use Rattle.gp_cell.specs.Falls.{Rises}
+use Rattle.gp_cell.specs.Refusals.{CountsFaults, CountsRiseFaults, IsTooGreat, StepCause, faults_of}
+use Rattle.gp_cell.specs.Working.{process_of, is_up, IsAt}
+use Rattle.gp_cell.proofs.Going.{later_goes}
+
+pub risen_to : (t : Option ℕ) (n : ℕ) → IsBelow t n → HasRisen t (Some n)
+risen_to None n b = tt
+risen_to (Some t) n b = b
+
+pub had_risen : (p q : PassState) → HadTurn p q nothing → HasRisen p.turn q.turn
+had_risen p q t = subst (HasRisen p.turn) (sym (ap (λ (x : PassState). x.turn) t.after)) (risen_to p.turn t.turn t.risen)
+
+module _ {D : Type 0} (faults : D → ℕ) (o r : CellState D) (config : r.config ≡ o.config) (node : r.node ≡ o.node) where
+  pub goes : GoesOn o.pass r.pass → faults_of faults o.log ≤ faults_of faults r.log → Goes (process_of faults o) (process_of faults r)
+  goes g f = record { node = node; config = config; more = g.more; grown = g.grown; turn = g.turn; faults = f }
+
+  pub at_same : (w : WireState PaxosRules) → GoesOn o.pass r.pass → IsAt o w → IsAt r w
+  at_same w g a = record {
+    own = g.wire ∙ a.own;
+    config = config ∙ a.config;
+    holds = subst (Has r.pass.node) (sym g.holds) (subst (λ n. Has n o.pass.holds) (sym g.node) a.holds);
+  }
+
+  posted_one : (e : Event) → PostsOne o.config o.node (records o.pass) (records r.pass) e → Posted (process_of faults o) (process_of faults r) (e ∷ [])
+  posted_one e x =
+      ap (λ n. own_events n (records r.pass)) node
+      ∙ ap (map event_in) x.one
+      ∙ map-append event_in (own o.node (records o.pass)) (x.item ∷ [])
+      ∙ ap (λ y. own_events o.node (records o.pass) ++ y ∷ []) x.event_is
+
+  pub posted_none : own o.node (records r.pass) ≡ own o.node (records o.pass) → Posted (process_of faults o) (process_of faults r) []
+  posted_none same = ap (λ n. own_events n (records r.pass)) node ∙ ap (map event_in) same ∙ sym (append-nil (own_events o.node (records o.pass)))
+
+  pub step_posted : (e : Event) (t : Result ℕ StepFault) → OnOk t (PostsOne o.config o.node (records o.pass) (records r.pass) e) → IfOk t (λ n. Posted (process_of faults o) (process_of faults r) (e ∷ []))
+  step_posted e (Ok n) x = posted_one e x
+  step_posted e (Err f) x = tt
+
+  pub step_nothing : {E : Type 0} (t : Result ℕ E) → OnErr t (own o.node (records r.pass) ≡ own o.node (records o.pass)) → OnErr t (Posted (process_of faults o) (process_of faults r) [])
+  step_nothing (Ok n) x = tt
+  step_nothing (Err f) x = posted_none x
+
+  pub is_up_again : {E : Type 0} (t : Result ℕ E) → OnOk t (r.down ≡ None) → IfOk t (λ n. ◌≡◌ (process_of faults r).up (is_up None))
+  is_up_again (Ok n) x = ap is_up x
+  is_up_again (Err f) x = tt
+
+  step_fault : (mv : Move) (f : StepFault) → CountsFaults {T = ℕ} (faults_of faults o.log) (faults_of faults r.log) (Err f) → StepCause o r mv f
+      → work.StepCause mv (process_of faults o) (process_of faults r) (IsTooGreat r (event_of o.node mv)) f
+  step_fault mv Waiting c h = (ap is_up h.1, h.0)
+  step_fault mv NoMemory c h = tt
+  step_fault mv Disk c h = (ap is_up h, c.failed tt)
+  step_fault mv (Full size needed) c h = subst (λ n. IsTooGreat r (event_of n mv) size needed) node h.1
+
+  pub step_fault_if : (mv : Move) (t : Result ℕ StepFault) → CountsFaults (faults_of faults o.log) (faults_of faults r.log) t → IfErr t (StepCause o r mv)
+      → IfErr t (work.StepCause mv (process_of faults o) (process_of faults r) (IsTooGreat r (event_of o.node mv)))
+  step_fault_if mv (Ok n) c h = tt
+  step_fault_if mv (Err f) c h = step_fault mv f c h
+
+  pub rise_posted : (t : Result ℕ RiseFault) → OnOk t (Rises o r) → IfOk t (λ n. work.Falls (process_of faults o) (process_of faults r))
+  rise_posted (Ok n) x = (x.what, posted_one (Fall o.node x.what) x.posts)
+  rise_posted (Err f) x = tt
+
+  rise_fault : (f : RiseFault) → CountsRiseFaults {T = ℕ} (faults_of faults o.log) (faults_of faults r.log) (Err f) → work.RiseCause (process_of faults o) (process_of faults r) f
+  rise_fault rise.NoMemory c = tt
+  rise_fault rise.Disk c = c.failed tt
+  rise_fault (rise.NotLog at) c = tt
+  rise_fault (rise.Changed found) c = tt
+
+  pub rise_fault_if : (t : Result ℕ RiseFault) → CountsRiseFaults (faults_of faults o.log) (faults_of faults r.log) t → IfErr t (work.RiseCause (process_of faults o) (process_of faults r))
+  rise_fault_if (Ok n) c = tt
+  rise_fault_if (Err f) c = rise_fault f c
+
+-- a node that is up went down in no move
+pub up_is : (down : Option Move) → is_up down ≡ is_up None → down ≡ None
+up_is None e = refl
+up_is (Some mv) e = cc
+
+-- and one that is down went down in one
+pub is_down_now : (down : Option Move) → is_up down ≡ false → IsSome down
+is_down_now None e = absurd cc
+is_down_now (Some mv) e = refl
+
+pub same_faults : {D : Type 0} (faults : D → ℕ) (o r : CellState D) → r.log ≡ o.log → faults_of faults o.log ≤ faults_of faults r.log
+same_faults faults o r e = let h = ap (faults_of faults) e in omega arith
