@@ -1,0 +1,11 @@
+//! Nodes that run in threads: cells with their logs, the work of a phase, and the list that they posted.
+#![tactic(auto)]
+
+mod phase;
+mod posted;
+
+pub use gp_cell::{Cell, MOST_RECORDS, Plan, Unmade};
+pub use gp_rules::{Core, PaxosRules};
+pub use gp_work::{JobFault, Move, Moves, RiseFault, StepFault};
+pub use phase::{Job, workers};
+pub use posted::{Finished, Posted, Unfinished, finish};
