@@ -13,3 +13,4 @@ pub mod Going
 pub mod Reviving
 pub mod Refusing
 pub mod Acts
+pub mod Crashing

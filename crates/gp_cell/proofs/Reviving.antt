@@ -34,7 +34,7 @@ use Rattle.gp_cell.proofs.Falling.{fall_lawful, fall_next, fall_part}
 use Rattle.gp_cell.proofs.Going.{posts_after}
 
 -- the next core is what the event of the move makes of the core
-next_core : (config : Counts) (n : Node) (core : Core) (seen : List Record) (mv : Move) (plan : Plan) → IsThoughtAt config n core seen mv plan → (more : List Stamped) → plan.next ≡ (acts n core (messages (entries_in seen) ++ more) (event_of n mv)).0
+pub next_core : (config : Counts) (n : Node) (core : Core) (seen : List Record) (mv : Move) (plan : Plan) → IsThoughtAt config n core seen mv plan → (more : List Stamped) → plan.next ≡ (acts n core (messages (entries_in seen) ++ more) (event_of n mv)).0
 next_core config n core seen mv plan t more = t.next more ∙ ap (λ e. (acts n core (messages (entries_in seen) ++ more) e).0) t.plan.event_is
 
 next_now : (config : Counts) (n : Node) (core : Core) (seen : List Record) (mv : Move) (plan : Plan) → IsThoughtAt config n core seen mv plan → plan.next ≡ (acts n core (messages (entries_in seen)) (event_of n mv)).0

@@ -15,6 +15,7 @@ ghost use Rattle.gp_cell.specs.Plans.{HasRole, IsNamed, Names, named};
 ghost use Rattle.gp_rules.specs.Lawful.{IsLawful};
 ghost use Rattle.gp_cell.specs.Cells.{IsSameBut, IsThought, Keeps, PostsOne};
 ghost use Rattle.gp_cell.specs.Passing.{Later, GoesOn};
+ghost use Rattle.gp_cell.specs.Crashes.{Writes, LeavesOneOf, IsReadyLog, part_after};
 ghost use Rattle.gp_cell.specs.Refusals.{CountsFaults, IsReadFault, StepCause, WriteCause, faults_of};
 
 use crate::cell::Cell;
@@ -78,15 +79,30 @@ impl<D: Disk> Cell<D> {
         }
     }
 
+    // What a node that is up knows of its log.
+    fn know_log(&self)
+        requires up { self.now.down ≡ None }
+        ensures kept { Keeps (part_in (opening self.now.config self.now.node)) (part_in self.now.core) self.now.log }
+        ensures ready { IsReadyLog D.content D.image self.now.log }
+    {
+        let Some(log) = &self.log else {
+            return;
+        };
+        let _ready = log.is_ready();
+    }
+
     // Writes the durable part of the next core, if it is another one. Then the node is down until the record is posted.
     fn write(&mut self, mv: Move, next: &Core) -> Result<(), StepFault>
         requires up { self.old.down ≡ None }
+        requires ready { IsReadyLog D.content D.image self.old.log }
         requires role { HasRole self.old.node next.now }
         requires fits { Fits self.old.config self.old.node mv }
         requires stands { IsNamed mv (named (messages (entries_in (records self.old.pass))) mv) }
         ensures rest { (self.new.config ≡ self.old.config) × (self.new.node ≡ self.old.node) × (self.new.core ≡ self.old.core) × (self.new.pass ≡ self.old.pass) }
         ensures kept { OnOk result (Keeps (part_in (opening self.new.config self.new.node)) (part_in next.now) self.new.log) }
         ensures down { OnOk result (((self.new.down ≡ None) × (self.new.log ≡ self.old.log)) ⊎ (self.new.down ≡ Some mv)) }
+        ensures log { OnOk result (Writes self.old.log self.new.log (part_in self.old.core) (part_in next.now)) }
+        ensures crash { LeavesOneOf D.content D.moment D.since (part_in (opening self.old.config self.old.node)) (part_in self.old.core) (part_in next.now) self.old.log self.new.log }
         ensures cause { IfErr result (WriteCause self.old self.new next.now mv) }
         ensures count { CountsFaults (faults_of D.faults self.old.log) (faults_of D.faults self.new.log) result }
     {
@@ -180,9 +196,12 @@ impl<D: Disk> Cell<D> {
         ensures up { OnOk result (self.new.down ≡ None) }
         ensures nothing { OnErr result (own self.old.node (records self.new.pass) ≡ own self.old.node (records self.old.pass)) }
         ensures core { OnErr result (self.new.core ≡ self.old.core) }
+        ensures log { OnOk result (Writes self.old.log self.new.log (part_in self.old.core) (part_in self.new.core)) }
+        ensures crash { LeavesOneOf D.content D.moment D.since (part_in (opening self.old.config self.old.node)) (part_in self.old.core) (part_after self.old self.new mv) self.old.log self.new.log }
         ensures cause { IfErr result (StepCause self.old self.new mv) }
         ensures faults { CountsFaults (faults_of D.faults self.old.log) (faults_of D.faults self.new.log) result }
     {
+        self.know_log();
         let plan = match self.prepare(rt, wire, &mv) {
             Ok(plan) => plan,
             Err(fault) => {

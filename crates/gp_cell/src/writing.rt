@@ -8,7 +8,7 @@ ghost use Rattle.gp_vlog.specs.Logs.{KeepsRules, log_entries, entry_for, last};
 ghost use Rattle.gp_rules.specs.Cores.{part_in};
 ghost use Rattle.gp_cell.specs.Cells.{IsFit, IsFitLog, HasLog, Keeps, SameKind};
 ghost use Rattle.gp_cell.specs.Refusals.{CountsFaults, IsFullWhere, IsFullLogWhere, AddsPart, faults_of};
-ghost use Rattle.gp_cell.specs.Crashes.{OldOrWritten, LeavesWritten};
+ghost use Rattle.gp_cell.specs.Crashes.{AddsToLog, OldOrWritten, LeavesWritten};
 
 use gp_command::NoMemory;
 use gp_edge::Disk;
@@ -133,6 +133,7 @@ pub(crate) fn write_to<D: Disk>(log: &mut Option<Log<D>>, part: &Durable) -> Res
     requires rules { KeepsRules part.now }
     ensures there { HasLog log.new }
     ensures kept { OnOk result ((first : EpochPart) → Keeps (Some first) (Some (part_of part.now)) log.new) }
+    ensures entries { OnOk result (AddsToLog log.old log.new part.now) }
     ensures full { IsFullLogWhere log.old log.new (part_of part.now) result }
     ensures count { CountsFaults (faults_of D.faults log.old) (faults_of D.faults log.new) result }
     ensures crash { LeavesWritten D.content D.moment D.since log.old log.new (part_of part.now) }

@@ -1,5 +1,5 @@
 use Rattle.std.proofs.Common.{◌≡◌, ◌≢◌, sym, subst, ap, ◌∙◌, Some}
-use Rattle.std.specs.Prelude.{IfSome, IfErr}
+use Rattle.std.specs.Prelude.{IfSome, IfErr, OnOk}
 use Rattle.gp_msg.specs.Messages.{EpochPart, part_of}
 use Rattle.gp_rules.specs.Cores.{opening, part_in}
 use Rattle.gp_work.proofs.Results.{on_ok}
@@ -7,7 +7,9 @@ use Rattle.gp_cell.specs.Plans.{HasRole}
 use Rattle.gp_cell.specs.Cells.{CellState, cell_of, Keeps}
 use Rattle.gp_cell.specs.Refusals.{WriteCause}
 use Rattle.gp_cell.proofs.Falling.{keeps_next, logged_by}
+use Rattle.gp_cell.specs.Crashes.{Writes, LeavesOneOf, IsReadyLog}
 use Rattle.gp_cell.proofs.Refusing.{written_cause}
+use Rattle.gp_cell.proofs.Crashing.{writes, written_leaves, still_leaves}
 use Rattle.gp_cell.proofs.cell.Cell.write.Goals as goal
 
 pub returns-in-Ok-Some-clause-kept : goal.returns-in-Ok-Some-clause-kept
@@ -28,3 +30,36 @@ returns-in-Ok-Some-clause-cause g c =
     let after : CellState g.row.D.Denot = cell_of s.config s.node s.core c.write_to-written.new.log s.pass c.go_down.new.down in
     subst (λ (x : CellState g.row.D.Denot). IfErr c.write_to-written.result (WriteCause x after c.args.next.now c.args.mv)) c.self.view_is
     (written_cause (cell_of s.config s.node s.core s.log s.pass s.down) after c.args.next.now c.args.mv (part_of c.in-Ok-Some.part) c.write_to-written.result c.go_down.ensures new other c.write_to-written.ensures.full)
+
+pub returns-in-Ok-Some-clause-log : goal.returns-in-Ok-Some-clause-log
+returns-in-Ok-Some-clause-log g c =
+    let s = c.self.inside in let r = c.write_to-written.result in let after = c.write_to-written.new.log in let next = part_in c.args.next.now in
+    let new = subst (λ o. IfSome o (λ p. next ≡ Some (part_of p))) c.in-Ok-Some.field-0-is c.in-Ok-Some.ensures.new in
+    let other = subst (λ o. IfSome o (λ p. part_in s.core ≢ Some (part_of p))) c.in-Ok-Some.field-0-is c.in-Ok-Some.ensures.other in
+    subst (λ (x : CellState g.row.D.Denot). OnOk r (Writes x.log after (part_in x.core) next)) c.self.view_is
+    (writes s.log after (part_in s.core) next c.in-Ok-Some.part r new other c.write_to-written.ensures.entries)
+
+pub returns-in-Ok-Some-clause-crash : goal.returns-in-Ok-Some-clause-crash
+returns-in-Ok-Some-clause-crash g c =
+    let s = c.self.inside in let d = g.D.Disk in let after = c.write_to-written.new.log in let next = part_in c.args.next.now in
+    let new = subst (λ o. IfSome o (λ p. next ≡ Some (part_of p))) c.in-Ok-Some.field-0-is c.in-Ok-Some.ensures.new in
+    let up = ap (λ (x : CellState g.row.D.Denot). x.down) c.self.view_is ∙ c.requires.up in
+    subst (λ (x : CellState g.row.D.Denot). LeavesOneOf d.content d.moment d.since (part_in (opening x.config x.node)) (part_in x.core) next x.log after) c.self.view_is
+    (subst (λ o. LeavesOneOf d.content d.moment d.since (part_in (opening s.config s.node)) (part_in s.core) o s.log after) (sym new)
+    (written_leaves d.content d.image d.moment d.since g.met.D.Disk.only_now (part_in (opening s.config s.node)) (part_in s.core) (part_of c.in-Ok-Some.part) s.log after (c.self.invariant.log_is up) c.write_to-written.ensures.crash))
+
+pub returns-in-Ok-None-clause-crash : goal.returns-in-Ok-None-clause-crash
+returns-in-Ok-None-clause-crash g c =
+    let s = c.self.inside in let d = g.D.Disk in let next = part_in c.args.next.now in
+    let up = ap (λ (x : CellState g.row.D.Denot). x.down) c.self.view_is ∙ c.requires.up in
+    let ready = subst (λ (x : CellState g.row.D.Denot). IsReadyLog d.content d.image x.log) (sym c.self.view_is) c.requires.ready in
+    subst (λ (x : CellState g.row.D.Denot). LeavesOneOf d.content d.moment d.since (part_in (opening x.config x.node)) (part_in x.core) next x.log x.log) c.self.view_is
+    (still_leaves d.content d.image d.moment d.since g.met.D.Disk.only_now (part_in (opening s.config s.node)) (part_in s.core) next s.log (c.self.invariant.log_is up) ready)
+
+pub returns-in-Err-clause-crash : goal.returns-in-Err-clause-crash
+returns-in-Err-clause-crash g c =
+    let s = c.self.inside in let d = g.D.Disk in let next = part_in c.args.next.now in
+    let up = ap (λ (x : CellState g.row.D.Denot). x.down) c.self.view_is ∙ c.requires.up in
+    let ready = subst (λ (x : CellState g.row.D.Denot). IsReadyLog d.content d.image x.log) (sym c.self.view_is) c.requires.ready in
+    subst (λ (x : CellState g.row.D.Denot). LeavesOneOf d.content d.moment d.since (part_in (opening x.config x.node)) (part_in x.core) next x.log x.log) c.self.view_is
+    (still_leaves d.content d.image d.moment d.since g.met.D.Disk.only_now (part_in (opening s.config s.node)) (part_in s.core) next s.log (c.self.invariant.log_is up) ready)
