@@ -73,7 +73,7 @@ module _ {D : Type 0} (faults : D → ℕ) (o r : CellState D) (config : r.confi
       → work.StepCause mv (process_of faults o) (process_of faults r) (IsTooGreat r (event_of o.node mv)) f
   step_fault mv Waiting c h = (ap is_up h.1, h.0)
   step_fault mv NoMemory c h = tt
-  step_fault mv Disk c h = (ap is_up h, c.failed tt)
+  step_fault mv Disk c h = (ap is_up h.0, c.failed tt)
   step_fault mv (Full size needed) c h = subst (λ n. IsTooGreat r (event_of n mv) size needed) node h.1
 
   pub step_fault_if : (mv : Move) (t : Result ℕ StepFault) → CountsFaults (faults_of faults o.log) (faults_of faults r.log) t → IfErr t (StepCause o r mv)

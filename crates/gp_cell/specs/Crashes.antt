@@ -2,16 +2,9 @@
 use Rattle.std.specs.Prelude.{◌≡◌, ◌≢◌, ◌⊎◌, ℕ, false, List, [], ◌∷◌, ◌++◌, Option, Some, None}
 use Rattle.gp_msg.specs.declared.durable.Durable.{Durable}
 use Rattle.gp_msg.specs.Messages.{EpochPart, part_of}
-use Rattle.gp_run.specs.Messages.{messages}
-use Rattle.gp_run.specs.Runs.{entries_in}
 use Rattle.gp_edge.specs.Disks.{IfRevealed, LeavesOnly}
 use Rattle.gp_vlog.specs.Bodies.{LogEntry, entry_with}
 use Rattle.gp_vlog.specs.Logs.{LogState, HoldsEntries, IsReady, log_entries}
-use Rattle.gp_wire.specs.Known.{records}
-use Rattle.gp_work.specs.declared.moves.Move.{Move}
-use Rattle.gp_work.specs.Moves.{event_of}
-use Rattle.gp_rules.specs.Cores.{acts, part_in}
-use Rattle.gp_cell.specs.Cells.{CellState}
 use Rattle.gp_cell.specs.Refusals.{AddsPart, HasRoomFor}
 
 -- ---- what is written
@@ -52,11 +45,13 @@ LeavesOneOf content moment since first before after (Some old) (Some new) = IfRe
 LeavesOneOf content moment since first before after None None = Unit {0}
 LeavesOneOf content moment since first before after _ _ = ⊥
 
+-- the disk of the log of a node has the same content
+abbrev pub HoldsSame : {D : Type 0} → (D → Option (List ℕ)) → Option (LogState D) → Option (LogState D) → Type 0
+HoldsSame content (Some old) (Some new) = content new.disk ≡ content old.disk
+HoldsSame content None None = Unit {0}
+HoldsSame content _ _ = ⊥
+
 -- a crash now leaves the entries that the log shows, if the disk reveals its content
 abbrev pub IsReadyLog : {D : Type 0} → (D → Option (List ℕ)) → (D → List ℕ → Type 0) → Option (LogState D) → Type 0
 IsReadyLog content image None = Unit {0}
 IsReadyLog content image (Some log) = IsReady content image log
-
--- the durable part after a move, once the pass has seen so much
-abbrev pub part_after : {D : Type 0} → CellState D → CellState D → Move → Option EpochPart
-part_after old new mv = part_in (acts old.node old.core (messages (entries_in (records new.pass))) (event_of old.node mv)).0

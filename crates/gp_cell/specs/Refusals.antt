@@ -113,18 +113,31 @@ pub record IsOverFull {D : Type 0} (old new : Option (LogState D)) (core next : 
   pub changes : part_in core ≢ Some part
   pub no_room : HasNoRoom log part needed
 
+-- a log had room for the durable part of the next core, which is another one
+pub record IsTried {D : Type 0} (old : Option (LogState D)) (before after : Option EpochPart) : Type 0 where
+  pub log : LogState D
+  pub log_is : old ≡ Some log
+  pub part : EpochPart
+  pub part_is : after ≡ Some part
+  pub changes : before ≢ Some part
+  pub room : HasRoomFor log part
+
+-- the durable part after a move, once the pass has seen so much
+abbrev pub part_after : {D : Type 0} → CellState D → CellState D → Move → Option EpochPart
+part_after old new mv = part_in (acts old.node old.core (messages (entries_in (records new.pass))) (event_of old.node mv)).0
+
 -- why the durable part of the next core was not written in this move
 abbrev pub WriteCause : {D : Type 0} → CellState D → CellState D → Core → Move → StepFault → Type 0
 WriteCause old new next mv Waiting = ⊥
 WriteCause old new next mv NoMemory = ((new.down ≡ None) × (new.log ≡ old.log)) ⊎ (new.down ≡ Some mv)
-WriteCause old new next mv Disk = new.down ≡ Some mv
+WriteCause old new next mv Disk = (new.down ≡ Some mv) × IsTried old.log (part_in old.core) (part_in next)
 WriteCause old new next mv (Full size needed) = (new.down ≡ Some mv) × (size ≡ 17) × IsOverFull old.log new.log old.core next needed
 
 -- why a step was refused: the message that it takes was not sent; memory ran out, and the node is down if its log was being written; or it is down since its disk failed or its log had no room
 abbrev pub StepCause : {D : Type 0} → CellState D → CellState D → Move → StepFault → Type 0
 StepCause old new mv Waiting = IsBeyond (length (messages_in (records new.pass))) mv × (new.down ≡ None) × (new.log ≡ old.log)
 StepCause old new mv NoMemory = ((new.down ≡ None) × (new.log ≡ old.log)) ⊎ (new.down ≡ Some mv)
-StepCause old new mv Disk = new.down ≡ Some mv
+StepCause old new mv Disk = (new.down ≡ Some mv) × IsTried old.log (part_in old.core) (part_after old new mv)
 StepCause old new mv (Full size needed) = (new.down ≡ Some mv) × IsTooGreat new (event_of new.node mv) size needed
 
 -- the message was not sent, or memory ran out

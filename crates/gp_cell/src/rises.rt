@@ -12,6 +12,7 @@ ghost use Rattle.gp_work.specs.Moves.{event_of, Fits, HasRoom};
 ghost use Rattle.gp_rules.specs.Cores.{opening, acts, part_in};
 ghost use Rattle.gp_cell.specs.Cells.{IsLogged, IsThought, WentDown};
 ghost use Rattle.gp_cell.specs.Passing.{Later, GoesOn};
+ghost use Rattle.gp_cell.specs.Crashes.{HoldsSame, IsReadyLog};
 ghost use Rattle.gp_cell.specs.Falls.{fell, IsFall, IsRevival, Rises, FitsNone};
 ghost use Rattle.gp_cell.specs.Founds.{IsFound, IsChanged, LogBreaksWhere, FallCause, RiseCause, IsNotRisen};
 ghost use Rattle.gp_cell.specs.Refusals.{CountsRiseFaults, faults_of};
@@ -56,6 +57,8 @@ impl<D: Disk> Cell<D> {
         ensures rest { (self.new.config ≡ self.old.config) × (self.new.node ≡ self.old.node) × (self.new.core ≡ self.old.core) × (self.new.pass ≡ self.old.pass) × (self.new.down ≡ self.old.down) }
         ensures found { IfOk result (IsFound (part_in (opening self.new.config self.new.node)) self.new.log) }
         ensures count { CountsRiseFaults (faults_of D.faults self.old.log) (faults_of D.faults self.new.log) result }
+        ensures content { HoldsSame D.content self.old.log self.new.log }
+        ensures shown { OnOk result (IsReadyLog D.content D.image self.new.log) }
         ensures broken { IfErr result (LogBreaksWhere D.content self.old.log) }
         ensures same { IfErr result (λ e. ¬ (IsChanged e)) }
     {
@@ -142,6 +145,8 @@ impl<D: Disk> Cell<D> {
         ensures pass { Later self.old.pass self.new.pass }
         ensures own { own self.new.node (records self.new.pass) ≡ own self.old.node (records self.old.pass) }
         ensures revived { IfOk result (λ r. IsRevival self.new mv.now r.item r.next) }
+        ensures content { HoldsSame D.content self.old.log self.new.log }
+        ensures shown { OnOk result (IsReadyLog D.content D.image self.new.log) }
         ensures cause { IfErr result (RiseCause D.content self.old self.new mv.now) }
         ensures count { CountsRiseFaults (faults_of D.faults self.old.log) (faults_of D.faults self.new.log) result }
     {
@@ -184,6 +189,8 @@ impl<D: Disk> Cell<D> {
         ensures nothing { OnErr result (own self.old.node (records self.new.pass) ≡ own self.old.node (records self.old.pass)) }
         ensures core { OnErr result (self.new.core ≡ self.old.core) }
         ensures down { OnErr result (self.new.down ≡ self.old.down) }
+        ensures content { HoldsSame D.content self.old.log self.new.log }
+        ensures shown { OnOk result (IsReadyLog D.content D.image self.new.log) }
         ensures cause { IfErr result (IsNotRisen D.content self.old self.new) }
         ensures faults { CountsRiseFaults (faults_of D.faults self.old.log) (faults_of D.faults self.new.log) result }
     {

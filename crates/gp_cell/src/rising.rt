@@ -2,7 +2,8 @@
 ghost use Rattle.std.specs.Prelude.{◌≡◌, ◌↔◌, true, false, Some, None, OnOk, IfOk, IfErr, IfSome, IsSome, IsTrue};
 ghost use Rattle.std.specs.Option.{option_map};
 ghost use Rattle.gp_msg.specs.Messages.{part_of};
-ghost use Rattle.gp_vlog.specs.Logs.{last};
+ghost use Rattle.gp_vlog.specs.Logs.{IsReady, last};
+ghost use Rattle.gp_cell.specs.Crashes.{HoldsSame, IsReadyLog};
 ghost use Rattle.gp_work.specs.declared.faults.RiseFault.TheVariants as RiseFault;
 ghost use Rattle.gp_rules.specs.Cores.{part_in};
 ghost use Rattle.gp_cell.specs.Cells.{HasLog, last_or};
@@ -29,6 +30,8 @@ pub(crate) fn reopen<D: Disk>(
     ensures there { HasLog log.new }
     ensures found { IfOk result (IsFound (option_map part_of first) log.new) }
     ensures count { CountsRiseFaults (faults_of D.faults log.old) (faults_of D.faults log.new) result }
+    ensures content { HoldsSame D.content log.old log.new }
+    ensures shown { OnOk result (IsReadyLog D.content D.image log.new) }
     ensures broken { IfErr result (LogBreaksWhere D.content log.old) }
     ensures same { IfErr result (λ e. ¬ (IsChanged e)) }
 {
@@ -43,6 +46,8 @@ fn reopen_one<D: Disk>(log: &mut Log<D>, first: Durable) -> Result<Found, RiseFa
     ensures last { IfOk result (λ f. last_or (part_of first) log.new.entries ≡ part_of f.part) }
     ensures entry { IfOk result (λ f. found_entry f ≡ last log.new.entries) }
     ensures count { CountsRiseFaults (D.faults log.old.disk) (D.faults log.new.disk) result }
+    ensures content { D.content log.new.disk ≡ D.content log.old.disk }
+    ensures shown { OnOk result (IsReady D.content D.image log.new) }
     ensures broken { IfErr result (BreaksWhere log.old.limit (D.content log.old.disk)) }
     ensures same { IfErr result (λ e. ¬ (IsChanged e)) }
 {

@@ -15,8 +15,8 @@ ghost use Rattle.gp_cell.specs.Plans.{HasRole, IsNamed, Names, named};
 ghost use Rattle.gp_rules.specs.Lawful.{IsLawful};
 ghost use Rattle.gp_cell.specs.Cells.{IsSameBut, IsThought, Keeps, PostsOne};
 ghost use Rattle.gp_cell.specs.Passing.{Later, GoesOn};
-ghost use Rattle.gp_cell.specs.Crashes.{Writes, LeavesOneOf, IsReadyLog, part_after};
-ghost use Rattle.gp_cell.specs.Refusals.{CountsFaults, IsReadFault, StepCause, WriteCause, faults_of};
+ghost use Rattle.gp_cell.specs.Crashes.{Writes, LeavesOneOf, IsReadyLog};
+ghost use Rattle.gp_cell.specs.Refusals.{CountsFaults, IsReadFault, StepCause, WriteCause, faults_of, part_after};
 
 use crate::cell::Cell;
 use crate::planning::{Plan, make_plan};

@@ -5,7 +5,8 @@ use Rattle.gp_rules.specs.Own.{own}
 use Rattle.gp_work.specs.Moves.{event_of}
 use Rattle.gp_work.proofs.Results.{on_ok}
 use Rattle.gp_cell.specs.Cells.{CellState, cell_of, PostsOne}
-use Rattle.gp_cell.specs.Crashes.{Writes, LeavesOneOf, IsReadyLog, part_after}
+use Rattle.gp_cell.specs.Refusals.{part_after}
+use Rattle.gp_cell.specs.Crashes.{Writes, LeavesOneOf, IsReadyLog}
 use Rattle.gp_cell.proofs.Going.{posts_after, goes_on}
 use Rattle.gp_cell.proofs.Crashing.{same_leaves, step_leaves, same_goes}
 use Rattle.gp_cell.proofs.Refusing.{step_cause}
@@ -25,8 +26,8 @@ returns-in-Ok-write-clause-posted g c =
 
 pub returns-in-Err-write-clause-cause : goal.returns-in-Err-write-clause-cause
 returns-in-Err-write-clause-cause g c =
-    let b = c.in-Err-write.ensures.rest in
-    step_cause c.args.self.now c.prepare.new.self c.write.new.self c.args.mv c.in-Ok.plan c.in-Err-write.fault c.in-Ok.ensures.rest.3 b.0 b.1 b.2 b.3 c.in-Ok.ensures.thought c.in-Err-write.ensures.cause
+    let a = c.in-Ok.ensures.rest in let b = c.in-Err-write.ensures.rest in
+    step_cause c.args.self.now c.prepare.new.self c.write.new.self c.args.mv c.in-Ok.plan c.in-Err-write.fault a.1 a.2 a.3 b.0 b.1 b.2 b.3 c.in-Ok.ensures.thought c.in-Err-write.ensures.cause
 
 pub write-requires-clause-ready : goal.write-requires-clause-ready
 write-requires-clause-ready g c = let d = g.D.Disk in subst (IsReadyLog d.content d.image) (sym c.in-Ok.ensures.rest.3) c.know_log.ensures.ready
