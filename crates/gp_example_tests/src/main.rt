@@ -4,7 +4,7 @@
 
 ghost use Rattle.std.specs.Prelude.{◌≡◌, IfOk, length};
 
-use gp_cli::serve;
+use gp_cli::{DISKS, serve};
 use gp_edge::{CalmDisk, ReadSource, WriteSink};
 use std::alloc::Global;
 use std::fs::{self, File};
@@ -30,7 +30,7 @@ fn disks_with(alloc: Global, bytes: &[u8]) -> io::Result<Vec<CalmDisk>>
     ensures { IfOk result (λ disks. length disks.items ≡ 12) }
 {
     let mut disks = Vec::new(alloc);
-    for _count in 0..12 {
+    for _count in 0..DISKS {
         match CalmDisk::new(alloc, bytes) {
             Ok(disk) => disks.push(disk)?,
             Err(_) => return Err(io::Error::from(ErrorKind::OutOfMemory)),

@@ -1,7 +1,7 @@
 //! Runs of the program in memory.
 ghost use Rattle.std.specs.Prelude.{◌≡◌, IfOk, length};
 
-use gp_cli::serve;
+use gp_cli::{DISKS, serve};
 use gp_edge::{CalmDisk, CalmSink, CalmSource, Sink, Source};
 use std::alloc::Global;
 use std::sync::Wait;
@@ -12,7 +12,7 @@ fn disks(alloc: Global) -> Result<Vec<CalmDisk>, Fail>
     ensures { IfOk result (λ disks. length disks.items ≡ 12) }
 {
     let mut disks = Vec::new(alloc);
-    for _count in 0..12 {
+    for _count in 0..DISKS {
         disks.push(CalmDisk::new(alloc, b"")?)?;
     }
     Ok(disks)
