@@ -1,5 +1,5 @@
 //! The subcommand that shows a log.
-use crate::stage::{disks_with, served};
+use crate::stage::{content_of, disks_with, served};
 use std::alloc::Global;
 use std::sync::Wait;
 use std::test::Fail;
@@ -18,14 +18,25 @@ const VOTE: [u8; 49] = [
     1, 0, 0, 0, 0, 1, 1, 97, 2, 7, 112, 117, 116, 32, 97, 32, 53, 0,
 ];
 
-/// A log of version 1 with two entries and this limit, in bytes.
-pub fn old_log(alloc: Global, limit: u32) -> Result<Vec<u8>, Fail> {
+/// A log of version 1 with these entries and this limit, in bytes.
+fn log_of(alloc: Global, limit: u32, entries: &[&[u8]]) -> Result<Vec<u8>, Fail> {
     let mut bytes = Vec::from_slice(alloc, &HEADER[..8])?;
     bytes.extend_from_slice(&limit.to_le_bytes())?;
     bytes.extend_from_slice(&HEADER[12..])?;
-    bytes.extend_from_slice(&ROUND)?;
-    bytes.extend_from_slice(&VOTE)?;
+    for entry in entries {
+        bytes.extend_from_slice(entry)?;
+    }
     Ok(bytes)
+}
+
+/// A log of version 1 with two entries and this limit, in bytes.
+pub fn old_log(alloc: Global, limit: u32) -> Result<Vec<u8>, Fail> {
+    log_of(alloc, limit, &[ROUND.as_slice(), VOTE.as_slice()])
+}
+
+/// The same with its second entry alone.
+pub fn old_log_of_a_vote(alloc: Global, limit: u32) -> Result<Vec<u8>, Fail> {
+    log_of(alloc, limit, &[VOTE.as_slice()])
 }
 
 /// What is shown of it.
@@ -50,7 +61,7 @@ fn shows<W: Wait>(
         &["log", "3"],
         disks_with(alloc, 3, bytes, failing)?,
     )?;
-    let same = served.ran.disks[3].content() == bytes;
+    let same = content_of(&served, 3) == bytes;
     Ok(same && served.ran.status == status && served.sink.written() == text)
 }
 
@@ -64,8 +75,9 @@ fn a_log_is_shown(rt: HostRuntime) -> Result<(), Fail> {
 #[test]
 fn bytes_that_are_no_log_break_at_a_place(rt: HostRuntime) -> Result<(), Fail> {
     assert!(rt; shows(&rt, rt.alloc(), b"", &[], 8, b"not a log: at 0\n")?);
-    let bytes = old_log(rt.alloc(), 67_108_864)?;
-    assert!(rt; shows(&rt, rt.alloc(), &bytes[..70], &[], 8, b"not a log: at 44\n")?);
+    let mut bytes = old_log(rt.alloc(), 67_108_864)?;
+    bytes.truncate(70);
+    assert!(rt; shows(&rt, rt.alloc(), &bytes, &[], 8, b"not a log: at 44\n")?);
     Ok(())
 }
 

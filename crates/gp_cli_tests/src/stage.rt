@@ -77,3 +77,11 @@ pub fn prints<W: Wait>(
     let served = served(rt, alloc, words, disks_with(alloc, 0, b"", &[])?)?;
     Ok(served.ran.status == status && served.sink.written() == text)
 }
+
+/// What a disk holds after a command.
+pub fn content_of(finished: &Finished<MemDisk>, number: usize) -> &[u8] {
+    match finished.ran.disks.get(number) {
+        Some(disk) => disk.content(),
+        None => b"",
+    }
+}

@@ -1,8 +1,7 @@
 //! The subcommand that takes on a log of version 1.
-ghost use Rattle.std.specs.Prelude.{◌≡◌, length};
 
-use crate::logs::{OLD_LOG, old_log};
-use crate::stage::{Finished, disks_with, served};
+use crate::logs::{OLD_LOG, old_log, old_log_of_a_vote};
+use crate::stage::{Finished, content_of, disks_with, served};
 use gp_edge::MemDisk;
 use std::alloc::Global;
 use std::sync::Wait;
@@ -33,12 +32,12 @@ fn the_last_entry_of_an_old_log_is_taken_on_once(rt: HostRuntime) -> Result<(), 
     let bytes = old_log(rt.alloc(), 128)?;
     let first = upgraded(&rt, rt.alloc(), &bytes, &[])?;
     assert!(rt; first.ran.status == 0 && first.sink.written() == TAKEN_ON);
-    let new = first.ran.disks[3].content();
-    assert!(rt; new.len() == 182 && new[12] == 1);
+    let new = content_of(&first, 3);
+    assert!(rt; new.len() == 182 && new.get(12) == Some(&1));
     // the second time nothing is written
     let second = upgraded(&rt, rt.alloc(), new, &[3])?;
     assert!(rt; second.ran.status == 0 && second.sink.written() == TAKEN_ON);
-    assert!(rt; second.ran.disks[3].content() == new);
+    assert!(rt; content_of(&second, 3) == new);
     Ok(())
 }
 
@@ -46,13 +45,11 @@ fn the_last_entry_of_an_old_log_is_taken_on_once(rt: HostRuntime) -> Result<(), 
 fn a_log_without_room_for_its_last_entry_is_full(rt: HostRuntime) -> Result<(), Fail> {
     let alloc = rt.alloc();
     // the vote alone, in a log that has no byte to spare
-    let two = old_log(alloc, 66)?;
-    let mut bytes = Vec::from_slice(alloc, &two[..17])?;
-    bytes.extend_from_slice(&two[45..])?;
+    let bytes = old_log_of_a_vote(alloc, 66)?;
     let ended = upgraded(&rt, alloc, &bytes, &[])?;
     assert!(rt; ended.ran.status == 7);
     assert!(rt; ended.sink.written() == b"log full: size 17 need 53\n".as_slice());
-    assert!(rt; ended.ran.disks[3].content() == bytes.as_slice());
+    assert!(rt; content_of(&ended, 3) == bytes.as_slice());
     Ok(())
 }
 
@@ -68,7 +65,7 @@ fn stops_at<W: Wait>(rt: &W, alloc: Global, call: u64) -> Result<bool, Fail> {
     let bytes = old_log(alloc, 128)?;
     let ended = upgraded(rt, alloc, &bytes, &[call])?;
     let fault = ended.ran.status == 6 && ended.sink.written() == b"disk fault\n".as_slice();
-    Ok(fault && is_whole(rt, alloc, ended.ran.disks[3].content())?)
+    Ok(fault && is_whole(rt, alloc, content_of(&ended, 3))?)
 }
 
 #[test]
