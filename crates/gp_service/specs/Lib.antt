@@ -1,0 +1,7 @@
+pub mod Languages
+pub mod Profiles
+pub mod Answers
+pub mod Stores
+pub mod StoreLaws
+pub mod Banks
+pub mod BankLaws

@@ -1,0 +1,48 @@
+//! What scripts and reports need of a machine.
+ghost use Rattle.std.specs.Prelude.{◌≡◌, ◌++◌, OnOk};
+ghost use Rattle.std.specs.FinMap.{entries};
+ghost use Rattle.gp_words.specs.Tokens.{texts};
+ghost use Rattle.gp_service.specs.Profiles.{Profile, IsProfileOf};
+ghost use Rattle.gp_service.specs.Answers.{Answers};
+
+use gp_command::{Draft, Key, NoMemory};
+use gp_replica::{Machine, Replica};
+use gp_store::OpFault;
+use std::alloc::Global;
+use std::collections::BTreeMap;
+
+/// Why words make no draft.
+#[derive(Clone, Copy, Debug, PartialEq, Eq)]
+pub enum Unsaid {
+    /// No operation has this name and this number of words.
+    NoOperation,
+    /// A word that stands for a key is no key, or one that stands for a number is no number in range.
+    Fault(OpFault),
+    /// Memory ran out.
+    NoMemory,
+}
+
+/// A machine whose operations are spelled in words, and whose state is shown as pairs.
+///
+/// An operation has one spelling, which is the body of its draft.
+pub trait Service: Machine {
+    /// What words say, what the machine does, and what reports show of it.
+    ghost profile: { Profile Self };
+
+    /// The draft of the operation that the words spell. They are read from left to right, and the first
+    /// fault is answered.
+    fn draft(alloc: Global, words: &[&[u8]]) -> Result<Draft, Unsaid>
+        ensures { Answers (profile.language (texts words.now)) result };
+
+    /// The keys of the state with their values, in ascending order of the keys. It takes no memory.
+    fn pairs(&self) -> &BTreeMap<Key, u64>
+        ensures { result.now.entries ≡ entries (profile.pairs self.now) };
+
+    /// Appends the lines that a report has after the replies of a learner with this replica. If memory
+    /// runs out, a part of them may stand there.
+    fn push_totals(learner: u32, replica: &Replica<Self>, to: &mut Vec<u8>) -> Result<(), NoMemory>
+        ensures { OnOk result (to.new.items ≡ to.old.items ++ profile.totals learner replica.now) };
+
+    /// The rules of the profile are the machine's, and an operation has one spelling.
+    ghost known: { IsProfileOf Self.rules profile };
+}
