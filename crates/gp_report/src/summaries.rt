@@ -111,8 +111,8 @@ fn summary_of(alloc: Global, seed: u64, commands: u32, world: &World) -> Result<
     requires { 1 < world.now.config.learners }
     ensures { IfOk result (λ text. text.items ≡ summary seed commands world.now.config (entries_of world.now)) }
 {
-    let replica = replica_of(alloc, world.learned(0))?;
-    let other = replica_of(alloc, world.learned(1))?;
+    let replica = replica_of::<KeyStore>(alloc, world.learned(0))?;
+    let other = replica_of::<KeyStore>(alloc, world.learned(1))?;
     let mut text = Vec::new(alloc);
     push_asked(seed, commands, &mut text)?;
     push_replicas(alloc, &replica, &other, &mut text)?;

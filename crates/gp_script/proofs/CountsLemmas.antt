@@ -47,7 +47,7 @@ counts_read (NodesLine a k l) c e =
       same = cc (sa.written, sk.written, sl.written);
       range = record { three_acceptors = sa.least; seven_acceptors = sa.most; one_coordinator = sk.least; five_coordinators = sk.most; one_learner = sl.least; four_learners = sl.most };
     })
-counts_read (OfferLine node form) c e = absurd cc
+counts_read (OfferLine node words) c e = absurd cc
 counts_read (BeginLine node count mode) c e = absurd cc
 counts_read (TakeLine node message) c e = absurd cc
 counts_read (FallLine node form) c e = absurd cc

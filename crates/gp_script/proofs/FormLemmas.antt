@@ -6,7 +6,6 @@ use Rattle.std.proofs.lemmas.Slice.Eq.{bytes_eq-Decides}
 use Rattle.gp_round.specs.declared.round.Mode.{Mode}
 use Rattle.gp_round.specs.declared.round.Mode.TheVariants.{Single, Multi, Fast}
 use Rattle.gp_words.specs.Tokens.{has_empty}
-use Rattle.gp_store.specs.Forms.{op_form}
 use Rattle.gp_script.specs.Forms.{KeptForm, NothingKept, TakeKept, BeginKept, Form, NodesLine, OfferLine, BeginLine, TakeLine, FallLine, ShowLine, mode_of, nodes_form, offer_form, begin_form, take_form, kept_take_form, kept_begin_form, kept_form, fall_form, show_form, form_by_word, form_of}
 use Rattle.gp_script.specs.Spelling.{mode_word}
 use Rattle.gp_script.specs.Rows.{kept_words_of, HasWords}
@@ -42,9 +41,7 @@ nodes_says (a ∷ c ∷ l ∷ x ∷ xs) form e = absurd cc
 
 offer_says : (others : List (List ℕ)) (form : Form) → offer_form others ≡ Some form → Completes (codes "offer") others form
 offer_says [] form e = absurd cc
-offer_says (node ∷ others) form e =
-    let (op, is, same) = option_map_says (OfferLine node) (op_form others) form e in
-    subst (Completes (codes "offer") (node ∷ others)) same (others, is, refl)
+offer_says (node ∷ others) form e = let same : OfferLine node others ≡ form = cc in subst (Completes (codes "offer") (node ∷ others)) same refl
 
 begin_says : (others : List (List ℕ)) (form : Form) → begin_form others ≡ Some form → Completes (codes "begin") others form
 begin_says [] form e = absurd cc
@@ -144,7 +141,7 @@ kept_read (BeginKept count mode) = ap (option_map (BeginKept count)) (mode_read 
 
 by_word_read : (form : Form) (words : List (List ℕ)) → HasWords form words → form_by_word words ≡ Some form
 by_word_read (NodesLine a c l) words has = ap form_by_word has
-by_word_read (OfferLine node op) words (others, is, has) = ap form_by_word has ∙ ap (option_map (OfferLine node)) is
+by_word_read (OfferLine node others) words has = ap form_by_word has
 by_word_read (BeginLine node count mode) words has = ap form_by_word has ∙ ap (option_map (BeginLine node count)) (mode_read mode)
 by_word_read (TakeLine node message) words has = ap form_by_word has
 by_word_read (FallLine node what) words has = ap form_by_word has ∙ ap (option_map (FallLine node)) (kept_read what)

@@ -1,6 +1,7 @@
 -- What a line says is admitted, and what is admitted has one line that says it.
-use Rattle.std.proofs.Common.{◌≡◌, ℕ, ◌<◌, ◌≤◌, ◌^◌, true, ◌&&◌, eqb, ltb, leb, List, Option, Some, None, Result, Ok, Err, refl, sym, ap, subst, arith}
+use Rattle.std.proofs.Common.{◌≡◌, ℕ, ◌<◌, ◌≤◌, ◌^◌, true, ◌&&◌, eqb, ltb, leb, List, Option, Some, None, Result, Ok, Err, refl, sym, ap, subst, ◌∙◌, arith}
 use Rattle.std.specs.Prelude.{decimal}
+use Rattle.std.specs.Option.{ok_or}
 use Rattle.std.proofs.lemmas.Bool.{and_parts, eqb-true, ltb-true, leb-true, lt-ltb, le-leb, eq-eqb}
 use Rattle.gp_round.specs.Counts.{Counts}
 use Rattle.gp_round.specs.Ranges.{AreInRange}
@@ -10,20 +11,20 @@ use Rattle.gp_msg.specs.declared.node.Node.{Node}
 use Rattle.gp_msg.specs.declared.node.Node.TheVariants.{Proposer, Coordinator, Acceptor, Learner}
 use Rattle.gp_msg.specs.declared.event.Kept.{Kept}
 use Rattle.gp_msg.specs.declared.event.Kept.TheVariants as kept
-use Rattle.gp_store.specs.declared.op.Op.{Op}
+use Rattle.gp_words.specs.Tokens.{tokens_of}
 use Rattle.gp_store.specs.declared.form.OpFault.{OpFault}
-use Rattle.gp_store.specs.Forms.{op_of_form, form_for}
-use Rattle.gp_store.proofs.ReadingLemmas.{op_read, op_again}
-use Rattle.gp_script.specs.declared.reason.Reason.TheVariants.{BadFall}
+use Rattle.gp_service.specs.Languages.{Language, IsLanguage}
+use Rattle.gp_service.proofs.Spoken.{said_spoken}
+use Rattle.gp_script.specs.declared.reason.Reason.TheVariants.{BadLine, BadFall}
 use Rattle.gp_script.specs.declared.items.Item.{Item}
 use Rattle.gp_script.specs.declared.items.Item.TheVariants.{Offer, Begin, Take, Fall, Show}
 use Rattle.gp_script.specs.Reasons.{or_reason}
 use Rattle.gp_script.specs.Names.{number, node_of, proposer_of, coordinator_of, learner_of}
 use Rattle.gp_script.specs.Forms.{KeptForm, NothingKept, TakeKept, BeginKept, Form, NodesLine, OfferLine, BeginLine, TakeLine, FallLine, ShowLine}
-use Rattle.gp_script.specs.Items.{round_of, round_count, may_fall, kept_of, node_number, fall_of, item_of}
-use Rattle.gp_script.specs.Admitted.{IsNode, CanKeep, IsAdmitted}
+use Rattle.gp_script.specs.Items.{round_of, round_count, may_fall, kept_of, node_number, fall_of, offer_of, plain_item_of, item_of}
+use Rattle.gp_script.specs.Admitted.{IsNode, CanKeep, IsInPlace, IsAdmitted}
 use Rattle.gp_script.specs.Spelling.{node_word}
-use Rattle.gp_script.proofs.Steps.{step_says, test_then}
+use Rattle.gp_script.proofs.Steps.{step_says, test_then, ok_or_says}
 use Rattle.gp_script.proofs.NameLemmas.{number_says, number_read, count_says, count_read, IsNamed, node_says, proposer_says, coordinator_says, learner_says, node_read}
 
 -- the form of the line that says an item
@@ -33,16 +34,16 @@ kept_line (Some (kept.Take message)) = TakeKept (decimal message)
 kept_line (Some (kept.Begin round)) = BeginKept (decimal round.count) round.mode
 
 abbrev pub line_for : Item → Form
-line_for (Offer proposer op) = OfferLine (node_word (Proposer proposer)) (form_for op)
+line_for (Offer proposer draft) = OfferLine (node_word (Proposer proposer)) (tokens_of draft.body)
 line_for (Begin coordinator round) = BeginLine (node_word (Coordinator coordinator)) (decimal round.count) round.mode
 line_for (Take node message) = TakeLine (node_word node) (decimal message)
 line_for (Fall node what) = FallLine (node_word node) (kept_line what)
 line_for (Show learner) = ShowLine (node_word (Learner learner))
 
 -- the form is that of the item's line, and the item is admitted
-pub record IsRead (c : Counts) (form : Form) (item : Item) : Type 0 where
+pub record IsRead (language : Language) (c : Counts) (form : Form) (item : Item) : Type 0 where
   pub same : form ≡ line_for item
-  pub admitted : IsAdmitted c item
+  pub admitted : IsAdmitted language c item
 
 -- ---- rounds
 
@@ -74,9 +75,9 @@ owned_own many n round e =
 
 -- ---- what is read is admitted
 
-or_reason_says : (r : Result Op OpFault) (op : Op) → or_reason r ≡ Ok op → r ≡ Ok op
-or_reason_says (Ok made) op e = cc
-or_reason_says (Err fault) op e = absurd cc
+or_reason_says : {X : Type 0} (r : Result X OpFault) (x : X) → or_reason r ≡ Ok x → r ≡ Ok x
+or_reason_says (Ok made) x e = cc
+or_reason_says (Err fault) x e = absurd cc
 
 -- what a crash keeps is right, whoever crashes
 abbrev IsKept : ℕ → Option Kept → Type 0
@@ -113,57 +114,73 @@ can_keep c (Learner n) None there may right = tt
 can_keep c (Learner n) (Some (kept.Take message)) there may right = absurd cc
 can_keep c (Learner n) (Some (kept.Begin round)) there may right = absurd cc
 
-fall_read : (c : Counts) (token : List ℕ) (node : Node) (form : KeptForm) (item : Item) → IsNamed c token node → fall_of node form ≡ Ok item → IsRead c (FallLine token form) item
-fall_read c token node form item named e =
+fall_read : (language : Language) (c : Counts) (token : List ℕ) (node : Node) (form : KeptForm) (item : Item) → IsNamed c token node → fall_of node form ≡ Ok item → IsRead language c (FallLine token form) item
+fall_read language c token node form item named e =
     let (may, e) = test_then (may_fall node form) _ item BadFall e in
     let (what, is, e) = step_says (kept_of (node_number node) form) _ item e in
     let read = kept_read (node_number node) form what is in
     let same : Fall node what ≡ item = cc in
-    subst (IsRead c (FallLine token form)) same (record {
+    subst (IsRead language c (FallLine token form)) same (record {
       same = cc (named.written, read.same);
       admitted = (named.there, can_keep c node what named.there (subst (λ (f : KeptForm). may_fall node f ≡ true) read.same may) read.right);
     })
 
+offer_read : (language : Language) → IsLanguage language → (c : Counts) (token : List ℕ) (words : List (List ℕ)) (item : Item) → offer_of language c token words ≡ Ok item → IsRead language c (OfferLine token words) item
+unfolding offer_of
+offer_read language spelled c token words item e =
+    let (said, is, e) = step_says (ok_or (language words) BadLine) _ item e in
+    let (proposer, of_node, e) = step_says (proposer_of c token) _ item e in
+    let (draft, of_words, e) = step_says (or_reason said) _ item e in
+    let named = proposer_says c token proposer of_node in
+    let says : language words ≡ Some (Ok draft) = ok_or_says (language words) said BadLine is ∙ ap Some (or_reason_says said draft of_words) in
+    let same : Offer proposer draft ≡ item = cc in
+    subst (IsRead language c (OfferLine token words)) same (record {
+      same = (λ i. OfferLine (named.written i) ((spelled words draft says).tokens i));
+      admitted = (named.there, said_spoken language spelled words draft says);
+    })
+
 -- a form that says an item is that of its line, and the item is admitted
-pub item_read : (c : Counts) (form : Form) (item : Item) → item_of c form ≡ Ok item → IsRead c form item
-unfolding item_of
-item_read c (NodesLine a k l) item e = absurd cc
-item_read c (OfferLine token form) item e =
-    let (proposer, is, e) = step_says (proposer_of c token) _ item e in
-    let (op, of_form, e) = step_says (or_reason (op_of_form form)) _ item e in
-    let named = proposer_says c token proposer is in
-    let read = op_read form op (or_reason_says (op_of_form form) op of_form) in
-    let same : Offer proposer op ≡ item = cc in
-    subst (IsRead c (OfferLine token form)) same (record { same = cc (named.written, read.same); admitted = (named.there, read.range) })
-item_read c (BeginLine token counted mode) item e =
+pub item_read : (language : Language) → IsLanguage language → (c : Counts) (form : Form) (item : Item) → item_of language c form ≡ Ok item → IsRead language c form item
+unfolding plain_item_of
+item_read language spelled c (NodesLine a k l) item e = absurd cc
+item_read language spelled c (OfferLine token words) item e = offer_read language spelled c token words item e
+item_read language spelled c (BeginLine token counted mode) item e =
     let (coordinator, is, e) = step_says (coordinator_of c token) _ item e in
     let (count, is_count, e) = step_says (round_count counted) _ item e in
     let named = coordinator_says c token coordinator is in
     let said = count_says 1 1000000 counted count is_count in
     let same : Begin coordinator (round_of coordinator count mode) ≡ item = cc in
-    subst (IsRead c (BeginLine token counted mode)) same (record {
+    subst (IsRead language c (BeginLine token counted mode)) same (record {
       same = cc (named.written, said.written);
       admitted = own_owned c.coordinators coordinator (round_of coordinator count mode) named.there (record { least = said.least; most = said.most; made = refl });
     })
-item_read c (TakeLine token counted) item e =
+item_read language spelled c (TakeLine token counted) item e =
     let (node, is, e) = step_says (node_of c token) _ item e in
     let (message, is_message, e) = step_says (number counted) _ item e in
     let named = node_says c token node is in
     let (written, small) = number_says counted message is_message in
     let same : Take node message ≡ item = cc in
-    subst (IsRead c (TakeLine token counted)) same (record { same = cc (named.written, written); admitted = (named.there, small) })
-item_read c (FallLine token form) item e =
+    subst (IsRead language c (TakeLine token counted)) same (record { same = cc (named.written, written); admitted = (named.there, small) })
+item_read language spelled c (FallLine token form) item e =
     let (node, is, e) = step_says (node_of c token) _ item e in
-    fall_read c token node form item (node_says c token node is) e
-item_read c (ShowLine token) item e =
+    fall_read language c token node form item (node_says c token node is) e
+item_read language spelled c (ShowLine token) item e =
     let (learner, is, e) = step_says (learner_of c token) _ item e in
     let named = learner_says c token learner is in
     let same : Show learner ≡ item = cc in
-    subst (IsRead c (ShowLine token)) same (record { same = ap ShowLine named.written; admitted = named.there })
+    subst (IsRead language c (ShowLine token)) same (record { same = ap ShowLine named.written; admitted = named.there })
 
 -- what a line says is admitted
-pub item_admitted : (c : Counts) (form : Form) (item : Item) → item_of c form ≡ Ok item → IsAdmitted c item
-item_admitted c form item e = (item_read c form item e).admitted
+pub item_admitted : (language : Language) → IsLanguage language → (c : Counts) (form : Form) (item : Item) → item_of language c form ≡ Ok item → IsAdmitted language c item
+item_admitted language spelled c form item e = (item_read language spelled c form item e).admitted
+
+-- what is admitted is in place
+pub in_place : (language : Language) (c : Counts) (item : Item) → IsAdmitted language c item → IsInPlace c item
+in_place language c (Offer proposer draft) a = a.0
+in_place language c (Begin coordinator round) a = a
+in_place language c (Take node message) a = a
+in_place language c (Fall node what) a = a
+in_place language c (Show learner) a = a
 
 -- ---- what is admitted is read
 
@@ -182,13 +199,13 @@ fall_again c (Learner n) (Some (kept.Take message)) can = absurd can
 fall_again c (Learner n) (Some (kept.Begin round)) can = absurd can
 
 -- the form of an admitted item's line says the item
-pub item_again : (c : Counts) (item : Item) → AreInRange c.acceptors c.coordinators c.learners → IsAdmitted c item → item_of c (line_for item) ≡ Ok item
-unfolding item_of
-item_again c (Offer proposer op) range a = rw (node_read c (Proposer proposer) range a.0, op_again op a.1) refl
-item_again c (Begin coordinator round) range a =
+pub item_again : (language : Language) (c : Counts) (item : Item) → AreInRange c.acceptors c.coordinators c.learners → IsAdmitted language c item → item_of language c (line_for item) ≡ Ok item
+unfolding offer_of plain_item_of
+item_again language c (Offer proposer draft) range a = rw (a.1, node_read c (Proposer proposer) range a.0) refl
+item_again language c (Begin coordinator round) range a =
     let own = owned_own c.coordinators coordinator round a in
     rw (node_read c (Coordinator coordinator) range (owner_there c.coordinators coordinator round a), count_read 1 1000000 round.count (let most = own.most in omega arith) own.least own.most)
     (ap (λ (r : Round). Ok (Begin coordinator r)) own.made)
-item_again c (Take node message) range a = rw (node_read c node range a.0, number_read message a.1) refl
-item_again c (Fall node what) range a = rw (node_read c node range a.0) (fall_again c node what a.1)
-item_again c (Show learner) range a = rw (node_read c (Learner learner) range a) refl
+item_again language c (Take node message) range a = rw (node_read c node range a.0, number_read message a.1) refl
+item_again language c (Fall node what) range a = rw (node_read c node range a.0) (fall_again c node what a.1)
+item_again language c (Show learner) range a = rw (node_read c (Learner learner) range a) refl

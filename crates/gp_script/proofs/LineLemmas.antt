@@ -1,6 +1,6 @@
 -- The line of an item: its words, and how long it is.
-use Rattle.std.proofs.Common.{◌≡◌, ◌≢◌, ℕ, ◌+◌, ◌<◌, ◌≤◌, ◌^◌, Bool, true, false, not, eqb, List, [], ◌∷◌, ◌++◌, length, Option, Some, None, refl, sym, ap, subst, ◌∙◌, arith, append_assoc, length-append}
-use Rattle.std.specs.Prelude.{decimal, codes}
+use Rattle.std.proofs.Common.{◌≡◌, ◌≢◌, ℕ, ◌+◌, ◌<◌, ◌≤◌, ◌^◌, Bool, true, false, not, eqb, List, [], ◌∷◌, ◌++◌, length, take, drop, Option, Some, None, refl, sym, ap, subst, ◌∙◌, arith, append_assoc, length-append}
+use Rattle.std.specs.Prelude.{decimal, codes, position}
 use Rattle.std.specs.List.{AllByRecursion}
 use Rattle.std.proofs.lemmas.Bool.{and_from, ne_eqb}
 use Rattle.std.proofs.lemmas.Fmt.{decimal_nonempty, length-decimal-le}
@@ -21,13 +21,8 @@ use Rattle.gp_words.specs.Lines.{is_line_feed}
 use Rattle.gp_words.specs.Spacing.{joined}
 use Rattle.gp_words.specs.Tokens.{is_space, tokens_of, has_empty}
 use Rattle.gp_words.proofs.NumberLemmas.{decimal_spaceless, decimal_feedless, decimal_short}
-use Rattle.gp_words.proofs.TokenLemmas.{tokens_split, joined_tokens}
-use Rattle.gp_store.specs.declared.op.Op.{Op}
-use Rattle.gp_store.specs.declared.op.Op.TheVariants.{Put, Add, Get, Del, Cas, Copy, Checkpoint}
-use Rattle.gp_store.specs.Operations.{IsOp, op_words, op_text}
-use Rattle.gp_store.specs.Forms.{form_for}
-use Rattle.gp_store.proofs.SpellingLemmas.{words_spaceless, words_some, text_feedless, text_short}
-use Rattle.gp_store.proofs.ReadingLemmas.{form_again, op_again, words_read}
+use Rattle.gp_words.proofs.TokenLemmas.{token_then, tokens_split, joined_tokens, split_at_space, split_nowhere}
+use Rattle.gp_service.specs.Languages.{Language, IsLanguage, IsSpelled}
 use Rattle.gp_script.specs.declared.items.Item.{Item}
 use Rattle.gp_script.specs.declared.items.Item.TheVariants.{Offer, Begin, Take, Fall, Show}
 use Rattle.gp_script.specs.Forms.{Form, form_of}
@@ -40,14 +35,14 @@ use Rattle.gp_script.proofs.ItemLemmas.{owned_own, owner_there, kept_line, line_
 
 -- the words of an item's line
 abbrev pub item_words : Item → List (List ℕ)
-item_words (Offer proposer op) = codes "offer" ∷ node_word (Proposer proposer) ∷ op_words op
+item_words (Offer proposer draft) = codes "offer" ∷ node_word (Proposer proposer) ∷ tokens_of draft.body
 item_words (Begin coordinator round) = codes "begin" ∷ node_word (Coordinator coordinator) ∷ decimal round.count ∷ mode_word round.mode ∷ []
 item_words (Take node message) = codes "take" ∷ node_word node ∷ decimal message ∷ []
 item_words (Fall node what) = codes "fall" ∷ node_word node ∷ kept_words_of (kept_line what)
 item_words (Show learner) = codes "show" ∷ node_word (Learner learner) ∷ []
 
 words_there : (item : Item) → item_words item ≢ []
-words_there (Offer proposer op) e = cc
+words_there (Offer proposer draft) e = cc
 words_there (Begin coordinator round) e = cc
 words_there (Take node message) e = cc
 words_there (Fall node what) e = cc
@@ -58,17 +53,26 @@ words_there (Show learner) e = cc
 pub spaced_apart : (w t : List ℕ) → w ++ 32 ∷ t ≡ w ++ codes " " ++ t
 spaced_apart w t = sym (append_assoc w (codes " ") t)
 
-behind_word : (w : List ℕ) (op : Op) → joined (w ∷ op_words op) ≡ w ++ 32 ∷ op_text op
-behind_word w (Put key value) = refl
-behind_word w (Add key value) = refl
-behind_word w (Get key) = refl
-behind_word w (Del key) = refl
-behind_word w (Cas key old new) = refl
-behind_word w (Copy from into) = refl
-behind_word w Checkpoint = refl
+-- the tokens of a text begin with one
+record HasFirst (tokens : List (List ℕ)) : Type 0 where
+  first : List ℕ
+  others : List (List ℕ)
+  is : tokens ≡ first ∷ others
+
+first_by : (text : List ℕ) (o : Option ℕ) → position is_space text ≡ o → HasFirst (tokens_of text)
+first_by text None e = record { first = text; others = []; is = split_nowhere text e }
+first_by text (Some place) e = record { first = take place text; others = tokens_of (drop (place + 1) text); is = split_at_space text place e }
+
+behind_word : (w text : List ℕ) → joined (w ∷ tokens_of text) ≡ w ++ 32 ∷ text
+behind_word w text =
+    let f = first_by text (position is_space text) refl in
+    let whole : joined (f.first ∷ f.others) ≡ text = sym (ap joined f.is) ∙ joined_tokens text in
+    ap (λ (ts : List (List ℕ)). joined (w ∷ ts)) f.is ∙ ap (λ (t : List ℕ). w ++ 32 ∷ t) whole
 
 words_joined : (item : Item) → joined (item_words item) ≡ item_line item
-words_joined (Offer proposer op) = ap (λ (t : List ℕ). codes "offer " ++ t) (behind_word (node_word (Proposer proposer)) op ∙ spaced_apart (node_word (Proposer proposer)) (op_text op))
+words_joined (Offer proposer draft) =
+    let node = node_word (Proposer proposer) in
+    ap (λ (t : List ℕ). codes "offer " ++ t) (behind_word node draft.body ∙ spaced_apart node draft.body)
 words_joined (Begin coordinator round) =
     let round_apart = spaced_apart (decimal round.count) (mode_word round.mode) in
     let node = node_word (Coordinator coordinator) in
@@ -126,14 +130,14 @@ mode_some Single = refl
 mode_some Multi = refl
 mode_some Fast = refl
 
--- the numbers of an item that is admitted are below 2^64
+-- the numbers of an item that is admitted are below 2^64, and a draft that it offers is spelled in its body
 abbrev KeptFits : Option Kept → Type 0
 KeptFits None = Unit {0}
 KeptFits (Some (kept.Take message)) = message < 2 ^ 64
 KeptFits (Some (kept.Begin round)) = round.count < 2 ^ 64
 
 abbrev ItemFits : Item → Type 0
-ItemFits (Offer proposer op) = (proposer < 2 ^ 64) × IsOp op
+ItemFits (Offer proposer draft) = (proposer < 2 ^ 64) × IsSpelled (tokens_of draft.body) draft
 ItemFits (Begin coordinator round) = (coordinator < 2 ^ 64) × (round.count < 2 ^ 64)
 ItemFits (Take node message) = (node_number node < 2 ^ 64) × (message < 2 ^ 64)
 ItemFits (Fall node what) = (node_number node < 2 ^ 64) × KeptFits what
@@ -151,24 +155,29 @@ kept_fits c (Acceptor n) (Some (kept.Take message)) can = can
 kept_fits c (Acceptor n) (Some (kept.Begin round)) can = absurd can
 kept_fits c (Learner n) (Some what) can = absurd can
 
-item_fits : (c : Counts) (item : Item) → AreInRange c.acceptors c.coordinators c.learners → IsAdmitted c item → ItemFits item
-item_fits c (Offer proposer op) range a = (number_small c (Proposer proposer) range a.0, a.1)
-item_fits c (Begin coordinator round) range a = (number_small c (Coordinator coordinator) range (owner_there c.coordinators coordinator round a), count_fits c.coordinators coordinator round a)
-item_fits c (Take node message) range a = (number_small c node range a.0, a.1)
-item_fits c (Fall node what) range a = (number_small c node range a.0, kept_fits c node what a.1)
-item_fits c (Show learner) range a = number_small c (Learner learner) range a
+item_fits : (language : Language) → IsLanguage language → (c : Counts) (item : Item) → AreInRange c.acceptors c.coordinators c.learners → IsAdmitted language c item → ItemFits item
+item_fits language spelled c (Offer proposer draft) range a = (number_small c (Proposer proposer) range a.0, spelled (tokens_of draft.body) draft a.1)
+item_fits language spelled c (Begin coordinator round) range a = (number_small c (Coordinator coordinator) range (owner_there c.coordinators coordinator round a), count_fits c.coordinators coordinator round a)
+item_fits language spelled c (Take node message) range a = (number_small c node range a.0, a.1)
+item_fits language spelled c (Fall node what) range a = (number_small c node range a.0, kept_fits c node what a.1)
+item_fits language spelled c (Show learner) range a = number_small c (Learner learner) range a
 
 kept_spaceless : (what : Option Kept) → KeptFits what → AllByRecursion (Lacks is_space) (kept_words_of (kept_line what))
 kept_spaceless None f = tt
 kept_spaceless (Some (kept.Take message)) f = (refl, (decimal_spaceless message f, tt))
 kept_spaceless (Some (kept.Begin round)) f = (refl, (decimal_spaceless round.count f, (mode_spaceless round.mode, tt)))
 
-item_spaceless : (item : Item) → ItemFits item → AllByRecursion (Lacks is_space) (item_words item)
-item_spaceless (Offer proposer op) f = (refl, (node_spaceless (Proposer proposer) f.0, words_spaceless op f.1))
-item_spaceless (Begin coordinator round) f = (refl, (node_spaceless (Coordinator coordinator) f.0, (decimal_spaceless round.count f.1, (mode_spaceless round.mode, tt))))
-item_spaceless (Take node message) f = (refl, (node_spaceless node f.0, (decimal_spaceless message f.1, tt)))
-item_spaceless (Fall node what) f = (refl, (node_spaceless node f.0, kept_spaceless what f.1))
-item_spaceless (Show learner) f = (refl, (node_spaceless (Learner learner) f, tt))
+-- the words are the tokens of what they make with single spaces between
+words_apart : (item : Item) → ItemFits item → tokens_of (joined (item_words item)) ≡ item_words item
+words_apart (Offer proposer draft) f =
+    let node = node_word (Proposer proposer) in
+    ap (λ (t : List ℕ). tokens_of (codes "offer " ++ t)) (behind_word node draft.body)
+    ∙ token_then (codes "offer") (node ++ 32 ∷ draft.body) refl
+    ∙ ap (λ (ts : List (List ℕ)). codes "offer" ∷ ts) (token_then node draft.body (node_spaceless (Proposer proposer) f.0))
+words_apart (Begin coordinator round) f = tokens_split (item_words (Begin coordinator round)) (words_there (Begin coordinator round)) (refl, (node_spaceless (Coordinator coordinator) f.0, (decimal_spaceless round.count f.1, (mode_spaceless round.mode, tt))))
+words_apart (Take node message) f = tokens_split (item_words (Take node message)) (words_there (Take node message)) (refl, (node_spaceless node f.0, (decimal_spaceless message f.1, tt)))
+words_apart (Fall node what) f = tokens_split (item_words (Fall node what)) (words_there (Fall node what)) (refl, (node_spaceless node f.0, kept_spaceless what f.1))
+words_apart (Show learner) f = tokens_split (item_words (Show learner)) (words_there (Show learner)) (refl, (node_spaceless (Learner learner) f, tt))
 
 kept_some : (what : Option Kept) → KeptFits what → has_empty (kept_words_of (kept_line what)) ≡ false
 kept_some None f = refl
@@ -176,7 +185,7 @@ kept_some (Some (kept.Take message)) f = rw (number_some message f) refl
 kept_some (Some (kept.Begin round)) f = rw (number_some round.count f, mode_some round.mode) refl
 
 item_some : (item : Item) → ItemFits item → has_empty (item_words item) ≡ false
-item_some (Offer proposer op) f = rw (node_some (Proposer proposer)) (words_some op f.1)
+item_some (Offer proposer draft) f = rw (node_some (Proposer proposer)) f.1.some
 item_some (Begin coordinator round) f = rw (node_some (Coordinator coordinator), number_some round.count f.1, mode_some round.mode) refl
 item_some (Take node message) f = rw (node_some node, number_some message f.1) refl
 item_some (Fall node what) f = rw (node_some node) (kept_some what f.1)
@@ -185,43 +194,44 @@ item_some (Show learner) f = rw (node_some (Learner learner)) refl
 -- ---- the line says the item, and no other line does
 
 has_its_words : (item : Item) → HasWords (line_for item) (item_words item)
-has_its_words (Offer proposer op) = (op_words op, form_again op, refl)
+has_its_words (Offer proposer draft) = refl
 has_its_words (Begin coordinator round) = refl
 has_its_words (Take node message) = refl
 has_its_words (Fall node what) = refl
 has_its_words (Show learner) = refl
 
 tokens_of_fitting : (item : Item) → ItemFits item → tokens_of (item_line item) ≡ item_words item
-tokens_of_fitting item f = ap tokens_of (sym (words_joined item)) ∙ tokens_split (item_words item) (words_there item) (item_spaceless item f)
+tokens_of_fitting item f = ap tokens_of (sym (words_joined item)) ∙ words_apart item f
 
--- the tokens of an admitted item's line are its words
-pub line_tokens : (c : Counts) (item : Item) → AreInRange c.acceptors c.coordinators c.learners → IsAdmitted c item → tokens_of (item_line item) ≡ item_words item
-line_tokens c item range a = tokens_of_fitting item (item_fits c item range a)
+only_words : (item : Item) (words : List (List ℕ)) → HasWords (line_for item) words → words ≡ item_words item
+only_words (Offer proposer draft) words same = same
+only_words (Begin coordinator round) words same = same
+only_words (Take node message) words same = same
+only_words (Fall node what) words same = same
+only_words (Show learner) words same = same
 
--- the line of an admitted item says the item
-pub line_says : (c : Counts) (item : Item) → AreInRange c.acceptors c.coordinators c.learners → IsAdmitted c item → SaysItem c (tokens_of (item_line item)) item
-line_says c item range a =
-    let f = item_fits c item range a in
-    record {
-      form = line_for item;
-      of_tokens = ap form_of (tokens_of_fitting item f) ∙ form_read (line_for item) (item_words item) (item_some item f) (has_its_words item);
-      said = item_again c item range a;
-    }
+module _ (language : Language) (spelled : IsLanguage language) where
+  -- the tokens of an admitted item's line are its words
+  pub line_tokens : (c : Counts) (item : Item) → AreInRange c.acceptors c.coordinators c.learners → IsAdmitted language c item → tokens_of (item_line item) ≡ item_words item
+  line_tokens c item range a = tokens_of_fitting item (item_fits language spelled c item range a)
 
-only_words : (c : Counts) (item : Item) (words : List (List ℕ)) → IsAdmitted c item → HasWords (line_for item) words → words ≡ item_words item
-only_words c (Offer proposer op) words a (others, is, same) = same ∙ ap (λ (ws : List (List ℕ)). codes "offer" ∷ node_word (Proposer proposer) ∷ ws) (words_read others (form_for op) op is (op_again op a.1))
-only_words c (Begin coordinator round) words a same = same
-only_words c (Take node message) words a same = same
-only_words c (Fall node what) words a same = same
-only_words c (Show learner) words a same = same
+  -- the line of an admitted item says the item
+  pub line_says : (c : Counts) (item : Item) → AreInRange c.acceptors c.coordinators c.learners → IsAdmitted language c item → SaysItem language c (tokens_of (item_line item)) item
+  line_says c item range a =
+      let f = item_fits language spelled c item range a in
+      record {
+        form = line_for item;
+        of_tokens = ap form_of (tokens_of_fitting item f) ∙ form_read (line_for item) (item_words item) (item_some item f) (has_its_words item);
+        said = item_again language c item range a;
+      }
 
--- a text that says an item is the item's line
-pub only_line : (c : Counts) (text : List ℕ) (item : Item) → SaysItem c (tokens_of text) item → text ≡ item_line item
-only_line c text item says =
-    let read = item_read c says.form item says.said in
-    let has = (form_says (tokens_of text) says.form says.of_tokens).1 in
-    let words = only_words c item (tokens_of text) read.admitted (subst (λ (form : Form). HasWords form (tokens_of text)) read.same has) in
-    sym (joined_tokens text) ∙ ap joined words ∙ words_joined item
+  -- a text that says an item is the item's line
+  pub only_line : (c : Counts) (text : List ℕ) (item : Item) → SaysItem language c (tokens_of text) item → text ≡ item_line item
+  only_line c text item says =
+      let read = item_read language spelled c says.form item says.said in
+      let has = (form_says (tokens_of text) says.form says.of_tokens).1 in
+      let words = only_words item (tokens_of text) (subst (λ (form : Form). HasWords form (tokens_of text)) read.same has) in
+      sym (joined_tokens text) ∙ ap joined words ∙ words_joined item
 
 -- ---- the line has no line feed, and is short
 
@@ -244,14 +254,14 @@ kept_feedless (Some (kept.Take message)) f = decimal_feedless message f
 kept_feedless (Some (kept.Begin round)) f = round_feedless round f
 
 line_lacks : (item : Item) → ItemFits item → Lacks is_line_feed (item_line item)
-line_lacks (Offer proposer op) f = feedless_apart (node_word (Proposer proposer)) (op_text op) (node_feedless (Proposer proposer) f.0) (text_feedless op f.1)
+line_lacks (Offer proposer draft) f = feedless_apart (node_word (Proposer proposer)) draft.body (node_feedless (Proposer proposer) f.0) f.1.feedless
 line_lacks (Begin coordinator round) f = feedless_apart (node_word (Coordinator coordinator)) (round_words round) (node_feedless (Coordinator coordinator) f.0) (round_feedless round f.1)
 line_lacks (Take node message) f = feedless_apart (node_word node) (decimal message) (node_feedless node f.0) (decimal_feedless message f.1)
 line_lacks (Fall node what) f = lacks_append is_line_feed (node_word node) (kept_words what) (node_feedless node f.0) (kept_feedless what f.1)
 line_lacks (Show learner) f = decimal_feedless learner f
 
-pub line_feedless : (c : Counts) (item : Item) → AreInRange c.acceptors c.coordinators c.learners → IsAdmitted c item → Lacks is_line_feed (item_line item)
-line_feedless c item range a = line_lacks item (item_fits c item range a)
+pub line_feedless : (language : Language) → IsLanguage language → (c : Counts) (item : Item) → AreInRange c.acceptors c.coordinators c.learners → IsAdmitted language c item → Lacks is_line_feed (item_line item)
+line_feedless language spelled c item range a = line_lacks item (item_fits language spelled c item range a)
 
 -- ---- how long the line is
 
@@ -286,25 +296,25 @@ kept_short c (Acceptor n) (Some (kept.Begin round)) can = absurd can
 kept_short c (Learner n) (Some what) can = absurd can
 
 -- the line of an admitted item has no more bytes than its row of the table allows
-pub line_short : (c : Counts) (item : Item) → AreInRange c.acceptors c.coordinators c.learners → IsAdmitted c item → length (item_line item) ≤ longest_line item
-line_short c (Offer proposer op) range a =
-    let sum = length_apart (node_word (Proposer proposer)) (op_text op) in
+pub line_short : (language : Language) → IsLanguage language → (c : Counts) (item : Item) → AreInRange c.acceptors c.coordinators c.learners → IsAdmitted language c item → length (item_line item) ≤ longest_line item
+line_short language spelled c (Offer proposer draft) range a =
+    let sum = length_apart (node_word (Proposer proposer)) draft.body in
     let node = node_short c (Proposer proposer) range a.0 in
-    let op = text_short op a.1 in
+    let short = (spelled (tokens_of draft.body) draft a.1).short in
     omega arith
-line_short c (Begin coordinator round) range a =
+line_short language spelled c (Begin coordinator round) range a =
     let sum = length_apart (node_word (Coordinator coordinator)) (round_words round) in
     let node = node_short c (Coordinator coordinator) range (owner_there c.coordinators coordinator round a) in
     let words = round_short c.coordinators coordinator round a in
     omega arith
-line_short c (Take node message) range a =
+line_short language spelled c (Take node message) range a =
     let sum = length_apart (node_word node) (decimal message) in
     let node = node_short c node range a.0 in
     let number = decimal_short message a.1 in
     omega arith
-line_short c (Fall node what) range a =
+line_short language spelled c (Fall node what) range a =
     let sum = length-append (node_word node) (kept_words what) in
     let words = kept_short c node what a.1 in
     let node = node_short c node range a.0 in
     omega arith
-line_short c (Show learner) range a = let node = node_short c (Learner learner) range a in omega arith
+line_short language spelled c (Show learner) range a = let node = node_short c (Learner learner) range a in omega arith

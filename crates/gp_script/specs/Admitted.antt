@@ -6,7 +6,7 @@ use Rattle.gp_msg.specs.declared.node.Node.{Node}
 use Rattle.gp_msg.specs.declared.node.Node.TheVariants.{Proposer, Coordinator, Acceptor, Learner}
 use Rattle.gp_msg.specs.declared.event.Kept.{Kept}
 use Rattle.gp_msg.specs.declared.event.Kept.TheVariants as kept
-use Rattle.gp_store.specs.Operations.{IsOp}
+use Rattle.gp_service.specs.Languages.{Language, IsSpoken}
 use Rattle.gp_script.specs.declared.items.Item.{Item}
 use Rattle.gp_script.specs.declared.items.Item.TheVariants.{Offer, Begin, Take, Fall, Show}
 
@@ -30,9 +30,17 @@ CanKeep c (Learner n) None = Unit {0}
 CanKeep c (Learner n) (Some what) = ⊥
 
 -- the nodes are of the configuration, a begun round is its coordinator's own, and a crash is of a kind that can be
-abbrev pub IsAdmitted : Counts → Item → Type 0
-IsAdmitted c (Offer proposer op) = (proposer < 8) × IsOp op
-IsAdmitted c (Begin coordinator round) = IsTrue (is_owner c.coordinators coordinator round)
-IsAdmitted c (Take node message) = IsNode c node × (message < 2 ^ 64)
-IsAdmitted c (Fall node what) = IsNode c node × CanKeep c node what
-IsAdmitted c (Show learner) = learner < c.learners
+abbrev pub IsInPlace : Counts → Item → Type 0
+IsInPlace c (Offer proposer draft) = proposer < 8
+IsInPlace c (Begin coordinator round) = IsTrue (is_owner c.coordinators coordinator round)
+IsInPlace c (Take node message) = IsNode c node × (message < 2 ^ 64)
+IsInPlace c (Fall node what) = IsNode c node × CanKeep c node what
+IsInPlace c (Show learner) = learner < c.learners
+
+-- the same, and a draft that is offered is that of an operation of the language
+abbrev pub IsAdmitted : Language → Counts → Item → Type 0
+IsAdmitted language c (Offer proposer draft) = (proposer < 8) × IsSpoken language draft
+IsAdmitted language c (Begin coordinator round) = IsInPlace c (Begin coordinator round)
+IsAdmitted language c (Take node message) = IsInPlace c (Take node message)
+IsAdmitted language c (Fall node what) = IsInPlace c (Fall node what)
+IsAdmitted language c (Show learner) = IsInPlace c (Show learner)

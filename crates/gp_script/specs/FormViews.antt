@@ -1,5 +1,5 @@
 -- Forms without where their tokens lie in memory.
-use Rattle.gp_store.specs.FormViews as operation
+use Rattle.gp_words.specs.Tokens.{texts}
 use Rattle.gp_script.specs.declared.forms.Form.{Form}
 use Rattle.gp_script.specs.declared.forms.Form.TheVariants as line
 use Rattle.gp_script.specs.declared.forms.KeptForm.{KeptForm}
@@ -15,7 +15,7 @@ kept_view (kept.Begin count mode) = forms.BeginKept count.now mode
 -- a row of the table
 abbrev pub form_view : Form → forms.Form
 form_view (line.Nodes acceptors coordinators learners) = forms.NodesLine acceptors.now coordinators.now learners.now
-form_view (line.Offer node op) = forms.OfferLine node.now (operation.form_view op)
+form_view (line.Offer node words) = forms.OfferLine node.now (texts words.now)
 form_view (line.Begin node count mode) = forms.BeginLine node.now count.now mode
 form_view (line.Take node message) = forms.TakeLine node.now message.now
 form_view (line.Fall node what) = forms.FallLine node.now (kept_view what)

@@ -4,7 +4,6 @@ use Rattle.std.specs.Str.{bytes_eq}
 use Rattle.gp_round.specs.declared.round.Mode.{Mode}
 use Rattle.gp_round.specs.declared.round.Mode.TheVariants.{Single, Multi, Fast}
 use Rattle.gp_words.specs.Tokens.{has_empty}
-use Rattle.gp_store.specs.Forms.{OpForm, op_form}
 
 -- what a crash keeps: nothing, the step that took a message, or the step that began a round
 pub data KeptForm : Type 0 where
@@ -12,10 +11,10 @@ pub data KeptForm : Type 0 where
   TakeKept : List ℕ → KeptForm
   BeginKept : List ℕ → Mode → KeptForm
 
--- a row of the table, with the tokens that stand for names and numbers
+-- a row of the table, with the tokens that stand for names and numbers; behind the node of an offer stand the words of its operation
 pub data Form : Type 0 where
   NodesLine : List ℕ → List ℕ → List ℕ → Form
-  OfferLine : List ℕ → OpForm → Form
+  OfferLine : List ℕ → List (List ℕ) → Form
   BeginLine : List ℕ → List ℕ → Mode → Form
   TakeLine : List ℕ → List ℕ → Form
   FallLine : List ℕ → KeptForm → Form
@@ -37,7 +36,7 @@ nodes_form _ = None
 -- behind `offer` stand a node and the words of an operation
 abbrev pub offer_form : List (List ℕ) → Option Form
 offer_form [] = None
-offer_form (node ∷ words) = option_map (OfferLine node) (op_form words)
+offer_form (node ∷ words) = Some (OfferLine node words)
 
 -- behind `begin` stand a node, a count and a mode
 abbrev pub begin_form : List (List ℕ) → Option Form

@@ -1,5 +1,6 @@
 -- What a line says: its tokens from left to right.
 use Rattle.std.specs.Prelude.{ℕ, Bool, true, false, List, Option, Some, None, Result, Ok, Err, if◌then◌else◌}
+use Rattle.std.specs.Option.{ok_or}
 use Rattle.gp_round.specs.Counts.{Counts}
 use Rattle.gp_round.specs.Configs.{lead_of}
 use Rattle.gp_round.specs.declared.round.Mode.{Mode}
@@ -9,7 +10,7 @@ use Rattle.gp_msg.specs.declared.node.Node.TheVariants.{Proposer, Coordinator, A
 use Rattle.gp_msg.specs.declared.event.Kept.{Kept}
 use Rattle.gp_msg.specs.declared.event.Kept.TheVariants as kept
 use Rattle.gp_words.specs.Results.{◌>>=◌}
-use Rattle.gp_store.specs.Forms.{op_of_form}
+use Rattle.gp_service.specs.Languages.{Language}
 use Rattle.gp_script.specs.declared.reason.Reason.{Reason}
 use Rattle.gp_script.specs.declared.reason.Reason.TheVariants.{BadLine, BadFall}
 use Rattle.gp_script.specs.declared.items.Item.{Item}
@@ -59,27 +60,41 @@ abbrev pub fall_of : Node → KeptForm → Result Item Reason
 fall_of node form =
     if may_fall node form then (kept_of (node_number node) form >>= (λ kept. Ok (Fall node kept))) else Err BadFall
 
--- what a line behind the `nodes` line says
-unfoldable pub item_of : Counts → Form → Result Item Reason
-item_of c (NodesLine acceptors coordinators learners) = Err BadLine
-item_of c (OfferLine node form) = do
+-- what an offer of these words says in a language
+unfoldable pub offer_of : Language → Counts → List ℕ → List (List ℕ) → Result Item Reason
+offer_of language c node words = do
+  said ← ok_or (language words) BadLine
   proposer ← proposer_of c node
-  op ← or_reason (op_of_form form)
-  Ok (Offer proposer op)
-item_of c (BeginLine node count mode) = do
+  draft ← or_reason said
+  Ok (Offer proposer draft)
+
+-- what a line says that is neither the `nodes` line nor an offer
+unfoldable pub plain_item_of : Counts → Form → Result Item Reason
+plain_item_of c (NodesLine acceptors coordinators learners) = Err BadLine
+plain_item_of c (OfferLine node words) = Err BadLine
+plain_item_of c (BeginLine node count mode) = do
   coordinator ← coordinator_of c node
   n ← round_count count
   Ok (Begin coordinator (round_of coordinator n mode))
-item_of c (TakeLine node message) = do
+plain_item_of c (TakeLine node message) = do
   n ← node_of c node
   m ← number message
   Ok (Take n m)
-item_of c (FallLine node form) = do
+plain_item_of c (FallLine node form) = do
   n ← node_of c node
   fall_of n form
-item_of c (ShowLine node) = do
+plain_item_of c (ShowLine node) = do
   learner ← learner_of c node
   Ok (Show learner)
+
+-- what a line behind the `nodes` line says in a language
+abbrev pub item_of : Language → Counts → Form → Result Item Reason
+item_of language c (NodesLine acceptors coordinators learners) = Err BadLine
+item_of language c (OfferLine node words) = offer_of language c node words
+item_of language c (BeginLine node count mode) = plain_item_of c (BeginLine node count mode)
+item_of language c (TakeLine node message) = plain_item_of c (TakeLine node message)
+item_of language c (FallLine node form) = plain_item_of c (FallLine node form)
+item_of language c (ShowLine node) = plain_item_of c (ShowLine node)
 
 -- what the `nodes` line says
 unfoldable pub counts_of : Form → Result Counts Reason
@@ -88,7 +103,7 @@ counts_of (NodesLine acceptors coordinators learners) = do
   c ← count_of 1 5 coordinators
   l ← count_of 1 4 learners
   Ok (record { acceptors = a; coordinators = c; learners = l })
-counts_of (OfferLine node form) = Err BadLine
+counts_of (OfferLine node words) = Err BadLine
 counts_of (BeginLine node count mode) = Err BadLine
 counts_of (TakeLine node message) = Err BadLine
 counts_of (FallLine node form) = Err BadLine

@@ -6,3 +6,4 @@ pub mod Items
 pub mod Admitted
 pub mod Spelling
 pub mod Rows
+pub mod Faults

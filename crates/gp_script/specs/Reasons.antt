@@ -1,6 +1,5 @@
 -- Why what a line's words say is refused.
 use Rattle.std.specs.Prelude.{Result, Ok, Err}
-use Rattle.gp_store.specs.declared.op.Op.{Op}
 use Rattle.gp_store.specs.declared.form.OpFault.{OpFault}
 use Rattle.gp_store.specs.declared.form.OpFault.TheVariants as fault
 use Rattle.gp_script.specs.declared.reason.Reason.{Reason}
@@ -11,7 +10,7 @@ abbrev pub fault_reason : OpFault → Reason
 fault_reason fault.BadKey = BadKey
 fault_reason fault.BadNumber = BadNumber
 
--- the operation, or why the line is refused
-abbrev pub or_reason : Result Op OpFault → Result Op Reason
-or_reason (Ok op) = Ok op
+-- what an operation's words say, or why the line is refused
+abbrev pub or_reason : {X : Type 0} → Result X OpFault → Result X Reason
+or_reason (Ok x) = Ok x
 or_reason (Err fault) = Err (fault_reason fault)

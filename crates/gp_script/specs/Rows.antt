@@ -1,6 +1,5 @@
 -- The rows of the table of lines, by their words.
-use Rattle.std.specs.Prelude.{◌≡◌, ℕ, List, [], ◌∷◌, Some, codes}
-use Rattle.gp_store.specs.Forms.{op_form}
+use Rattle.std.specs.Prelude.{◌≡◌, ℕ, List, [], ◌∷◌, codes}
 use Rattle.gp_script.specs.Forms.{KeptForm, NothingKept, TakeKept, BeginKept, Form, NodesLine, OfferLine, BeginLine, TakeLine, FallLine, ShowLine}
 use Rattle.gp_script.specs.Spelling.{mode_word}
 
@@ -10,10 +9,10 @@ kept_words_of NothingKept = []
 kept_words_of (TakeKept message) = codes "take" ∷ message ∷ []
 kept_words_of (BeginKept count mode) = codes "begin" ∷ count ∷ mode_word mode ∷ []
 
--- these are the words of the row; those behind the node of an offer are those of its operation
+-- these are the words of the row; behind the node of an offer stand those of an operation
 abbrev pub HasWords : Form → List (List ℕ) → Type 0
 HasWords (NodesLine acceptors coordinators learners) words = words ≡ codes "nodes" ∷ acceptors ∷ coordinators ∷ learners ∷ []
-HasWords (OfferLine node op) words = (others : List (List ℕ)) × (op_form others ≡ Some op) × (words ≡ codes "offer" ∷ node ∷ others)
+HasWords (OfferLine node others) words = words ≡ codes "offer" ∷ node ∷ others
 HasWords (BeginLine node count mode) words = words ≡ codes "begin" ∷ node ∷ count ∷ mode_word mode ∷ []
 HasWords (TakeLine node message) words = words ≡ codes "take" ∷ node ∷ message ∷ []
 HasWords (FallLine node what) words = words ≡ codes "fall" ∷ node ∷ kept_words_of what

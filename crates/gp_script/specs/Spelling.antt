@@ -8,7 +8,7 @@ use Rattle.gp_msg.specs.declared.node.Node.{Node}
 use Rattle.gp_msg.specs.declared.node.Node.TheVariants.{Proposer, Coordinator, Acceptor, Learner}
 use Rattle.gp_msg.specs.declared.event.Kept.{Kept}
 use Rattle.gp_msg.specs.declared.event.Kept.TheVariants as kept
-use Rattle.gp_store.specs.Operations.{op_text}
+use Rattle.gp_service.specs.Languages.{Language}
 use Rattle.gp_script.specs.declared.items.Item.{Item}
 use Rattle.gp_script.specs.declared.items.Item.TheVariants.{Offer, Begin, Take, Fall, Show}
 use Rattle.gp_script.specs.Forms.{Form, form_of}
@@ -37,9 +37,9 @@ kept_words None = codes ""
 kept_words (Some (kept.Take message)) = codes " take " ++ decimal message
 kept_words (Some (kept.Begin round)) = codes " begin " ++ round_words round
 
--- the line that says an item
+-- the line that says an item; the body of a draft is the spelling of its operation
 abbrev pub item_line : Item → List ℕ
-item_line (Offer proposer op) = codes "offer " ++ node_word (Proposer proposer) ++ codes " " ++ op_text op
+item_line (Offer proposer draft) = codes "offer " ++ node_word (Proposer proposer) ++ codes " " ++ draft.body
 item_line (Begin coordinator round) = codes "begin " ++ node_word (Coordinator coordinator) ++ codes " " ++ round_words round
 item_line (Take node message) = codes "take " ++ node_word node ++ codes " " ++ decimal message
 item_line (Fall node what) = codes "fall " ++ node_word node ++ kept_words what
@@ -47,7 +47,7 @@ item_line (Show learner) = codes "show " ++ node_word (Learner learner)
 
 -- the most bytes that a line of this row of the table has
 abbrev pub longest_line : Item → ℕ
-longest_line (Offer proposer op) = 71
+longest_line (Offer proposer draft) = 71
 longest_line (Begin coordinator round) = 23
 longest_line (Take node message) = 28
 longest_line (Fall node what) = 33
@@ -57,11 +57,11 @@ longest_line (Show learner) = 7
 abbrev pub nodes_text : Counts → List ℕ
 nodes_text c = codes "nodes " ++ decimal c.acceptors ++ codes " " ++ decimal c.coordinators ++ codes " " ++ decimal c.learners
 
--- these tokens are a line of the table, and it says this item
-pub record SaysItem (c : Counts) (tokens : List (List ℕ)) (item : Item) : Type 0 where
+-- these tokens are a line of the table, and it says this item in a language
+pub record SaysItem (language : Language) (c : Counts) (tokens : List (List ℕ)) (item : Item) : Type 0 where
   pub form : Form
   pub of_tokens : form_of tokens ≡ Some form
-  pub said : item_of c form ≡ Ok item
+  pub said : item_of language c form ≡ Ok item
 
 -- these tokens are a line of the table, and it says this configuration
 pub record SaysCounts (tokens : List (List ℕ)) (counts : Counts) : Type 0 where

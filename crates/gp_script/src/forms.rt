@@ -5,7 +5,6 @@ ghost use Rattle.gp_script.specs.Forms.{mode_of, nodes_form, offer_form, begin_f
 ghost use Rattle.gp_script.specs.FormViews.{form_view, kept_view};
 
 use gp_round::Mode;
-use gp_store::{OpForm, op_form};
 use gp_words::has_empty;
 
 /// What a crash keeps, with the tokens that stand for numbers.
@@ -21,11 +20,11 @@ pub enum KeptForm<'a> {
 
 /// A line, with the tokens that stand for names and numbers.
 #[derive(Clone, Copy, Debug)]
-pub enum Form<'a> {
+pub enum Form<'t, 'a> {
     /// The numbers of acceptors, coordinators and learners.
     Nodes(&'a [u8], &'a [u8], &'a [u8]),
-    /// A proposer, and what it offers.
-    Offer(&'a [u8], OpForm<'a>),
+    /// A proposer, and the words of the operation that it offers.
+    Offer(&'a [u8], &'t [&'a [u8]]),
     /// A coordinator, and the count and mode of the round that it begins.
     Begin(&'a [u8], &'a [u8], Mode),
     /// A node, and the message that it takes.
@@ -50,7 +49,7 @@ fn mode_of(word: &[u8]) -> Option<Mode>
     }
 }
 
-fn nodes_form<'a>(tokens: &[&'a [u8]]) -> Option<Form<'a>>
+fn nodes_form<'t, 'a>(tokens: &'t [&'a [u8]]) -> Option<Form<'t, 'a>>
     ensures { option_map form_view result ≡ nodes_form (texts tokens.now) }
 {
     match tokens {
@@ -61,19 +60,16 @@ fn nodes_form<'a>(tokens: &[&'a [u8]]) -> Option<Form<'a>>
     }
 }
 
-fn offer_form<'a>(tokens: &[&'a [u8]]) -> Option<Form<'a>>
+fn offer_form<'t, 'a>(tokens: &'t [&'a [u8]]) -> Option<Form<'t, 'a>>
     ensures { option_map form_view result ≡ offer_form (texts tokens.now) }
 {
     let [node, operation @ ..] = tokens else {
         return None;
     };
-    match op_form(operation) {
-        Some(operation) => Some(Form::Offer(*node, operation)),
-        None => None,
-    }
+    Some(Form::Offer(*node, operation))
 }
 
-fn begin_form<'a>(tokens: &[&'a [u8]]) -> Option<Form<'a>>
+fn begin_form<'t, 'a>(tokens: &'t [&'a [u8]]) -> Option<Form<'t, 'a>>
     ensures { option_map form_view result ≡ begin_form (texts tokens.now) }
 {
     match tokens {
@@ -85,7 +81,7 @@ fn begin_form<'a>(tokens: &[&'a [u8]]) -> Option<Form<'a>>
     }
 }
 
-fn take_form<'a>(tokens: &[&'a [u8]]) -> Option<Form<'a>>
+fn take_form<'t, 'a>(tokens: &'t [&'a [u8]]) -> Option<Form<'t, 'a>>
     ensures { option_map form_view result ≡ take_form (texts tokens.now) }
 {
     match tokens {
@@ -131,7 +127,7 @@ fn kept_form<'a>(tokens: &[&'a [u8]]) -> Option<KeptForm<'a>>
     }
 }
 
-fn fall_form<'a>(tokens: &[&'a [u8]]) -> Option<Form<'a>>
+fn fall_form<'t, 'a>(tokens: &'t [&'a [u8]]) -> Option<Form<'t, 'a>>
     ensures { option_map form_view result ≡ fall_form (texts tokens.now) }
 {
     let [node, others @ ..] = tokens else {
@@ -143,7 +139,7 @@ fn fall_form<'a>(tokens: &[&'a [u8]]) -> Option<Form<'a>>
     }
 }
 
-fn show_form<'a>(tokens: &[&'a [u8]]) -> Option<Form<'a>>
+fn show_form<'t, 'a>(tokens: &'t [&'a [u8]]) -> Option<Form<'t, 'a>>
     ensures { option_map form_view result ≡ show_form (texts tokens.now) }
 {
     match tokens {
@@ -152,7 +148,7 @@ fn show_form<'a>(tokens: &[&'a [u8]]) -> Option<Form<'a>>
     }
 }
 
-fn form_by_word<'a>(tokens: &[&'a [u8]]) -> Option<Form<'a>>
+fn form_by_word<'t, 'a>(tokens: &'t [&'a [u8]]) -> Option<Form<'t, 'a>>
     ensures { option_map form_view result ≡ form_by_word (texts tokens.now) }
 {
     let [word, others @ ..] = tokens else {
@@ -178,7 +174,7 @@ fn form_by_word<'a>(tokens: &[&'a [u8]]) -> Option<Form<'a>>
 
 /// The line of the table that has these tokens, if there is one. It takes no memory.
 #[tactic(auto, unfolding(crate::specs::Forms::form_of))]
-pub fn form_of<'a>(tokens: &[&'a [u8]]) -> Option<Form<'a>>
+pub fn form_of<'t, 'a>(tokens: &'t [&'a [u8]]) -> Option<Form<'t, 'a>>
     ensures { option_map form_view result ≡ form_of (texts tokens.now) }
 {
     if has_empty(tokens) {

@@ -1,20 +1,25 @@
 //! What lines say.
 ghost use Rattle.std.specs.Prelude.{◌≡◌};
-ghost use Rattle.gp_script.specs.Items.{round_of, round_count, may_fall, kept_of, node_number, fall_of, item_of, counts_of};
+ghost use Rattle.gp_words.specs.Tokens.{texts};
+ghost use Rattle.gp_script.specs.Items.{round_of, round_count, may_fall, kept_of, node_number, fall_of, offer_of, plain_item_of, item_of, counts_of};
 ghost use Rattle.gp_script.specs.FormViews.{form_view, kept_view};
+ghost use Rattle.gp_script.specs.Faults.{Says};
 
+use crate::fault::LineFault;
 use crate::forms::{Form, KeptForm};
 use crate::names::{coordinator_of, count_of, learner_of, node_of, number, proposer_of};
 use crate::reason::Reason;
+use gp_command::Draft;
 use gp_msg::{Kept, Node};
 use gp_round::{Config, Mode, Round};
-use gp_store::{Op, op_of_form};
+use gp_service::{Service, Unsaid};
+use std::alloc::Global;
 
 /// What a line after the `nodes` line says.
-#[derive(Clone, Copy, Debug, PartialEq, Eq)]
+#[derive(Drop, Debug)]
 pub enum Item {
-    /// A proposer is given an operation to offer.
-    Offer { proposer: u32, op: Op },
+    /// A proposer is given the draft of an operation to offer.
+    Offer { proposer: u32, draft: Draft },
     /// A coordinator begins a round.
     Begin { coordinator: u32, round: Round },
     /// A node takes a message.
@@ -88,18 +93,37 @@ fn fall_of(node: Node, form: KeptForm<'_>) -> Result<Item, Reason>
     Ok(Item::Fall { node, kept })
 }
 
-/// What a line after the `nodes` line says, its tokens read from left to right. It takes no memory.
-#[tactic(auto, unfolding(crate::specs::Items::item_of))]
-pub fn item_of(config: &Config, line: Form<'_>) -> Result<Item, Reason>
-    ensures { result ≡ item_of config.now (form_view line.entry) }
+// What an offer of these words says.
+#[tactic(auto, unfolding(crate::specs::Items::offer_of))]
+fn offer_of<S: Service>(
+    alloc: Global,
+    config: &Config,
+    node: &[u8],
+    words: &[&[u8]],
+) -> Result<Item, LineFault>
+    ensures { Says result (offer_of S.profile.language config.now node.now (texts words.now)) }
+{
+    match S::draft(alloc, words) {
+        Ok(draft) => {
+            let proposer = proposer_of(config, node)?;
+            Ok(Item::Offer { proposer, draft })
+        }
+        Err(Unsaid::NoOperation) => Err(LineFault::Refused(Reason::BadLine)),
+        Err(Unsaid::Fault(fault)) => {
+            let _proposer = proposer_of(config, node)?;
+            Err(LineFault::Refused(Reason::from(fault)))
+        }
+        Err(Unsaid::NoMemory) => Err(LineFault::NoMemory),
+    }
+}
+
+// What a line says that is neither the `nodes` line nor an offer.
+#[tactic(auto, unfolding(crate::specs::Items::plain_item_of))]
+fn plain_item_of(config: &Config, line: Form<'_, '_>) -> Result<Item, Reason>
+    ensures { result ≡ plain_item_of config.now (form_view line.entry) }
 {
     match line {
-        Form::Nodes(_, _, _) => Err(Reason::BadLine),
-        Form::Offer(node, operation) => {
-            let proposer = proposer_of(config, node)?;
-            let op = op_of_form(operation)?;
-            Ok(Item::Offer { proposer, op })
-        }
+        Form::Nodes(_, _, _) | Form::Offer(_, _) => Err(Reason::BadLine),
         Form::Begin(node, count, mode) => {
             let coordinator = coordinator_of(config, node)?;
             let round = round_of(coordinator, round_count(count)?, mode);
@@ -117,9 +141,24 @@ pub fn item_of(config: &Config, line: Form<'_>) -> Result<Item, Reason>
     }
 }
 
+/// What a line after the `nodes` line says to a service, its tokens read from left to right.
+#[tactic(auto, unfolding(crate::specs::Items::plain_item_of))]
+pub fn item_of<S: Service>(
+    alloc: Global,
+    config: &Config,
+    line: Form<'_, '_>,
+) -> Result<Item, LineFault>
+    ensures { Says result (item_of S.profile.language config.now (form_view line.entry)) }
+{
+    match line {
+        Form::Offer(node, words) => offer_of::<S>(alloc, config, node, words),
+        _ => Ok(plain_item_of(config, line)?),
+    }
+}
+
 /// The configuration that the `nodes` line says. It takes no memory.
 #[tactic(auto, unfolding(crate::specs::Items::counts_of))]
-pub fn config_of(line: Form<'_>) -> Result<Config, Reason>
+pub fn config_of(line: Form<'_, '_>) -> Result<Config, Reason>
     ensures { result ≡ counts_of (form_view line.entry) }
 {
     let Form::Nodes(acceptors, coordinators, learners) = line else {

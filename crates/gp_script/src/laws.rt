@@ -12,22 +12,25 @@ ghost use Rattle.gp_script.specs.Admitted.{IsAdmitted};
 ghost use Rattle.gp_script.specs.Rows.{HasWords};
 ghost use Rattle.gp_script.specs.Spelling.{item_line, longest_line, nodes_text, SaysItem, SaysCounts};
 
+use gp_service::Service;
+
 /// A line is one of the table exactly where it has the words of a row, and none of them is empty.
 pub fn a_line_has_the_words_of_its_row()
     ensures { (tokens : List (List ℕ)) (form : Form) → (form_of tokens ≡ Some form) ↔ ((has_empty tokens ≡ false) × HasWords form tokens) }
 {}
 
-/// What a line says is right for the configuration: its nodes are there, a round that is begun or
-/// kept is its coordinator's own, and a node crashes only as one of its kind can.
-pub fn what_a_line_says_is_admitted()
-    ensures { (c : Counts) (form : Form) (item : Item) → item_of c form ≡ Ok item → IsAdmitted c item }
+/// What a line says to a service is right for the configuration: its nodes are there, a draft that is
+/// offered is that of an operation, a round that is begun or kept is its coordinator's own, and a node
+/// crashes only as one of its kind can.
+pub fn what_a_line_says_is_admitted<S: Service>()
+    ensures { (c : Counts) (form : Form) (item : Item) → item_of S.profile.language c form ≡ Ok item → IsAdmitted S.profile.language c item }
 {}
 
 /// All that is right for a configuration has a line that says it, and no other text says it. So
 /// what `item_of` reads is what these lines say, and nothing else.
-pub fn an_item_has_one_line()
-    ensures read { (c : Counts) (item : Item) → AreInRange c.acceptors c.coordinators c.learners → IsAdmitted c item → SaysItem c (tokens_of (item_line item)) item }
-    ensures only { (c : Counts) (text : List ℕ) (item : Item) → SaysItem c (tokens_of text) item → text ≡ item_line item }
+pub fn an_item_has_one_line<S: Service>()
+    ensures read { (c : Counts) (item : Item) → AreInRange c.acceptors c.coordinators c.learners → IsAdmitted S.profile.language c item → SaysItem S.profile.language c (tokens_of (item_line item)) item }
+    ensures only { (c : Counts) (text : List ℕ) (item : Item) → SaysItem S.profile.language c (tokens_of text) item → text ≡ item_line item }
 {}
 
 /// Every configuration has a line that says it, no other text says it, and no line says a
@@ -40,9 +43,9 @@ pub fn a_configuration_has_one_line()
 
 /// A line that says an item or a configuration has no line feed inside. An offer has at most 71 bytes, a line
 /// that says another item at most 33, and one that says a configuration at most 11.
-pub fn lines_are_short()
-    ensures item_feedless { (c : Counts) (item : Item) → AreInRange c.acceptors c.coordinators c.learners → IsAdmitted c item → Lacks is_line_feed (item_line item) }
-    ensures item_short { (c : Counts) (item : Item) → AreInRange c.acceptors c.coordinators c.learners → IsAdmitted c item → length (item_line item) ≤ longest_line item }
+pub fn lines_are_short<S: Service>()
+    ensures item_feedless { (c : Counts) (item : Item) → AreInRange c.acceptors c.coordinators c.learners → IsAdmitted S.profile.language c item → Lacks is_line_feed (item_line item) }
+    ensures item_short { (c : Counts) (item : Item) → AreInRange c.acceptors c.coordinators c.learners → IsAdmitted S.profile.language c item → length (item_line item) ≤ longest_line item }
     ensures nodes_feedless { (c : Counts) → AreInRange c.acceptors c.coordinators c.learners → Lacks is_line_feed (nodes_text c) }
     ensures nodes_short { (c : Counts) → AreInRange c.acceptors c.coordinators c.learners → length (nodes_text c) ≤ 11 }
 {}
