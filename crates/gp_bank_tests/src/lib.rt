@@ -1,8 +1,14 @@
-//! Tests of operations on accounts, and of the bank.
+//! Tests of operations on accounts, of the bank, of its replicas, and of scripts that are played with it.
 #![tactic(auto)]
 
 #[cfg(test)]
 mod banks;
+#[cfg(test)]
+mod histories;
+#[cfg(test)]
+mod replicas;
+#[cfg(test)]
+mod scripts;
 #[cfg(test)]
 mod spellings;
 #[cfg(test)]

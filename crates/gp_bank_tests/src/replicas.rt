@@ -1,0 +1,116 @@
+//! What replicas of the bank reply, and what they hold.
+use crate::histories::{Row, caught_up};
+use crate::steps::{A, B, C, Step};
+use gp_bank::{Bank, Totals, totals};
+use gp_command::{CommandId, Key};
+use gp_history::Hist;
+use gp_replica::{Replica, Reply};
+use std::test::Fail;
+
+// The command's proposer and number, and the reply.
+type Answer = (u32, u32, Reply);
+
+// Deposits to one account, and transfers to one account, may be run in any order.
+static TOGETHER: [Row; 7] = [
+    (0, 1, Step::Deposit(A, 10)),
+    (1, 1, Step::Deposit(B, 20)),
+    (2, 1, Step::Deposit(A, 5)),
+    (3, 1, Step::Transfer(A, C, 7)),
+    (4, 1, Step::Transfer(B, C, 9)),
+    (0, 2, Step::Withdraw(C, 16)),
+    (1, 2, Step::Withdraw(B, 100)),
+];
+
+// The first commands that another replica learns, before it learns all of them.
+static EARLY: [Row; 3] = [
+    (2, 1, Step::Deposit(A, 5)),
+    (1, 1, Step::Deposit(B, 20)),
+    (4, 1, Step::Transfer(B, C, 9)),
+];
+
+static ANSWERS: [Answer; 7] = [
+    (0, 1, Reply::Done),
+    (1, 1, Reply::Done),
+    (2, 1, Reply::Done),
+    (3, 1, Reply::Yes),
+    (4, 1, Reply::Yes),
+    (0, 2, Reply::Yes),
+    (1, 2, Reply::No),
+];
+
+static HELD: [(&'static [u8], u64); 3] = [(A, 8), (B, 11), (C, 0)];
+
+static TOTALS: Totals = Totals {
+    held: 19,
+    deposits: 35,
+    withdrawals: 16,
+};
+
+static NOTHING: Totals = Totals {
+    held: 0,
+    deposits: 0,
+    withdrawals: 0,
+};
+
+fn is_answered(replica: &Replica<Bank>, row: Answer) -> bool {
+    let (proposer, number, reply) = row;
+    replica.reply(CommandId { proposer, number }) == Some(reply)
+}
+
+// Whether the replies are found under the identities.
+fn are_answered(replica: &Replica<Bank>) -> bool {
+    for row in &ANSWERS {
+        if !is_answered(replica, *row) {
+            return false;
+        }
+    }
+    replica.ran().len() == ANSWERS.len()
+}
+
+fn holds(replica: &Replica<Bank>, row: (&[u8], u64)) -> Result<bool, Fail> {
+    let (key, balance) = row;
+    let key = Key::new(key)?;
+    Ok(replica.machine().accounts().get(&key).copied() == Some(balance))
+}
+
+fn holds_all(replica: &Replica<Bank>) -> Result<bool, Fail> {
+    for row in &HELD {
+        if !holds(replica, *row)? {
+            return Ok(false);
+        }
+    }
+    Ok(replica.machine().accounts().len() == HELD.len())
+}
+
+fn has_totals(replica: &Replica<Bank>, wanted: &Totals) -> bool {
+    totals(replica) == *wanted
+}
+
+// Whether all that is done together was run.
+fn is_together(replica: &Replica<Bank>) -> Result<bool, Fail> {
+    Ok(are_answered(replica) && has_totals(replica, &TOTALS) && holds_all(replica)?)
+}
+
+#[test]
+fn a_replica_holds_nothing_at_first(rt: HostRuntime) -> Result<(), Fail> {
+    let replica = Replica::<Bank>::new(rt.alloc())?;
+    assert!(rt; has_totals(&replica, &NOTHING));
+    Ok(())
+}
+
+#[test]
+fn a_replica_holds_what_was_not_withdrawn(rt: HostRuntime) -> Result<(), Fail> {
+    let mut replica = Replica::new(rt.alloc())?;
+    assert_eq!(rt; caught_up(&rt, rt.alloc(), &mut replica, &TOGETHER)?, 7);
+    assert!(rt; is_together(&replica)?);
+    Ok(())
+}
+
+#[test]
+fn a_replica_that_learns_in_another_order_agrees(rt: HostRuntime) -> Result<(), Fail> {
+    let mut replica = Replica::new(rt.alloc())?;
+    assert_eq!(rt; caught_up(&rt, rt.alloc(), &mut replica, &EARLY)?, 3);
+    assert_eq!(rt; caught_up(&rt, rt.alloc(), &mut replica, &TOGETHER)?, 4);
+    assert!(rt; is_together(&replica)?);
+    Ok(())
+}
