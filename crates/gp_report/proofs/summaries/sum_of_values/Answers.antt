@@ -1,4 +1,4 @@
-use Rattle.std.proofs.Common.{ℕ, ◌^◌, refl, rules, arith}
+use Rattle.std.proofs.Common.{◌^◌, refl, rules, arith}
 use Rattle.std.proofs.Math.Nat.{mod-lt}
 use Rattle.gp_report.specs.Summaries.{sum_of_values}
 use Rattle.gp_report.proofs.Sums.{wraps_next, wraps_ended}

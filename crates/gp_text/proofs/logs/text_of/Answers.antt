@@ -1,8 +1,7 @@
-use Rattle.std.proofs.Common.{◌≡◌, ◌++◌, List, ℕ, length, ap, ◌∙◌, arith}
-use Rattle.std.proofs.lemmas.List.{length-map}
+use Rattle.std.proofs.Common.{◌++◌, List, ℕ, length, ap, ◌∙◌}
 use Rattle.gp_msg.specs.Messages.{part_of}
 use Rattle.gp_text.specs.Logs.{head_line, part_line}
-use Rattle.gp_text.proofs.LogLines.{lines, lines_more, lines_ended}
+use Rattle.gp_text.proofs.LogLines.{lines_more}
 use Rattle.gp_text.proofs.logs.text_of.Goals as goal
 
 pub loop-i-preserved : goal.loop-i-preserved
