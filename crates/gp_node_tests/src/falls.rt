@@ -1,0 +1,66 @@
+//! A coordinator whose disk fails in its first move, so that it falls.
+use crate::alone::{Alone, make_alone};
+use gp_edge::Idle;
+use gp_msg::{Event, Kept, Node};
+use gp_node::{Move, StepFault, finish};
+use gp_round::{Config, Mode, Round};
+use std::alloc::Global;
+use std::process::Abort;
+use std::sync::Wait;
+use std::test::Fail;
+
+// The round that it begins.
+const ROUND: Round = Round {
+    count: 1,
+    mode: Mode::Single,
+    lead: 0,
+};
+
+#[test]
+fn rise_posts_a_fall(rt: HostRuntime) -> Result<(), Fail> {
+    // the disk's calls 0 to 2 are those of the creation; then the entry is written and synced, and the gate before it
+    for (failing, kept) in [(3, false), (4, false), (5, false), (6, true)] {
+        check_fall(&rt, rt.alloc(), failing, kept)?;
+    }
+    Ok(())
+}
+
+// The call of the disk with this number fails in the move, and the fall keeps the move or not.
+fn check_fall<R: Wait + Abort>(
+    rt: &R,
+    alloc: Global,
+    failing: u64,
+    keeps: bool,
+) -> Result<(), Fail> {
+    let config = Config::new(3, 1, 1).or(Err("no configuration"))?;
+    let node = Node::Coordinator(0);
+    let Alone { wire, mut cell } = make_alone(alloc, config, node, &[failing])?;
+    let outcome = cell.step(rt, &wire, Move::Begin(ROUND), &Idle, 0);
+    assert!(rt; matches!(outcome, Err(StepFault::Disk)));
+    assert!(rt; cell.is_down());
+    let risen = cell.rise(rt, &wire);
+    assert!(rt; matches!(risen, Ok(0)));
+    assert!(rt; !cell.is_down());
+    assert_eq!(rt; cell.posted(), 1);
+    assert_eq!(rt; cell.durable().is_some(), keeps);
+    let cells = vec![in alloc; cell]?;
+    let Ok(finished) = finish(alloc, wire, cells) else {
+        return Err(Fail::from("no end"));
+    };
+    let kept = match finished.posted.records() {
+        [record] => match &record.event {
+            Event::Fall { kept, .. } => *kept,
+            _ => return Err(Fail::from("no fall")),
+        },
+        _ => return Err(Fail::from("not one record")),
+    };
+    assert_eq!(rt;
+        kept,
+        if keeps {
+            Some(Kept::Begin(ROUND))
+        } else {
+            None
+        }
+    );
+    Ok(())
+}
