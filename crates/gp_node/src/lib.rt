@@ -1,6 +1,7 @@
 //! Nodes that run in threads: cells with their logs, the work of a phase, and the list that they posted.
 #![tactic(auto)]
 
+pub mod laws;
 mod phase;
 mod posted;
 
