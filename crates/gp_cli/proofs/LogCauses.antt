@@ -1,5 +1,5 @@
 -- What the log of a disk shows, and why it does not.
-use Rattle.std.proofs.Common.{◌≡◌, ℕ, ◌-◌, ◌⊎◌, suc, Bool, true, false, List, [], ◌∷◌, map, length, Option, Some, None, Result, Ok, Err, inl, inr, refl, sym, ap, subst, ◌∙◌, arith}
+use Rattle.std.proofs.Common.{◌≡◌, ℕ, ◌+◌, ◌-◌, ◌≤◌, ◌⊎◌, suc, Bool, true, false, List, [], ◌∷◌, map, length, Option, Some, None, Result, Ok, Err, inl, inr, refl, sym, ap, subst, ◌∙◌, arith}
 use Rattle.std.specs.Prelude.{slice_get, OnOk}
 use Rattle.gp_text.specs.Logs.{log_text}
 use Rattle.gp_edge.specs.Disks.{IfRevealed, LeavesOnly}
@@ -17,7 +17,7 @@ use Rattle.gp_vlog.specs.Reading.{BreaksAt}
 use Rattle.gp_vlog.proofs.Moments.{tell, told, stays, weaker, then_on}
 use Rattle.gp_cli.specs.Outside.{Seen, seen, Told}
 use Rattle.gp_cli.specs.Endings.{Shown, Shows as shows, run_to, config_of}
-use Rattle.gp_cli.specs.Causes.{shown, IfLog, IsLogCause, IsUpgradeCause, last_alone, IsTakenOn, HasNoRoom}
+use Rattle.gp_cli.specs.Causes.{shown, IfLog, IsLogCause, IsUpgradeCause, last_alone, IsTakenOn, FitsAlone, HasRoomForLast, HasNoRoom}
 use Rattle.gp_cli.specs.Logs.{TellsEnding, LogEnds, open_ending, append_ending, HoldsLast, KeepsLast, TakesOn}
 
 -- ---- what is shown
@@ -101,27 +101,33 @@ module _ {D : Type 0} (content : D → Option (List ℕ)) (image : D → List �
       let P : Contents → Contents → Type 0 = λ was found. IsTakenOn was found × (shown_of new.entries new.size ≡ shown found) in (
         refl,
         steady,
-        tell before.bytes (λ s. (was : Contents) × (read_log is_limit s ≡ Ok was) × IfLog now.bytes (P was)) (λ s is.
-            let h = (told (content old.disk) _ s (sym at_old ∙ is) ready).0 in (
+        tell before.bytes (λ s. (was : Contents) × (read_log is_limit s ≡ Ok was) × (HasRoomForLast was × IfLog now.bytes (P was))) (λ s is.
+            let h = (told (content old.disk) _ s (sym at_old ∙ is) ready).0 in
+            let room : HasRoomForLast h.contents = λ had.
+            subst (λ (es : List LogEntry). FitsAlone h.contents.limit es) (sym h.entries_are)
+            (subst (λ (n : ℕ). FitsAlone n (log_entries old.is_old old.entries)) (sym h.limit_is) (takes.3 (ap has_old (sym h.entries_are) ∙ had)).1) in (
               h.contents,
               h.reads,
-              tell now.bytes (λ t. (found : Contents) × (read_log is_limit t ≡ Ok found) × P h.contents found) (λ t is_now.
-                  let n = (told (content new.disk) _ t (sym at_new ∙ is_now) takes.0).0 in
-                  let same : has_old h.contents.entries ≡ false → n.contents ≡ h.contents = λ no.
-                  let unchanged = takes.2 (ap has_old (sym h.entries_are) ∙ no) in
-                  let bytes : Some t ≡ Some s = sym is_now ∙ at_new ∙ ap (λ (l : LogState D). content l.disk) unchanged ∙ sym at_old ∙ is in
-                  read_alike h.contents n.contents s t (let e : t ≡ s = cc in e) h.reads n.reads in (
-                    n.contents,
-                    n.reads,
-                    (
-                      record {
-                        limit = n.limit_is ∙ takes.1 ∙ sym h.limit_is;
-                        renewed = λ had. n.entries_are ∙ takes.3 (ap has_old (sym h.entries_are) ∙ had) ∙ ap last_alone (sym h.entries_are);
-                        same = same;
-                      },
-                      shows_it new.limit new.is_old new.entries new.size t n,
-                    ),
-                  )),
+              (
+                room,
+                tell now.bytes (λ t. (found : Contents) × (read_log is_limit t ≡ Ok found) × P h.contents found) (λ t is_now.
+                    let n = (told (content new.disk) _ t (sym at_new ∙ is_now) takes.0).0 in
+                    let same : has_old h.contents.entries ≡ false → n.contents ≡ h.contents = λ no.
+                    let unchanged = takes.2 (ap has_old (sym h.entries_are) ∙ no) in
+                    let bytes : Some t ≡ Some s = sym is_now ∙ at_new ∙ ap (λ (l : LogState D). content l.disk) unchanged ∙ sym at_old ∙ is in
+                    read_alike h.contents n.contents s t (let e : t ≡ s = cc in e) h.reads n.reads in (
+                      n.contents,
+                      n.reads,
+                      (
+                        record {
+                          limit = n.limit_is ∙ takes.1 ∙ sym h.limit_is;
+                          renewed = λ had. n.entries_are ∙ (takes.3 (ap has_old (sym h.entries_are) ∙ had)).0 ∙ ap last_alone (sym h.entries_are);
+                          same = same;
+                        },
+                        shows_it new.limit new.is_old new.entries new.size t n,
+                      ),
+                    )),
+              ),
             )),
       )
 
@@ -268,6 +274,13 @@ last_is o (x ∷ y ∷ ds) d e =
     let more : length (x ∷ y ∷ ds) - 1 ≡ suc (length (y ∷ ds) - 1) = omega arith in
     last_is o (y ∷ ds) d (ap (λ (i : ℕ). slice_get (x ∷ y ∷ ds) i) (sym more) ∙ e)
 
+fits_alone : (limit : ℕ) (es : List LogEntry) (d : Durable) → entry_for false d ∷ [] ≡ last_alone es → 17 + need None (part_of d) ≤ limit → FitsAlone limit es
+fits_alone limit es d alone room part is =
+    let both : entry_for false d ∷ [] ≡ (record { old = false; part = part }) ∷ [] = alone ∙ is in
+    let heads : Some (entry_for false d) ≡ Some (record { old = false; part = part }) = ap (λ (xs : List LogEntry). slice_get xs 0) both in
+    let same : entry_for false d ≡ record { old = false; part = part } = cc in
+    subst (λ (p : EpochPart). 17 + need None p ≤ limit) (ap (λ (e : LogEntry). e.part) same) room
+
 module _ {D : Type 0} (content : D → Option (List ℕ)) (image : D → List ℕ → Type 0) where
   pub renewed_takes : (old new : LogState D) (last : Durable) (result : Result (Unit {0}) AppendFault) → has_old (log_entries old.is_old old.entries) ≡ true → entry_for false last ∷ [] ≡ last_alone (log_entries old.is_old old.entries)
       → OnOk result (new.entries ≡ last ∷ []) → OnOk result (new.is_old ≡ false) → OnOk result (IsReady content image new) → IsFullWhere old.limit 17 (need None (part_of last)) result → StaysWhole old new result → new.limit ≡ old.limit
@@ -276,8 +289,10 @@ module _ {D : Type 0} (content : D → Option (List ℕ)) (image : D → List �
     ready,
     limit,
     (λ not. absurd (let differ = sym old_one ∙ not in cc)),
-    (λ again.
-        ap (λ (o : Bool). log_entries o new.entries) version ∙ ap (log_entries false) renewed ∙ alone),
+    (λ again. (
+      ap (λ (o : Bool). log_entries o new.entries) version ∙ ap (log_entries false) renewed ∙ alone,
+      fits_alone old.limit (log_entries old.is_old old.entries) last alone full,
+    )),
   )
   renewed_takes old new last (Err (append.Full size n)) old_one alone renewed version ready full left limit = (
     left,

@@ -22,10 +22,10 @@ use Rattle.gp_cli.specs.declared.subcommand.Subcommand.TheVariants.{Play, Sim, D
 use Rattle.gp_cli.specs.Subcommands.{named}
 use Rattle.gp_cli.specs.Outside.{Seen, Outside, Told, Wholly, AtFault, ForMemory}
 use Rattle.gp_cli.specs.Endings.{Ending, Misused, Unread, Refuses, Plays, Drives, Simulates, Shows, DiskFails, Overflows, Breaks, Starved, status_of, status_at_fault, text_of, run_to, config_of}
-use Rattle.gp_cli.specs.Causes.{HasRead, IfLog, IsCauseFor, IsCause, IsRunCause, driven_config, seen_at, disk_used}
+use Rattle.gp_cli.specs.Causes.{HasRead, IfLog, HasRoomForLast, HasNoRoom, IsCauseFor, IsCause, IsRunCause, driven_config, seen_at, disk_used}
 use Rattle.gp_cli.specs.Logs.{TellsEnding}
 use Rattle.gp_cli.specs.Serving.{IsConfig, Ends, HoldsScript, HoldsBadLine, PlaysWhole, StopsAtLine, Prints, PrintsDriven, PrintsSimulated}
-use Rattle.gp_cli.specs.LogRuns.{HoldsLog, HoldsNoLog, ShowsLog, ShowsTakenOn, HasNoSpace, IsBrokenAt}
+use Rattle.gp_cli.specs.LogRuns.{HoldsLog, HoldsRoomyLog, HoldsFullLog, HoldsNoLog, ShowsLog, ShowsTakenOn, HasNoSpace, IsBrokenAt}
 use Rattle.gp_cli.proofs.Causes.{read_legal}
 
 -- after a script that is short enough nothing is left
@@ -304,6 +304,50 @@ module _ (before now : Outside) (status : ℕ) (trail : List Record) where
   log_completes k (Breaks place) cause told (s, log, is, reads) disk_well written_well = absurd (no_clash (seen_at k before.disks).bytes s log place is reads cause.1)
   log_completes k Starved cause told holds disk_well written_well = inr (starved_status before.sink now.sink [] status told)
 
+  -- a log has room for its last entry, or has none
+  room_clash : (log : Contents) (size more : ℕ) → HasRoomForLast log → HasNoRoom size more log.limit log.entries → ⊥
+  room_clash log size more room none =
+      let fits = room none.old none.last none.is_last in
+      let a = none.smallest in
+      let b = none.its_need in
+      let c = none.great in
+      omega (arith, fits, a, b, c)
+
+  -- the bytes of a disk are one log
+  one_log : (bytes : Option (List ℕ)) (s : List ℕ) (log : Contents) (P : Contents → Type 0) → bytes ≡ Some s → read_log is_limit s ≡ Ok log → IfLog bytes P → P log
+  one_log bytes s log P is reads h =
+      let found = at_bytes bytes (λ t. (was : Contents) × (read_log is_limit t ≡ Ok was) × P was) s is h in
+      let same : found.0 ≡ log = let both = sym found.1 ∙ reads in cc in
+      subst P same found.2
+
+  upgrade_completes : (k : ℕ) (ending : Ending) → Causes (Some (Upgrade k)) ending → Tells ending → HoldsRoomyLog k before → ¬ Rose (seen_at k before.disks).faults (seen_at k now.disks).faults → ¬ Rose before.sink.faults now.sink.faults → (status ≡ 0) ⊎ (status ≡ 1)
+  upgrade_completes k Misused cause told holds disk_well written_well = absurd cause
+  upgrade_completes k Unread cause told holds disk_well written_well = absurd cause
+  upgrade_completes k (Refuses line reason said) cause told holds disk_well written_well = absurd cause
+  upgrade_completes k (Plays config said) cause told holds disk_well written_well = absurd cause
+  upgrade_completes k (Drives config n) cause told holds disk_well written_well = absurd cause
+  upgrade_completes k (Simulates seed n) cause told holds disk_well written_well = absurd cause
+  upgrade_completes k (Shows j log) cause told holds disk_well written_well = one_status before.sink now.sink (text_of (Shows j log)) 0 5 status written_well told
+  upgrade_completes k DiskFails cause told holds disk_well written_well = absurd (disk_well cause)
+  upgrade_completes k (Overflows size need) cause told (s, log, is, reads, room) disk_well written_well =
+      absurd (room_clash log size need room (one_log (seen_at k before.disks).bytes s log (λ l. HasNoRoom size need l.limit l.entries) is reads cause.1))
+  upgrade_completes k (Breaks place) cause told (s, log, is, reads, room) disk_well written_well = absurd (no_clash (seen_at k before.disks).bytes s log place is reads cause.1)
+  upgrade_completes k Starved cause told holds disk_well written_well = inr (starved_status before.sink now.sink [] status told)
+
+  overflows_if_full : (k : ℕ) (ending : Ending) → Causes (Some (Upgrade k)) ending → Tells ending → HoldsFullLog k before → ¬ Rose (seen_at k before.disks).faults (seen_at k now.disks).faults → (status ≡ 7) ⊎ (status ≡ 1)
+  overflows_if_full k Misused cause told holds well = absurd cause
+  overflows_if_full k Unread cause told holds well = absurd cause
+  overflows_if_full k (Refuses line reason said) cause told holds well = absurd cause
+  overflows_if_full k (Plays config said) cause told holds well = absurd cause
+  overflows_if_full k (Drives config n) cause told holds well = absurd cause
+  overflows_if_full k (Simulates seed n) cause told holds well = absurd cause
+  overflows_if_full k (Shows j shows) cause told (s, log, size, need, is, reads, none) well =
+      let found = one_log (seen_at k before.disks).bytes s log _ is reads cause.2 in absurd (room_clash log size need found.0 none)
+  overflows_if_full k DiskFails cause told holds well = absurd (well cause)
+  overflows_if_full k (Overflows size need) cause told holds well = same_status before.sink now.sink (text_of (Overflows size need)) 7 status told
+  overflows_if_full k (Breaks place) cause told (s, log, size, need, is, reads, none) well = absurd (no_clash (seen_at k before.disks).bytes s log place is reads cause.1)
+  overflows_if_full k Starved cause told holds well = inr (starved_status before.sink now.sink [] status told)
+
   -- only a log that is shown or taken on overflows, breaks, or has a disk that fails
   overflowed : (sub : Option Subcommand) (size need : ℕ) → Causes sub (Overflows size need) → Tells (Overflows size need) → (k : ℕ) × (sub ≡ Some (Upgrade k)) × Causes (Some (Upgrade k)) (Overflows size need)
   overflowed None size need cause told = cc
@@ -510,6 +554,12 @@ module _ (words : List (List ℕ)) (before now : Outside) (status : ℕ) (trail 
 
   pub log_complete : (k : ℕ) → named words ≡ Some (Log k) → HoldsLog k before → ¬ Rose (seen_at k before.disks).faults (seen_at k now.disks).faults → ¬ Rose before.sink.faults now.sink.faults → (status ≡ 0) ⊎ (status ≡ 1)
   log_complete k is holds disk_well written_well = log_completes before now status trail k ends.ending (by_name (Some (Log k)) is) ends.told holds disk_well written_well
+
+  pub upgrade_complete : (k : ℕ) → named words ≡ Some (Upgrade k) → HoldsRoomyLog k before → ¬ Rose (seen_at k before.disks).faults (seen_at k now.disks).faults → ¬ Rose before.sink.faults now.sink.faults → (status ≡ 0) ⊎ (status ≡ 1)
+  upgrade_complete k is holds disk_well written_well = upgrade_completes before now status trail k ends.ending (by_name (Some (Upgrade k)) is) ends.told holds disk_well written_well
+
+  pub full_log : (k : ℕ) → named words ≡ Some (Upgrade k) → HoldsFullLog k before → ¬ Rose (seen_at k before.disks).faults (seen_at k now.disks).faults → (status ≡ 7) ⊎ (status ≡ 1)
+  full_log k is holds well = overflows_if_full before now status trail k ends.ending (by_name (Some (Upgrade k)) is) ends.told holds well
 
   pub full : status ≡ 7 → HasNoSpace words before now status
   full seven =

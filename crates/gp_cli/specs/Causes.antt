@@ -1,5 +1,5 @@
 -- Why a run of the program ends as it does, by what is seen of the outside before and now.
-use Rattle.std.specs.Prelude.{◌≡◌, ◌⊎◌, ℕ, ◌+◌, ◌<◌, Bool, true, false, List, [], ◌∷◌, map, slice_get, Option, Some, None, unwrap_or, Ok, Err}
+use Rattle.std.specs.Prelude.{◌≡◌, ◌⊎◌, ℕ, ◌+◌, ◌<◌, ◌≤◌, Bool, true, false, List, [], ◌∷◌, map, slice_get, Option, Some, None, unwrap_or, Ok, Err}
 use Rattle.gp_round.specs.Counts.{Counts}
 use Rattle.gp_round.specs.Configs.{counts}
 use Rattle.gp_edge.specs.Disks.{IfRevealed}
@@ -77,6 +77,14 @@ pub record IsTakenOn (before now : Contents) : Type 0 where
   pub renewed : has_old before.entries ≡ true → now.entries ≡ last_alone before.entries
   pub same : has_old before.entries ≡ false → now ≡ before
 
+-- there is room for the last of these entries, whole and alone
+abbrev pub FitsAlone : ℕ → List LogEntry → Type 0
+FitsAlone limit entries = (last : EpochPart) → last_alone entries ≡ (record { old = false; part = last }) ∷ [] → 17 + need None last ≤ limit
+
+-- a log has room for its last entry, whole, if one of its entries is of version 1
+abbrev pub HasRoomForLast : Contents → Type 0
+HasRoomForLast log = has_old log.entries ≡ true → FitsAlone log.limit log.entries
+
 -- a log with entries of version 1 has no room for its last one, whole
 pub record HasNoRoom (size need_of_last limit : ℕ) (entries : List LogEntry) : Type 0 where
   pub old : has_old entries ≡ true
@@ -89,7 +97,7 @@ pub record HasNoRoom (size need_of_last limit : ℕ) (entries : List LogEntry) :
 -- why a run ends so if the log of a disk is to be renewed and shown
 abbrev pub IsUpgradeCause : ℕ → Seen → Seen → Ending → Type 0
 IsUpgradeCause disk before now (Shows k log) =
-    (k ≡ disk) × (now.faults ≡ before.faults) × IfLog before.bytes (λ was. IfLog now.bytes (λ found. IsTakenOn was found × (log ≡ shown found)))
+    (k ≡ disk) × (now.faults ≡ before.faults) × IfLog before.bytes (λ was. HasRoomForLast was × IfLog now.bytes (λ found. IsTakenOn was found × (log ≡ shown found)))
 IsUpgradeCause disk before now DiskFails = Rose before.faults now.faults
 IsUpgradeCause disk before now (Overflows size need) = (now ≡ before) × IfLog before.bytes (λ log. HasNoRoom size need log.limit log.entries)
 IsUpgradeCause disk before now (Breaks place) = (now ≡ before) × IfRevealed before.bytes (λ s. read_log is_limit s ≡ Err place)

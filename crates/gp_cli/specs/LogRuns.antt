@@ -9,11 +9,19 @@ use Rattle.gp_cli.specs.Subcommands.{named}
 use Rattle.gp_cli.specs.Texts.{full_text, broken_text}
 use Rattle.gp_cli.specs.Outside.{Outside, Told}
 use Rattle.gp_cli.specs.Endings.{Shown}
-use Rattle.gp_cli.specs.Causes.{shown, IfLog, IsTakenOn, HasNoRoom, seen_at, disk_used}
+use Rattle.gp_cli.specs.Causes.{shown, IfLog, IsTakenOn, HasNoRoom, seen_at, disk_used, HasRoomForLast}
 
 -- a disk reveals its bytes, and they are a log
 abbrev pub HoldsLog : ℕ → Outside → Type 0
 HoldsLog k before = (s : List ℕ) × (log : Contents) × ((seen_at k before.disks).bytes ≡ Some s) × (read_log is_limit s ≡ Ok log)
+
+-- the same, and a log with entries of version 1 has room for its last one, whole
+abbrev pub HoldsRoomyLog : ℕ → Outside → Type 0
+HoldsRoomyLog k before = (s : List ℕ) × (log : Contents) × ((seen_at k before.disks).bytes ≡ Some s) × (read_log is_limit s ≡ Ok log) × HasRoomForLast log
+
+-- a disk reveals its bytes, and they are a log with entries of version 1 that has no room for its last one, whole
+abbrev pub HoldsFullLog : ℕ → Outside → Type 0
+HoldsFullLog k before = (s : List ℕ) × (log : Contents) × (size : ℕ) × (need : ℕ) × ((seen_at k before.disks).bytes ≡ Some s) × (read_log is_limit s ≡ Ok log) × HasNoRoom size need log.limit log.entries
 
 -- a disk reveals its bytes, and they are no log
 abbrev pub HoldsNoLog : ℕ → Outside → Type 0
@@ -31,7 +39,7 @@ pub record ShowsLog (k : ℕ) (before now : Outside) : Type 0 where
 pub record ShowsTakenOn (k : ℕ) (before now : Outside) : Type 0 where
   pub log : Shown
   pub steady_disk : (seen_at k now.disks).faults ≡ (seen_at k before.disks).faults
-  pub shows : IfLog (seen_at k before.disks).bytes (λ was. IfLog (seen_at k now.disks).bytes (λ found. IsTakenOn was found × (log ≡ shown found)))
+  pub shows : IfLog (seen_at k before.disks).bytes (λ was. HasRoomForLast was × IfLog (seen_at k now.disks).bytes (λ found. IsTakenOn was found × (log ≡ shown found)))
   pub steady : now.sink.faults ≡ before.sink.faults
   pub written : AppendsWhole before.sink.bytes now.sink.bytes (log_text k log.parts log.size)
 

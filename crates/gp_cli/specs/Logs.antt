@@ -10,7 +10,7 @@ use Rattle.gp_vlog.specs.Files.{Contents, is_limit, read_log}
 use Rattle.gp_vlog.specs.Logs.{LogState, IsReady, has_old, log_entries}
 use Rattle.gp_cli.specs.Outside.{Seen, Told}
 use Rattle.gp_cli.specs.Endings.{Ending, DiskFails, Overflows, Breaks, Starved, status_of, status_at_fault, text_of, run_to, config_of}
-use Rattle.gp_cli.specs.Causes.{last_alone, HasNoRoom}
+use Rattle.gp_cli.specs.Causes.{last_alone, HasNoRoom, FitsAlone}
 
 -- the text of an ending went to the sink, with its status
 abbrev pub TellsEnding : Ending → Seen → Seen → ℕ → Type 0
@@ -53,7 +53,7 @@ KeepsLast content image moment since old new = IfRevealed (content old) (λ was.
 abbrev pub TakesOn : {D : Type 0} → (D → Option (List ℕ)) → (D → List ℕ → Type 0) → LogState D → LogState D → Result (Unit {0}) AppendFault → Type 0
 TakesOn content image old new (Ok x) =
     IsReady content image new × (new.limit ≡ old.limit) × (has_old (log_entries old.is_old old.entries) ≡ false → new ≡ old)
-    × (has_old (log_entries old.is_old old.entries) ≡ true → log_entries new.is_old new.entries ≡ last_alone (log_entries old.is_old old.entries))
+    × (has_old (log_entries old.is_old old.entries) ≡ true → (log_entries new.is_old new.entries ≡ last_alone (log_entries old.is_old old.entries)) × FitsAlone old.limit (log_entries old.is_old old.entries))
 TakesOn content image old new (Err (append.Full size need)) = (new ≡ old) × HasNoRoom size need old.limit (log_entries old.is_old old.entries)
 TakesOn content image old new (Err append.Disk) = Unit {0}
 TakesOn content image old new (Err append.NoMemory) = Unit {0}

@@ -7,7 +7,7 @@ ghost use Rattle.gp_cli.specs.Subcommands.{named};
 ghost use Rattle.gp_cli.specs.Outside.{Outside};
 ghost use Rattle.gp_cli.specs.Causes.{IsCause, seen_at, driven_config, disk_used};
 ghost use Rattle.gp_cli.specs.Serving.{Ends, HoldsScript, HoldsBadLine, PlaysWhole, StopsAtLine, PrintsDriven, PrintsSimulated};
-ghost use Rattle.gp_cli.specs.LogRuns.{HoldsLog, HoldsNoLog, ShowsLog, ShowsTakenOn, HasNoSpace, IsBrokenAt};
+ghost use Rattle.gp_cli.specs.LogRuns.{HoldsLog, HoldsRoomyLog, HoldsFullLog, HoldsNoLog, ShowsLog, ShowsTakenOn, HasNoSpace, IsBrokenAt};
 ghost use Rattle.gp_cli.specs.Program.{Arguments, AreWords, IsProgramCause};
 
 /// With status 0 a script was read to its end and played, and all that it prints was written, with no
@@ -45,9 +45,9 @@ pub fn a_run_without_input_is_printed()
 {}
 
 /// With status 0 `log` has shown the log that its disk holds, and `upgrade` the log that it then holds: if
-/// an entry was of version 1 that is the last entry alone, in version 2. If the disk holds a log, no call
-/// of it fails, and a log that is taken on has room for its last entry, both end with status 0, or 5, or
-/// because memory ran out.
+/// an entry was of version 1 that is the last entry alone, in version 2. If the disk holds a log, nothing
+/// fails, and a log that is taken on has room for its last entry, both end with status 0, or because memory
+/// ran out.
 pub fn a_log_is_shown()
     ensures shown { (words : List (List ℕ)) (before now : Outside) (status : ℕ) (trail : List Record) → Ends (IsCause words) before now status trail → (k : ℕ)
         → named words ≡ Some (Log k) → status ≡ 0 → ShowsLog k before now }
@@ -55,15 +55,20 @@ pub fn a_log_is_shown()
         → named words ≡ Some (Upgrade k) → status ≡ 0 → ShowsTakenOn k before now }
     ensures log_complete { (words : List (List ℕ)) (before now : Outside) (status : ℕ) (trail : List Record) → Ends (IsCause words) before now status trail → (k : ℕ) → named words ≡ Some (Log k)
         → HoldsLog k before → ¬ Rose (seen_at k before.disks).faults (seen_at k now.disks).faults → ¬ Rose before.sink.faults now.sink.faults → (status ≡ 0) ⊎ (status ≡ 1) }
+    ensures upgrade_complete { (words : List (List ℕ)) (before now : Outside) (status : ℕ) (trail : List Record) → Ends (IsCause words) before now status trail → (k : ℕ) → named words ≡ Some (Upgrade k)
+        → HoldsRoomyLog k before → ¬ Rose (seen_at k before.disks).faults (seen_at k now.disks).faults → ¬ Rose before.sink.faults now.sink.faults → (status ≡ 0) ⊎ (status ≡ 1) }
 {}
 
-/// Status 7 is for a log with entries of version 1 that has no room for its last entry, and status 8 for
-/// bytes that are no log. Such bytes have no other status, unless the disk fails or memory runs out.
+/// Status 7 of `upgrade` is for a log with entries of version 1 that has no room for its last entry, and
+/// status 8 of `log` and `upgrade` for bytes that are no log. Such a log and such bytes have no other
+/// status there, unless the disk fails or memory runs out.
 pub fn a_log_was_full_or_broken()
     ensures full { (words : List (List ℕ)) (before now : Outside) (status : ℕ) (trail : List Record) → Ends (IsCause words) before now status trail
         → status ≡ 7 → HasNoSpace words before now status }
     ensures broken { (words : List (List ℕ)) (before now : Outside) (status : ℕ) (trail : List Record) → Ends (IsCause words) before now status trail
         → status ≡ 8 → IsBrokenAt words before now status }
+    ensures no_room { (words : List (List ℕ)) (before now : Outside) (status : ℕ) (trail : List Record) → Ends (IsCause words) before now status trail → (k : ℕ) → named words ≡ Some (Upgrade k)
+        → HoldsFullLog k before → ¬ Rose (seen_at k before.disks).faults (seen_at k now.disks).faults → (status ≡ 7) ⊎ (status ≡ 1) }
     ensures no_log { (words : List (List ℕ)) (before now : Outside) (status : ℕ) (trail : List Record) → Ends (IsCause words) before now status trail → (k : ℕ) → disk_used (named words) ≡ Some k
         → HoldsNoLog k before → ¬ Rose (seen_at k before.disks).faults (seen_at k now.disks).faults → (status ≡ 8) ⊎ (status ≡ 1) }
 {}
