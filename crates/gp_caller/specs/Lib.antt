@@ -1,0 +1,5 @@
+pub mod Rounds
+pub mod Standing
+pub mod Sights
+pub mod Calling
+pub mod Codes

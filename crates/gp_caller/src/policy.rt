@@ -1,0 +1,45 @@
+//! Which round a run begins next.
+ghost use Rattle.std.specs.Prelude.{◌≡◌, ◌<◌, ℕ, true, IfSome};
+ghost use Rattle.gp_round.specs.Configs.{is_owner};
+ghost use Rattle.gp_caller.specs.Rounds.{next_round};
+
+use gp_round::{Mode, Round};
+
+/// The coordinator that begins the rounds of a run.
+pub const LEADER: u32 = 0;
+
+/// The greatest count of a round.
+pub const LAST_COUNT: u32 = 1_000_000;
+
+/// The round that is begun first in an epoch.
+pub const FIRST_ROUND: Round = Round {
+    count: 1,
+    mode: Mode::Multi,
+    lead: 0,
+};
+
+/// The round above the highest one that the leader begins, if it begins one: a multi round if none was begun in its epoch, and
+/// its single round if one was begun, which has clashed. There is no third one, and none above the last count. It takes no
+/// memory.
+pub fn next_round(highest: Round, clashed: bool, begun: u32) -> Option<Round>
+    ensures answer { result ≡ next_round highest clashed begun }
+    ensures owned { (coordinators : ℕ) → 0 < coordinators → IfSome result (λ r. is_owner coordinators LEADER r ≡ true) }
+{
+    if highest.count >= LAST_COUNT {
+        return None;
+    }
+    let count = highest.count + 1;
+    match begun {
+        0 => Some(Round {
+            count,
+            mode: Mode::Multi,
+            lead: 0,
+        }),
+        1 if clashed => Some(Round {
+            count,
+            mode: Mode::Single,
+            lead: LEADER,
+        }),
+        _ => None,
+    }
+}

@@ -1,0 +1,145 @@
+use Rattle.std.proofs.Common.{◌≡◌, ◌++◌, true, List, length, get_or, set, refl, sym, ap, ◌∙◌, subst, None, arith, get_or-set_same}
+use Rattle.std.proofs.lemmas.List.{append-nil}
+use Rattle.std.specs.Option.{option_to_list}
+use Rattle.std.specs.List.{All}
+use Rattle.gp_work.specs.declared.job.Job.{Job}
+use Rattle.gp_phase.specs.Phases.{Asked, Follows, total}
+use Rattle.gp_phase.proofs.Phasing.{Looks, starts, ready, worked, looked, asked, finished, all_carried, carried_asked, known}
+use Rattle.gp_phase.proofs.phases.run_phases.Goals as goal
+
+pub loop-init : goal.loop-init
+loop-init g c = let r = c.requires.ready in (
+  refl,
+  refl,
+  c.requires.knows,
+  r.begun,
+  r.pending,
+  starts g.P.Process.state g.P.Process.is_of g.P.Process.too_great c.args.net.now g.C.Caller.answers c.args.at c.args.jobs.items (g.C.Caller.node c.args.caller.now) (g.C.Caller.config c.args.caller.now) (g.C.Caller.called c.args.caller.now) r (λ d. (c.requires.node d, c.requires.config d)),
+)
+
+pub workers-jobs-requires-clause-ready : goal.workers-jobs-requires-clause-ready
+workers-jobs-requires-clause-ready g c _ _ =
+    let inv = c.loop.invariant in
+    ready g.P.Process.state g.P.Process.is_of g.P.Process.too_great c.args.net.now g.C.Caller.answers c.args.at c.args.jobs.items c.loop.jobs.items (g.C.Caller.node c.args.caller.now) (g.C.Caller.config c.args.caller.now) inv.3 inv.4 (g.C.Caller.called c.loop.caller) inv.5
+
+pub returns-then-has_fault-clause-carried : goal.returns-then-has_fault-clause-carried
+returns-then-has_fault-clause-carried g c =
+    let inv = c.loop.invariant in
+    all_carried g.P.Process.state g.P.Process.is_of g.P.Process.too_great c.args.net.now g.C.Caller.answers c.args.at c.args.jobs.items c.loop.jobs.items c.workers-jobs.result.items (g.C.Caller.node c.args.caller.now) (g.C.Caller.config c.args.caller.now) inv.3 inv.4 (g.C.Caller.called c.loop.caller) inv.5 c.workers-jobs.ensures.each
+
+pub call_round-requires-clause-up : goal.call_round-requires-clause-up
+call_round-requires-clause-up g c =
+    let js0 = c.args.jobs.items in let js = c.loop.jobs.items in let ks = c.workers-jobs.result.items in
+    let me = g.C.Caller.node c.args.caller.now in let us = g.C.Caller.config c.args.caller.now in let called = g.C.Caller.called c.loop.caller in
+    let inv = c.loop.invariant in let ph = inv.5 in
+    let none : All (λ (k : Job g.row.P.Denot). k.fault ≡ None) ks = subst (All (λ (k : Job g.row.P.Denot). k.fault ≡ None)) c.deref-in-loop.ensures.value (c.if-has_fault.ensures refl) in
+    let done = worked g.P.Process.state g.P.Process.is_of g.P.Process.too_great c.args.net.now g.C.Caller.answers c.args.at js0 js ks me us inv.3 inv.4 called c.requires.at ph c.workers-jobs.ensures.same c.workers-jobs.ensures.each none in
+    let j : Job g.row.P.Denot = c.index_mut.result.now in
+    let here : j ≡ get_or ks c.args.at j = c.index_mut.ensures.value in
+    subst (λ (x : Job g.row.P.Denot). (g.P.Process.state x.cell).up ≡ true) (sym here) (done.each c.args.at j c.requires.at).up
+
+pub call_round-requires-clause-knows : goal.call_round-requires-clause-knows
+call_round-requires-clause-knows g c =
+    let js0 = c.args.jobs.items in let js = c.loop.jobs.items in let ks = c.workers-jobs.result.items in
+    let me = g.C.Caller.node c.args.caller.now in let us = g.C.Caller.config c.args.caller.now in let called = g.C.Caller.called c.loop.caller in
+    let inv = c.loop.invariant in let ph = inv.5 in
+    let none : All (λ (k : Job g.row.P.Denot). k.fault ≡ None) ks = subst (All (λ (k : Job g.row.P.Denot). k.fault ≡ None)) c.deref-in-loop.ensures.value (c.if-has_fault.ensures refl) in
+    let done = worked g.P.Process.state g.P.Process.is_of g.P.Process.too_great c.args.net.now g.C.Caller.answers c.args.at js0 js ks me us inv.3 inv.4 called c.requires.at ph c.workers-jobs.ensures.same c.workers-jobs.ensures.each none in
+    let j : Job g.row.P.Denot = c.index_mut.result.now in
+    let here : j ≡ get_or ks c.args.at j = c.index_mut.ensures.value in
+    let size = ph.size in let there = c.requires.at in
+    let goes = (c.workers-jobs.ensures.each c.args.at j (omega arith)).stretch.goes in
+    subst (λ (x : Job g.row.P.Denot). g.C.Caller.knows c.loop.caller (g.P.Process.state x.cell).list) (sym here)
+    (known g.P.Process.state g.P.Process.is_of g.P.Process.too_great c.args.net.now g.C.Caller.answers c.args.at (g.C.Caller.knows c.loop.caller) (g.C.Caller.lasts c.loop.caller) (g.P.Process.state (get_or js c.args.at j).cell) (g.P.Process.state (get_or ks c.args.at j).cell) goes (inv.2 j))
+
+pub returns-in-Err-clause-carried : goal.returns-in-Err-clause-carried
+returns-in-Err-clause-carried g c =
+    let js0 = c.args.jobs.items in let js = c.loop.jobs.items in let ks = c.workers-jobs.result.items in
+    let me = g.C.Caller.node c.args.caller.now in let us = g.C.Caller.config c.args.caller.now in let called = g.C.Caller.called c.loop.caller in
+    let inv = c.loop.invariant in let ph = inv.5 in
+    let none : All (λ (k : Job g.row.P.Denot). k.fault ≡ None) ks = subst (All (λ (k : Job g.row.P.Denot). k.fault ≡ None)) c.deref-in-loop.ensures.value (c.if-has_fault.ensures refl) in
+    let done = worked g.P.Process.state g.P.Process.is_of g.P.Process.too_great c.args.net.now g.C.Caller.answers c.args.at js0 js ks me us inv.3 inv.4 called c.requires.at ph c.workers-jobs.ensures.same c.workers-jobs.ensures.each none in
+    let j : Job g.row.P.Denot = c.index_mut.result.now in
+    let here : j ≡ get_or ks c.args.at j = c.index_mut.ensures.value in
+    let y : Job g.row.P.Denot = c.call_round.new.job in let after = g.C.Caller.called c.call_round.new.caller in
+    let e = c.call_round.ensures in
+    let w0 : Looks g.P.Process.state g.P.Process.is_of g.P.Process.too_great c.args.net.now g.C.Caller.answers c.args.at j y = record { own = e.own; goes = e.goes; posts = e.posts; up = e.up; cursor = e.cursor; risen = e.risen; fault = e.fault } in
+    let w = subst (λ (x : Job g.row.P.Denot). Looks g.P.Process.state g.P.Process.is_of g.P.Process.too_great c.args.net.now g.C.Caller.answers c.args.at x y) here w0 in
+    carried_asked g.P.Process.state g.P.Process.is_of g.P.Process.too_great c.args.net.now g.C.Caller.answers c.args.at js0 ks me us called y j c.requires.at done w
+
+pub returns-then-not-left-clause-carried : goal.returns-then-not-left-clause-carried
+returns-then-not-left-clause-carried g c =
+    let js0 = c.args.jobs.items in let js = c.loop.jobs.items in let ks = c.workers-jobs.result.items in
+    let me = g.C.Caller.node c.args.caller.now in let us = g.C.Caller.config c.args.caller.now in let called = g.C.Caller.called c.loop.caller in
+    let inv = c.loop.invariant in let ph = inv.5 in
+    let none : All (λ (k : Job g.row.P.Denot). k.fault ≡ None) ks = subst (All (λ (k : Job g.row.P.Denot). k.fault ≡ None)) c.deref-in-loop.ensures.value (c.if-has_fault.ensures refl) in
+    let done = worked g.P.Process.state g.P.Process.is_of g.P.Process.too_great c.args.net.now g.C.Caller.answers c.args.at js0 js ks me us inv.3 inv.4 called c.requires.at ph c.workers-jobs.ensures.same c.workers-jobs.ensures.each none in
+    let j : Job g.row.P.Denot = c.index_mut.result.now in
+    let here : j ≡ get_or ks c.args.at j = c.index_mut.ensures.value in
+    let y : Job g.row.P.Denot = c.call_round.new.job in let after = g.C.Caller.called c.call_round.new.caller in
+    let e = c.call_round.ensures in
+    let w0 : Looks g.P.Process.state g.P.Process.is_of g.P.Process.too_great c.args.net.now g.C.Caller.answers c.args.at j y = record { own = e.own; goes = e.goes; posts = e.posts; up = e.up; cursor = e.cursor; risen = e.risen; fault = e.fault } in
+    let w = subst (λ (x : Job g.row.P.Denot). Looks g.P.Process.state g.P.Process.is_of g.P.Process.too_great c.args.net.now g.C.Caller.answers c.args.at x y) here w0 in
+    carried_asked g.P.Process.state g.P.Process.is_of g.P.Process.too_great c.args.net.now g.C.Caller.answers c.args.at js0 ks me us called y j c.requires.at done w
+
+pub returns-then-not-left-clause-finished : goal.returns-then-not-left-clause-finished
+returns-then-not-left-clause-finished g c _ i d l =
+    let js0 = c.args.jobs.items in let js = c.loop.jobs.items in let ks = c.workers-jobs.result.items in
+    let me = g.C.Caller.node c.args.caller.now in let us = g.C.Caller.config c.args.caller.now in let called = g.C.Caller.called c.loop.caller in
+    let inv = c.loop.invariant in let ph = inv.5 in
+    let none : All (λ (k : Job g.row.P.Denot). k.fault ≡ None) ks = subst (All (λ (k : Job g.row.P.Denot). k.fault ≡ None)) c.deref-in-loop.ensures.value (c.if-has_fault.ensures refl) in
+    let done = worked g.P.Process.state g.P.Process.is_of g.P.Process.too_great c.args.net.now g.C.Caller.answers c.args.at js0 js ks me us inv.3 inv.4 called c.requires.at ph c.workers-jobs.ensures.same c.workers-jobs.ensures.each none in
+    let j : Job g.row.P.Denot = c.index_mut.result.now in
+    let here : j ≡ get_or ks c.args.at j = c.index_mut.ensures.value in
+    let y : Job g.row.P.Denot = c.call_round.new.job in let after = g.C.Caller.called c.call_round.new.caller in
+    let e = c.call_round.ensures in
+    let w0 : Looks g.P.Process.state g.P.Process.is_of g.P.Process.too_great c.args.net.now g.C.Caller.answers c.args.at j y = record { own = e.own; goes = e.goes; posts = e.posts; up = e.up; cursor = e.cursor; risen = e.risen; fault = e.fault } in
+    let w = subst (λ (x : Job g.row.P.Denot). Looks g.P.Process.state g.P.Process.is_of g.P.Process.too_great c.args.net.now g.C.Caller.answers c.args.at x y) here w0 in
+    let a = subst (λ (x : Job g.row.P.Denot). Asked g.P.Process.state (g.C.Caller.answers (g.P.Process.state x.cell).config (g.P.Process.state x.cell).node) called after x y c.in-Ok.left) here c.in-Ok.ensures.asked in
+    let ends = looked g.P.Process.state g.P.Process.is_of g.P.Process.too_great c.args.net.now g.C.Caller.answers c.args.at js0 js ks me us inv.3 inv.4 called ph c.workers-jobs.ensures.same c.workers-jobs.ensures.each none in
+    let quiet : All (λ (k : Job g.row.P.Denot). length (g.P.Process.state k.cell).list ≡ total g.P.Process.state c.args.others ks) ks =
+    subst (λ (xs : List (Job g.row.P.Denot)). All (λ (k : Job g.row.P.Denot). length (g.P.Process.state k.cell).list ≡ total g.P.Process.state c.args.others xs) xs) c.deref-in-loop-2.ensures.value (c.if-quiet.ensures refl) in
+    finished g.P.Process.state g.P.Process.is_of g.P.Process.too_great c.args.net.now g.C.Caller.answers c.args.at js0 ks me us called after c.args.others y j c.in-Ok.left c.requires.at done w a c.if-not-left.true ends quiet i d l
+
+pub returns-then-not-left-clause-follows : goal.returns-then-not-left-clause-follows
+returns-then-not-left-clause-follows g c _ d =
+    let js0 = c.args.jobs.items in let js = c.loop.jobs.items in let ks = c.workers-jobs.result.items in
+    let me = g.C.Caller.node c.args.caller.now in let us = g.C.Caller.config c.args.caller.now in let called = g.C.Caller.called c.loop.caller in
+    let inv = c.loop.invariant in let ph = inv.5 in
+    let none : All (λ (k : Job g.row.P.Denot). k.fault ≡ None) ks = subst (All (λ (k : Job g.row.P.Denot). k.fault ≡ None)) c.deref-in-loop.ensures.value (c.if-has_fault.ensures refl) in
+    let done = worked g.P.Process.state g.P.Process.is_of g.P.Process.too_great c.args.net.now g.C.Caller.answers c.args.at js0 js ks me us inv.3 inv.4 called c.requires.at ph c.workers-jobs.ensures.same c.workers-jobs.ensures.each none in
+    let j : Job g.row.P.Denot = c.index_mut.result.now in
+    let here : j ≡ get_or ks c.args.at j = c.index_mut.ensures.value in
+    let y : Job g.row.P.Denot = c.call_round.new.job in let after = g.C.Caller.called c.call_round.new.caller in
+    let e = c.call_round.ensures in
+    let w0 : Looks g.P.Process.state g.P.Process.is_of g.P.Process.too_great c.args.net.now g.C.Caller.answers c.args.at j y = record { own = e.own; goes = e.goes; posts = e.posts; up = e.up; cursor = e.cursor; risen = e.risen; fault = e.fault } in
+    let w = subst (λ (x : Job g.row.P.Denot). Looks g.P.Process.state g.P.Process.is_of g.P.Process.too_great c.args.net.now g.C.Caller.answers c.args.at x y) here w0 in
+    let a = subst (λ (x : Job g.row.P.Denot). Asked g.P.Process.state (g.C.Caller.answers (g.P.Process.state x.cell).config (g.P.Process.state x.cell).node) called after x y c.in-Ok.left) here c.in-Ok.ensures.asked in
+    let next = asked g.P.Process.state g.P.Process.is_of g.P.Process.too_great c.args.net.now g.C.Caller.answers c.args.at js0 ks me us called after y j c.in-Ok.left c.requires.at done w a in
+    let same : called ≡ after = sym (next.all ∙ ap (λ o. called ++ option_to_list o) (a.none c.if-not-left.true) ∙ append-nil called) in
+    subst (λ cs. Follows g.P.Process.state g.C.Caller.answers (get_or (set ks c.args.at y) c.args.at d) cs None) same
+    (subst (Follows g.P.Process.state g.C.Caller.answers (get_or (set ks c.args.at y) c.args.at d) called) (a.none c.if-not-left.true) (next.follows d))
+
+pub loop-preserved : goal.loop-preserved
+loop-preserved g c =
+    let js0 = c.args.jobs.items in let js = c.loop.jobs.items in let ks = c.workers-jobs.result.items in
+    let me = g.C.Caller.node c.args.caller.now in let us = g.C.Caller.config c.args.caller.now in let called = g.C.Caller.called c.loop.caller in
+    let inv = c.loop.invariant in let ph = inv.5 in
+    let none : All (λ (k : Job g.row.P.Denot). k.fault ≡ None) ks = subst (All (λ (k : Job g.row.P.Denot). k.fault ≡ None)) c.deref-in-loop.ensures.value (c.if-has_fault.ensures refl) in
+    let done = worked g.P.Process.state g.P.Process.is_of g.P.Process.too_great c.args.net.now g.C.Caller.answers c.args.at js0 js ks me us inv.3 inv.4 called c.requires.at ph c.workers-jobs.ensures.same c.workers-jobs.ensures.each none in
+    let j : Job g.row.P.Denot = c.index_mut.result.now in
+    let here : j ≡ get_or ks c.args.at j = c.index_mut.ensures.value in
+    let y : Job g.row.P.Denot = c.call_round.new.job in let after = g.C.Caller.called c.call_round.new.caller in
+    let e = c.call_round.ensures in
+    let w0 : Looks g.P.Process.state g.P.Process.is_of g.P.Process.too_great c.args.net.now g.C.Caller.answers c.args.at j y = record { own = e.own; goes = e.goes; posts = e.posts; up = e.up; cursor = e.cursor; risen = e.risen; fault = e.fault } in
+    let w = subst (λ (x : Job g.row.P.Denot). Looks g.P.Process.state g.P.Process.is_of g.P.Process.too_great c.args.net.now g.C.Caller.answers c.args.at x y) here w0 in
+    let a = subst (λ (x : Job g.row.P.Denot). Asked g.P.Process.state (g.C.Caller.answers (g.P.Process.state x.cell).config (g.P.Process.state x.cell).node) called after x y c.in-Ok.left) here c.in-Ok.ensures.asked in
+    let next = asked g.P.Process.state g.P.Process.is_of g.P.Process.too_great c.args.net.now g.C.Caller.answers c.args.at js0 ks me us called after y j c.in-Ok.left c.requires.at done w a in
+    let mine : (d : Job g.row.P.Denot) → get_or (set ks c.args.at y) c.args.at d ≡ y = λ d. get_or-set_same ks c.args.at y d (let size = done.size in let there = c.requires.at in omega arith) in (
+      e.node ∙ inv.0,
+      e.config ∙ inv.1,
+      (λ d. subst (λ (x : Job g.row.P.Denot). g.C.Caller.knows c.call_round.new.caller (g.P.Process.state x.cell).list) (sym (mine d)) e.knows),
+      called,
+      a.answer,
+      next,
+    )

@@ -1,0 +1,118 @@
+-- Phases, one after another.
+use Rattle.std.specs.Prelude.{◌≡◌, ◌≤◌, ◌<◌, ℕ, ◌+◌, Bool, true, false, cond, nat_eq, List, [], ◌∷◌, ◌++◌, map, length, take, slice_get, slice_index_or, Option, None, Some, IfSome}
+use Rattle.std.specs.Option.{option_to_list}
+use Rattle.gp_round.specs.Counts.{Counts}
+use Rattle.gp_round.specs.declared.round.Round.{Round}
+use Rattle.gp_msg.specs.declared.node.Node.{Node}
+use Rattle.gp_msg.specs.declared.event.Event.{Event}
+use Rattle.gp_msg.specs.declared.record.Record.{Record}
+use Rattle.gp_wire.specs.Messages.{messages_in}
+use Rattle.gp_edge.specs.Faults.{Rose}
+use Rattle.gp_rules.specs.Own.{own_events}
+use Rattle.gp_work.specs.declared.faults.JobFault.{JobFault}
+use Rattle.gp_work.specs.declared.faults.JobFault.TheVariants.{NoMemory, Disk, Full, NotLog, Changed}
+use Rattle.gp_work.specs.declared.job.Job.{Job}
+use Rattle.gp_work.specs.Doing.{ProcessState, posted, Goes}
+use Rattle.gp_work.specs.Moves.{event_of, AllFit}
+use Rattle.gp_work.specs.declared.moves.Move.TheVariants as move
+use Rattle.gp_phase.specs.declared.caller.Call.{Call}
+use Rattle.gp_phase.specs.Deeds.{Tidy, others_in, begins, begin_moves}
+
+-- the rounds of these calls
+abbrev pub rounds : List Call → List Round
+rounds calls = map (λ c. c.round) calls
+
+-- what stands at a place of its own, and nothing elsewhere
+abbrev pub only_at : {A : Type 0} → ℕ → ℕ → List A → List A
+only_at at i xs = cond (nat_eq i at) xs []
+
+-- a job that was j at first, and whose node has now begun these rounds
+pub record Going {N P : Type 0} (state : P → ProcessState) (is_of : P → N → Type 0) (net : N) (rounds : List Round) (j k : Job P) : Type 0 where
+  pub fault : k.fault ≡ None
+  pub own : is_of k.cell net
+  pub up : (state k.cell).up ≡ true
+  pub goes : Goes (state j.cell) (state k.cell)
+  pub stays : j.risen ≡ true → k.risen ≡ true
+  -- its node has fallen only if its disk failed
+  pub fallen : j.risen ≡ false → k.risen ≡ true → Rose (state j.cell).faults (state k.cell).faults
+  pub tidy : k.risen ≡ false → Tidy (state k.cell) k.cursor (begins (state k.cell).node rounds)
+
+-- why a job ended early: the number of faults of its disk before and now, and which numbers are too great for an event of its node
+abbrev pub FaultCause : ℕ → ℕ → (Event → ℕ → ℕ → Type 0) → JobFault → Type 0
+FaultCause before now too_great NoMemory = Unit {0}
+FaultCause before now too_great Disk = Rose before now
+FaultCause before now too_great (Full size need) = (e : Event) × too_great e size need
+FaultCause before now too_great (NotLog at) = Rose before now
+FaultCause before now too_great (Changed found) = Rose before now
+
+-- a job that was j at first, however the phases ended
+pub record Carried {N P : Type 0} (state : P → ProcessState) (is_of : P → N → Type 0) (too_great : P → Event → ℕ → ℕ → Type 0) (net : N) (j k : Job P) : Type 0 where
+  pub own : is_of k.cell net
+  pub goes : Goes (state j.cell) (state k.cell)
+  pub cause : IfSome k.fault (FaultCause (state j.cell).faults (state k.cell).faults (too_great k.cell))
+
+-- what a caller may answer: in a configuration, for a node, after these answers, once the node has seen these records
+abbrev pub Answers : Type 1
+Answers = Counts → Node → List Call → List Record → Option Call → Type 0
+
+-- the node was called to begin a round when it had begun those that were called before, for what it had then seen
+pub record IsMeant (answers : Answers) (p : ProcessState) (before : List Call) (call : Call) : Type 0 where
+  pub seen : List Record
+  pub more : List Record
+  pub split : p.list ≡ seen ++ more
+  pub acts : others_in (own_events p.node seen) ≡ begins p.node (rounds before)
+  pub may : answers p.config p.node before seen (Some call)
+
+-- its next event was to begin the round
+pub record HasBegun (answers : Answers) (p : ProcessState) (before : List Call) (call : Call) : Type 0 where
+  pub meant : IsMeant answers p before call
+  pub rest : List Event
+  pub next : own_events p.node p.list ≡ own_events p.node meant.seen ++ event_of p.node (move.Begin call.round) ∷ rest
+
+-- it is still to begin the round
+pub record IsToBegin (answers : Answers) (p : ProcessState) (before : List Call) (call : Call) : Type 0 where
+  pub meant : IsMeant answers p before call
+  pub still : own_events p.node p.list ≡ own_events p.node meant.seen
+
+-- it has begun each round that was called
+abbrev pub HasBegunAll : Answers → ProcessState → List Call → Type 0
+HasBegunAll answers p called = (k : ℕ) (c : Call) → slice_get called k ≡ Some c → HasBegun answers p (take k called) c
+
+-- unless its node has fallen, it has begun these rounds, and is to begin this one
+pub record Follows {P : Type 0} (state : P → ProcessState) (answers : Answers) (j : Job P) (begun : List Call) (pending : Option Call) : Type 0 where
+  pub all : j.risen ≡ false → HasBegunAll answers (state j.cell) begun
+  pub left : j.risen ≡ false → IfSome pending (IsToBegin answers (state j.cell) begun)
+
+-- jobs that can go on: the node at a place has begun the rounds that were called but for the last one, which it may still have to begin
+pub record AreReady {N P : Type 0} (state : P → ProcessState) (is_of : P → N → Type 0) (net : N) (answers : Answers) (at : ℕ) (called : List Call) (jobs : List (Job P)) : Type 0 where
+  pub begun : List Call
+  pub pending : Option Call
+  pub all : called ≡ begun ++ option_to_list pending
+  pub each : (i : ℕ) (d : Job P) → i < length jobs → Going state is_of net (only_at at i (rounds begun)) (slice_index_or jobs i d) (slice_index_or jobs i d)
+  pub first : (i : ℕ) (d : Job P) → i < length jobs → (slice_index_or jobs i d).first ≡ only_at at i (begin_moves (rounds (option_to_list pending)))
+  pub fits : (d : Job P) → let j = slice_index_or jobs at d in AllFit (state j.cell).config (state j.cell).node (begin_moves (rounds (option_to_list pending)))
+  pub follows : (d : Job P) → Follows state answers (slice_index_or jobs at d) begun pending
+
+-- how many records all posted together, if the nodes without a job posted so many
+abbrev pub total : {P : Type 0} → (P → ProcessState) → ℕ → List (Job P) → ℕ
+total state others [] = others
+total state others (j ∷ js) = posted (state j.cell) + total state others js
+
+-- a job at the end of the phases: behind the last one its node had seen as many records as all posted, and had looked at all of their messages
+pub record Finished {N P : Type 0} (state : P → ProcessState) (is_of : P → N → Type 0) (net : N) (rounds : List Round) (all : ℕ) (j k : Job P) : Type 0 where
+  pub going : Going state is_of net rounds j k
+  pub first : k.first ≡ []
+  pub seen : List Record
+  pub more : List Record
+  pub split : (state k.cell).list ≡ seen ++ more
+  pub whole : length seen ≡ all
+  pub looked : length (messages_in seen) ≤ k.cursor
+
+-- what a caller left for the next phase
+pub record Asked {P : Type 0} (state : P → ProcessState) (answers : List Call → List Record → Option Call → Type 0) (before after : List Call) (j k : Job P) (left : Bool) : Type 0 where
+  pub answer : Option Call
+  pub called : after ≡ before ++ option_to_list answer
+  pub first : k.first ≡ begin_moves (rounds (option_to_list answer))
+  pub fits : AllFit (state j.cell).config (state j.cell).node (begin_moves (rounds (option_to_list answer)))
+  pub may : answers before (state k.cell).list answer
+  pub none : left ≡ false → answer ≡ None

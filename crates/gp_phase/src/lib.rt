@@ -1,0 +1,9 @@
+//! Phases: rounds of work of all nodes, one after another, until all that was sent was seen by all.
+#![tactic(auto)]
+
+mod caller;
+pub mod laws;
+mod phases;
+
+pub use caller::{Call, Caller};
+pub use phases::{Phases, PhasesEnd, call_round, run_phases};

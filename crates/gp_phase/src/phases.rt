@@ -1,0 +1,177 @@
+//! The phases of a run.
+ghost use Rattle.std.specs.Prelude.{◌≡◌, ◌<◌, ℕ, true, false, [], length, slice_index_or, IfOk, IfSome};
+ghost use Rattle.std.specs.List.{All};
+ghost use Rattle.std.specs.Prelude.{None};
+ghost use Rattle.gp_work.specs.declared.job.Job.{Job};
+ghost use Rattle.gp_work.specs.Doing.{Goes, Posted};
+ghost use Rattle.gp_phase.specs.declared.phases.PhasesEnd.TheVariants as PhasesEnd;
+ghost use Rattle.gp_phase.specs.Phases.{rounds, only_at, total, AreReady, Carried, Finished, Asked, Follows};
+
+use crate::caller::Caller;
+use gp_command::NoMemory;
+use gp_edge::Gate;
+use gp_work::{Job, Move, Process, workers};
+use std::alloc::Global;
+use std::sync::Wait;
+use std::thread::Threads;
+
+/// Why phases ended.
+#[derive(Clone, Copy, Debug, PartialEq, Eq)]
+pub enum PhasesEnd {
+    /// Nothing was posted in the last phase, all that was posted before was seen by all, and no round is left to begin.
+    Quiet,
+    /// A job has a fault.
+    Fault,
+    /// Memory ran out between two phases.
+    NoMemory,
+}
+
+/// The jobs after the last phase.
+#[derive(Drop)]
+pub struct Phases<P> {
+    pub jobs: Vec<Job<P>>,
+    pub end: PhasesEnd,
+}
+
+// Whether a job has a fault.
+fn has_fault<P>(jobs: &[Job<P>]) -> bool
+    ensures { result ≡ false → All (λ (j : Job P). j.fault ≡ None) jobs.now }
+{
+    for job in jobs {
+        if job.fault.is_some() {
+            return true;
+        }
+    }
+    false
+}
+
+// How many records all nodes posted together, if that can be counted.
+fn count<N, P: Process<N>>(others: u64, jobs: &[Job<P>]) -> Option<u64>
+    ensures { IfSome result (λ n. n ≡ total P.state others jobs.now) }
+{
+    let mut sum = others;
+    for i in (0..jobs.len()).rev() {
+        let job = &jobs[i];
+        sum = job.cell.posted().checked_add(sum)?;
+    }
+    Some(sum)
+}
+
+// Whether each node has seen so many records.
+fn have_seen<N, P: Process<N>>(jobs: &[Job<P>], all: u64) -> bool
+    ensures { result ≡ true → All (λ (j : Job P). length (P.state j.cell).list ≡ all) jobs.now }
+{
+    for job in jobs {
+        if job.cell.seen() != all {
+            return false;
+        }
+    }
+    true
+}
+
+// Whether nothing was posted in a phase, and all that was posted before was seen.
+fn is_quiet<N, P: Process<N>>(before: Option<u64>, others: u64, jobs: &[Job<P>]) -> bool
+    ensures { result ≡ true → All (λ (j : Job P). length (P.state j.cell).list ≡ total P.state others jobs.now) jobs.now }
+{
+    match (before, count(others, jobs)) {
+        (Some(before), Some(after)) => before == after && have_seen(jobs, after),
+        _ => false,
+    }
+}
+
+/// Asks which round the node of a job is to begin next, and leaves it the move for the next phase. Answers whether there is
+/// one.
+pub fn call_round<N, P: Process<N>, C: Caller<N, P>, W: Wait>(
+    rt: &W,
+    net: &N,
+    job: &mut Job<P>,
+    caller: &mut C,
+) -> Result<bool, NoMemory>
+    requires own { P.is_of job.old.cell net.now }
+    requires up { (P.state job.old.cell).up ≡ true }
+    requires node { (P.state job.old.cell).node ≡ C.node caller.old }
+    requires config { (P.state job.old.cell).config ≡ C.config caller.old }
+    requires knows { C.knows caller.old (P.state job.old.cell).list }
+    requires first { job.old.first ≡ [] }
+    ensures node { C.node caller.new ≡ C.node caller.old }
+    ensures config { C.config caller.new ≡ C.config caller.old }
+    ensures knows { C.knows caller.new (P.state job.new.cell).list }
+    ensures own { P.is_of job.new.cell net.now }
+    ensures goes { Goes (P.state job.old.cell) (P.state job.new.cell) }
+    ensures posts { Posted (P.state job.old.cell) (P.state job.new.cell) [] }
+    ensures up { (P.state job.new.cell).up ≡ true }
+    ensures cursor { job.new.cursor ≡ job.old.cursor }
+    ensures risen { job.new.risen ≡ job.old.risen }
+    ensures fault { job.new.fault ≡ job.old.fault }
+    ensures asked { IfOk result (Asked P.state (C.answers (P.state job.old.cell).config (P.state job.old.cell).node) (C.called caller.old) (C.called caller.new) job.old job.new) }
+{
+    match caller.next(rt, net, &mut job.cell) {
+        Ok(None) => Ok(false),
+        Ok(Some(call)) => match job.first.push(Move::Begin(call.round)) {
+            Ok(()) => Ok(true),
+            Err(_) => Err(NoMemory),
+        },
+        Err(none) => Err(none),
+    }
+}
+
+/// Runs phases: in each of them the jobs are done, each in a thread of its own, and behind it the caller is asked which round
+/// the node of job `at` is to begin in the next one.
+///
+/// They end after a phase in which a job has a fault, or if memory runs out. They also end after a phase in which no node
+/// posted a record, behind which each node has seen as many records as all nodes posted, and which leaves no round to begin.
+/// `others` is how many records the nodes without a job posted.
+pub fn run_phases<
+    N: Sync,
+    P: Process<N> + Send,
+    C: Caller<N, P>,
+    W: Threads + Wait + Sync,
+    G: Gate + Sync,
+>(
+    rt: &W,
+    alloc: Global,
+    net: &N,
+    mut jobs: Vec<Job<P>>,
+    at: usize,
+    caller: &mut C,
+    others: u64,
+    gate: &G,
+) -> Phases<P>
+    requires at { at < length jobs.items }
+    requires ready { AreReady P.state P.is_of net.now C.answers at (C.called caller.old) jobs.items }
+    requires node { (d : Job P) → (P.state (slice_index_or jobs.items at d).cell).node ≡ C.node caller.old }
+    requires config { (d : Job P) → (P.state (slice_index_or jobs.items at d).cell).config ≡ C.config caller.old }
+    requires knows { (d : Job P) → C.knows caller.old (P.state (slice_index_or jobs.items at d).cell).list }
+    ensures size { length result.jobs.items ≡ length jobs.items }
+    ensures carried { (i : ℕ) (d : Job P) → i < length jobs.items → Carried P.state P.is_of P.too_great net.now (slice_index_or jobs.items i d) (slice_index_or result.jobs.items i d) }
+    ensures finished { result.end ≡ PhasesEnd.Quiet → (i : ℕ) (d : Job P) → i < length jobs.items
+        → Finished P.state P.is_of net.now (only_at at i (rounds (C.called caller.new))) (total P.state others result.jobs.items) (slice_index_or jobs.items i d) (slice_index_or result.jobs.items i d) }
+    ensures follows { result.end ≡ PhasesEnd.Quiet → (d : Job P) → Follows P.state C.answers (slice_index_or result.jobs.items at d) (C.called caller.new) None }
+    ensures last { result.end ≡ PhasesEnd.Quiet → (d : Job P) → let j = slice_index_or result.jobs.items at d in C.answers (P.state j.cell).config (P.state j.cell).node (C.called caller.new) (P.state j.cell).list None }
+    ensures node { C.node caller.new ≡ C.node caller.old }
+    ensures config { C.config caller.new ≡ C.config caller.old }
+    ensures knows { result.end ≡ PhasesEnd.Quiet → (d : Job P) → C.knows caller.new (P.state (slice_index_or result.jobs.items at d).cell).list }
+{
+    for _ in rt.forever() {
+        let before = count(others, &jobs);
+        jobs = workers(rt, alloc, net, jobs, gate);
+        if has_fault(&jobs) {
+            let end = PhasesEnd::Fault;
+            return Phases { jobs, end };
+        }
+        let quiet = is_quiet(before, others, &jobs);
+        match call_round(rt, net, &mut jobs[at], caller) {
+            Err(NoMemory) => {
+                let end = PhasesEnd::NoMemory;
+                return Phases { jobs, end };
+            }
+            Ok(left) => {
+                if quiet && !left {
+                    let end = PhasesEnd::Quiet;
+                    return Phases { jobs, end };
+                }
+            }
+        }
+    }
+    unreachable!()
+}
