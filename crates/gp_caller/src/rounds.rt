@@ -1,8 +1,9 @@
 //! The rounds of a run.
-ghost use Rattle.std.specs.Prelude.{◌≡◌, ◌↔◌, ◌++◌, ◌<◌, [], ◌^◌, true, length, IsTrue, IfOk, IfSome, OnOk, OnErr};
+ghost use Rattle.std.specs.Prelude.{◌≡◌, ◌↔◌, ◌++◌, ◌<◌, [], ◌^◌, true, List, length, IsTrue, IfOk, IfSome, OnOk, OnErr};
 ghost use Rattle.std.specs.Option.{option_to_list};
 ghost use Rattle.gp_round.specs.Configs.{is_owner};
 ghost use Rattle.gp_msg.specs.declared.node.Node.TheVariants.{Coordinator};
+ghost use Rattle.gp_msg.specs.declared.record.Record.{Record};
 ghost use Rattle.gp_caller.specs.Calling.{IsCalled, Decides, called_for, highest_for, entered, new_caller};
 ghost use Rattle.gp_caller.specs.Sights.{Saw, saw_lasts};
 
@@ -57,7 +58,8 @@ impl Model for RoundCaller {
 impl RoundCaller {
     /// It has called no round and seen no message.
     pub fn new(alloc: Global, config: Config) -> Result<RoundCaller, NoMemory>
-        ensures { IfOk result (λ c. c ≡ new_caller config) }
+        ensures made { IfOk result (λ c. c ≡ new_caller config) }
+        ensures knows { IfOk result (λ c. (seen : List Record) → Saw c.sight seen) }
     {
         let sight = Sight::new(alloc, 0, FIRST_ROUND)?;
         Ok(RoundCaller {
@@ -67,6 +69,13 @@ impl RoundCaller {
             sight,
             calls: Vec::new(alloc),
         })
+    }
+
+    /// Its calls, the oldest first. It takes no memory.
+    pub fn calls(&self) -> &[Call]
+        ensures { result.now ≡ self.now.calls }
+    {
+        &self.calls
     }
 
     // Has a watch over the first round of this epoch.

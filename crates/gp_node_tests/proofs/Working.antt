@@ -1,24 +1,24 @@
 -- Jobs after a phase, and passes of a new wire.
-use Rattle.std.proofs.Common.{◌≡◌, ℕ, List, [], ◌∷◌, ◌++◌, refl, sym, ap, ◌∙◌, subst, Option, Some, None, inl, inr}
-use Rattle.atomic_table.specs.Seated.{TableId}
+use Rattle.std.proofs.Common.{◌≡◌, ℕ, List, [], ◌∷◌, ◌++◌, refl, sym, subst, Option, Some, None, inl}
 use Rattle.gp_edge.specs.Records.{MemDiskState}
 use Rattle.gp_msg.specs.declared.node.Node.{Node}
-use Rattle.gp_wire.specs.Lists.{Each, Has}
-use Rattle.gp_wire.specs.Known.{WireState, PassState, new_pass}
+use Rattle.gp_wire.specs.Lists.{Each}
+use Rattle.gp_wire.specs.Known.{WireState, PassState}
 use Rattle.gp_wire.specs.Fresh.{AreFresh}
 use Rattle.gp_work.specs.declared.job.Job.{Job}
 use Rattle.gp_work.specs.declared.faults.JobFault.{JobFault}
 use Rattle.gp_work.specs.declared.moves.Move.{Move}
 use Rattle.gp_work.specs.Doing.{ProcessState}
-use Rattle.gp_work.specs.Moves.{AllFit, HasOffer}
-use Rattle.gp_work.specs.Jobs.{Done, Ends}
+use Rattle.gp_work.specs.Moves.{AllFit, HasOffer, Fits}
+use Rattle.gp_round.specs.Counts.{Counts}
+use Rattle.gp_work.specs.Jobs.{Ends}
 use Rattle.gp_work.specs.declared.moves.Move.{Move}
 use Rattle.gp_msg.specs.declared.event.Event.{Event}
 use Rattle.std.specs.Prelude.{Bool, true}
 use Rattle.gp_rules.specs.declared.rules.PaxosRules.{PaxosRules}
 use Rattle.gp_cell.specs.Cells.{CellState}
 use Rattle.gp_cell.specs.Working.{process_of}
-use Rattle.gp_node.specs.Phases.{IsReadyJob, IsWorkedJob}
+use Rattle.gp_node.specs.Phases.{IsWorkedJob}
 use Rattle.gp_node_tests.specs.Phases.{IsFresh, IsReady}
 
 -- work that came to its end leaves the node up
@@ -46,3 +46,7 @@ all_fresh wire all [] [] h = tt
 all_fresh wire all [] (p ∷ ps) h = absurd h
 all_fresh wire all (n ∷ ns) [] h = absurd h
 all_fresh wire all (n ∷ ns) (p ∷ ps) h = (subst (IsFresh wire) (sym h.0) (refl, inl refl, refl), all_fresh wire all ns ps h.1)
+
+pub fits_more : (config : Counts) (n : Node) (ms : List Move) (m : Move) → AllFit config n ms → Fits config n m → AllFit config n (ms ++ m ∷ [])
+fits_more config n [] m h f = (f, tt)
+fits_more config n (x ∷ ms) m h f = (h.0, fits_more config n ms m h.1 f)

@@ -1,10 +1,9 @@
 -- One node at a wire of its own.
-use Rattle.std.specs.Prelude.{◌≡◌, List, [], ◌∷◌, None}
+use Rattle.std.specs.Prelude.{◌≡◌, [], ◌∷◌, None}
 use Rattle.atomic_table.specs.Seated.{TableId}
 use Rattle.gp_round.specs.Counts.{Counts}
 use Rattle.gp_msg.specs.declared.node.Node.{Node}
-use Rattle.gp_wire.specs.Known.{PassState, new_pass, records}
-use Rattle.gp_rules.specs.Own.{own}
+use Rattle.gp_wire.specs.Known.{PassState, new_pass}
 use Rattle.gp_cell.specs.Working.{IsAt}
 use Rattle.gp_node_tests.specs.declared.alone.Alone.{Alone}
 

@@ -1,5 +1,8 @@
 -- Jobs of cells over disks in memory.
 use Rattle.std.specs.Prelude.{◌≡◌, [], None}
+use Rattle.gp_round.specs.Counts.{Counts}
+use Rattle.gp_cell.specs.Working.{process_of, IsAt}
+use Rattle.gp_phase.specs.Phases.{IsNew}
 use Rattle.gp_edge.specs.Records.{MemDiskState}
 use Rattle.gp_wire.specs.Lists.{Has}
 use Rattle.gp_wire.specs.Known.{WireState, PassState}
@@ -19,3 +22,7 @@ IsReady wire job = IsReadyJob (λ d. d.calls.faults) wire job
 -- the job did not end early
 abbrev pub HasNoFault : Job (CellState MemDiskState) → Type 0
 HasNoFault job = job.fault ≡ None
+
+-- the job is one of a node of this configuration that is up at this wire and has posted nothing
+abbrev pub IsNewJob : WireState PaxosRules → Counts → Job (CellState MemDiskState) → Type 0
+IsNewJob wire config job = IsNew (process_of (λ d. d.calls.faults)) (λ c w. IsAt c w) wire job × (job.cell.config ≡ config)

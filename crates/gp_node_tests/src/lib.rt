@@ -8,3 +8,5 @@ mod calls;
 mod falls;
 #[cfg(test)]
 mod phases;
+#[cfg(test)]
+mod rounds;

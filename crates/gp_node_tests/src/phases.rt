@@ -161,8 +161,8 @@ fn job_of(
     }
 }
 
-// Whether a node is one of the configuration.
-fn is_there(config: Config, node: Node) -> bool
+/// Whether a node is one of the configuration.
+pub fn is_there(config: Config, node: Node) -> bool
     ensures { result ≡ is_present config node }
 {
     match node {

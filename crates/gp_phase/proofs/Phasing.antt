@@ -22,10 +22,13 @@ use Rattle.gp_work.specs.declared.moves.Move.TheVariants as move
 use Rattle.gp_work.specs.Moves.{event_of, AllFit, HasOffer}
 use Rattle.gp_work.specs.Jobs.{Caused, Done, Ends, IsReady, HasWorked}
 use Rattle.gp_work.specs.declared.faults.JobFault.TheVariants.{NoMemory, Disk, Full, NotLog, Changed}
-use Rattle.gp_work.proofs.Stretches.{goes_on, rose_on, rose_then, posted_more}
-use Rattle.gp_phase.specs.Deeds.{Tidy, others_in, begins, begin_moves}
+use Rattle.gp_wire.specs.Messages.{messages_in}
+use Rattle.gp_work.specs.Batches.{AreRead}
+use Rattle.gp_work.proofs.Batching.{read_none}
+use Rattle.gp_work.proofs.Stretches.{goes_same, goes_on, rose_on, rose_then, posted_more}
+use Rattle.gp_phase.specs.Deeds.{Tidy, takes_in, others_in, begins, begin_moves}
 use Rattle.gp_phase.specs.declared.caller.Call.{Call}
-use Rattle.gp_phase.specs.Phases.{rounds, only_at, Going, FaultCause, Carried, Answers, IsMeant, HasBegun, IsToBegin, HasBegunAll, Follows, AreReady, total, Finished, Asked}
+use Rattle.gp_phase.specs.Phases.{rounds, only_at, Going, FaultCause, Carried, Answers, IsMeant, HasBegun, IsToBegin, HasBegunAll, Follows, AreReady, IsNew, total, Finished, Asked}
 use Rattle.gp_phase.proofs.Deeds.{tidy_on, tidy_looked, begins_append, done_made, no_offer}
 
 -- a job that was done in a phase without a fault
@@ -449,3 +452,60 @@ module _ {N P : Type 0} (state : P → ProcessState) (is_of : P → N → Type 0
         whole = quiet i d (let s = ph.size in omega arith) ∙ sum;
         looked = subst (λ (x : Job P). have (state (get_or ks i d).cell) ≤ x.cursor) (sym still) (ends i d l);
       }
+
+  -- ---- jobs that can go on
+
+  itself : (rs : List Round) (j0 j : Job P) → Going state is_of net rs j0 j → Going state is_of net rs j j
+  itself rs j0 j g = record {
+    fault = g.fault;
+    own = g.own;
+    up = g.up;
+    goes = goes_same (state j.cell);
+    stays = λ up. up;
+    fallen = λ down up. absurd (not_true j.risen down up);
+    tidy = g.tidy;
+  }
+
+  pub ready_on : (js0 js : List (Job P)) (me : Node) (us : Counts) (begun : List Call) (pending : Option Call) (called : List Call) → Phase js0 js me us begun pending called → AreReady state is_of net answers at called js
+  ready_on js0 js me us begun pending called ph = record {
+    begun = begun;
+    pending = pending;
+    all = ph.all;
+    each = λ i d l. itself (only_at at i (rounds begun)) (get_or js0 i d) (get_or js i d) (ph.each i d (let e = ph.size in omega arith));
+    first = λ i d l. ph.first i d (let e = ph.size in omega arith);
+    fits = ph.fits;
+    follows = ph.follows;
+  }
+
+  new_going : (rs : List Round) (j : Job P) → rs ≡ [] → IsNew state is_of net j → Going state is_of net rs j j
+  new_going rs j none n = record {
+    fault = n.fault;
+    own = n.own;
+    up = n.up;
+    goes = goes_same (state j.cell);
+    stays = λ up. up;
+    fallen = λ down up. absurd (not_true j.risen down up);
+    tidy = λ down. record {
+      read = subst (λ c. AreRead (state j.cell).node (messages_in (state j.cell).list) 0 c (takes_in (own_events (state j.cell).node (state j.cell).list))) (sym n.cursor)
+          (subst (λ es. AreRead (state j.cell).node (messages_in (state j.cell).list) 0 0 (takes_in es)) (sym n.nothing) (read_none (state j.cell).node (messages_in (state j.cell).list) 0));
+      acts = ap others_in n.nothing ∙ ap (begins (state j.cell).node) (sym none);
+      within = let c = n.cursor in omega arith;
+    };
+  }
+
+  -- jobs of nodes that have posted nothing
+  pub starts_new : (js : List (Job P)) (me : Node) (us : Counts) (called : List Call) → called ≡ [] → All (IsNew state is_of net) js → at < length js
+      → ((d : Job P) → ((state (get_or js at d).cell).node ≡ me) × ((state (get_or js at d).cell).config ≡ us)) → Phase js js me us called None called
+  starts_new js me us called none new there whose = record {
+    size = refl;
+    each = λ i d l. new_going (only_at at i (rounds called)) (get_or js i d) (ap (λ cs. only_at at i (rounds cs)) none ∙ only_none at i) (new i d l);
+    first = λ i d l. (new i d l).first ∙ sym (only_none at i);
+    fits = λ d. tt;
+    all = sym (append-nil called);
+    follows = λ d. record { all = λ down k c e. absurd (no_call called k c none e); left = λ down. tt };
+    whose = whose;
+  }
+    where
+      no_call : (cs : List Call) (k : ℕ) (c : Call) → cs ≡ [] → slice_get cs k ≡ Some c → ⊥
+      no_call [] k c none e = cc
+      no_call (x ∷ cs) k c none e = cc

@@ -93,6 +93,16 @@ pub record AreReady {N P : Type 0} (state : P → ProcessState) (is_of : P → N
   pub fits : (d : Job P) → let j = slice_index_or jobs at d in AllFit (state j.cell).config (state j.cell).node (begin_moves (rounds (option_to_list pending)))
   pub follows : (d : Job P) → Follows state answers (slice_index_or jobs at d) begun pending
 
+-- a job of a node that is up and has posted nothing
+pub record IsNew {N P : Type 0} (state : P → ProcessState) (is_of : P → N → Type 0) (net : N) (j : Job P) : Type 0 where
+  pub fault : j.fault ≡ None
+  pub own : is_of j.cell net
+  pub up : (state j.cell).up ≡ true
+  pub nothing : own_events (state j.cell).node (state j.cell).list ≡ []
+  pub first : j.first ≡ []
+  pub cursor : j.cursor ≡ 0
+  pub risen : j.risen ≡ false
+
 -- how many records all posted together, if the nodes without a job posted so many
 abbrev pub total : {P : Type 0} → (P → ProcessState) → ℕ → List (Job P) → ℕ
 total state others [] = others

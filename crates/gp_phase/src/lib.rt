@@ -4,6 +4,8 @@
 mod caller;
 pub mod laws;
 mod phases;
+mod starting;
 
 pub use caller::{Call, Caller};
 pub use phases::{Phases, PhasesEnd, call_round, run_phases};
+pub use starting::call_first;

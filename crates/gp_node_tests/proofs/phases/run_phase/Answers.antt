@@ -1,4 +1,4 @@
-use Rattle.std.proofs.Common.{◌≡◌, ℕ, ◌<◌, length, subst, sym, arith}
+use Rattle.std.proofs.Common.{◌<◌, length, subst, arith}
 use Rattle.std.specs.Prelude.{slice_index_or, All}
 use Rattle.gp_node_tests.specs.Phases.{HasNoFault}
 use Rattle.gp_node_tests.proofs.Working.{ready_again}

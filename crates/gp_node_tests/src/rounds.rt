@@ -1,0 +1,240 @@
+//! Phases until nothing is left to do: the leader begins a multi round, and a single round once that one has clashed.
+ghost use Rattle.std.specs.Prelude.{◌≡◌, ◌≤◌, ◌++◌, ◌∷◌, [], true, length, IfOk, OnOk, All};
+ghost use Rattle.gp_run.specs.Nodes.{is_present};
+ghost use Rattle.gp_wire.specs.Lists.{Each};
+ghost use Rattle.gp_work.specs.Moves.{AllFit};
+ghost use Rattle.gp_msg.specs.declared.node.Node.TheVariants.{Proposer};
+ghost use Rattle.gp_node_tests.specs.Phases.{IsFresh, IsNewJob, IsReady};
+
+use crate::alone::log_for;
+use crate::phases::is_there;
+use gp_caller::{FIRST_ROUND, LEADER, RoundCaller};
+use gp_command::{Access, Draft, Key, NoMemory, Touch};
+use gp_edge::{Idle, MemDisk};
+use gp_history::Hist;
+use gp_msg::Node;
+use gp_node::{Cell, Job, Move, Moves, PaxosRules, workers};
+use gp_phase::{Call, PhasesEnd, call_first, run_phases};
+use gp_round::{Config, Mode, Round};
+use gp_wire::{Pass, Wire};
+use gp_work::Process;
+use std::alloc::Global;
+use std::sync::Wait;
+use std::test::Fail;
+use std::thread::Threads;
+
+// The proposer stands last, and its pass is taken first.
+static NODES: [Node; 7] = [
+    Node::Coordinator(0),
+    Node::Coordinator(1),
+    Node::Acceptor(0),
+    Node::Acceptor(1),
+    Node::Acceptor(2),
+    Node::Learner(0),
+    Node::Proposer(0),
+];
+
+const FIRST: Call = Call {
+    epoch: 0,
+    round: FIRST_ROUND,
+};
+
+const SECOND: Call = Call {
+    epoch: 0,
+    round: Round {
+        count: 2,
+        mode: Mode::Single,
+        lead: 0,
+    },
+};
+
+const MOST_OFFERS: usize = 8;
+
+// The keys that the offered commands write, the calls, and how many commands are learned.
+type Case = (&'static str, &'static [Call], usize);
+
+// Coordinator 1 takes the offers in the other order than coordinator 0.
+static CASES: [Case; 3] = [
+    ("", &[FIRST], 0),
+    ("ab", &[FIRST], 2),
+    ("aa", &[FIRST, SECOND], 2),
+];
+
+// What phases came to: whether they ended quietly, whether these were the calls, and how many commands were learned.
+type Outcome = (bool, bool, usize);
+
+#[test]
+fn a_clash_is_answered_by_a_single_round(rt: HostRuntime) -> Result<(), Fail> {
+    let alloc = rt.alloc();
+    let config = Config::new(3, 2, 1).or(Err("no configuration"))?;
+    for (keys, calls, learned) in CASES {
+        let outcome = run(&rt, alloc, config, keys.as_bytes(), calls)?;
+        assert_eq!(rt; outcome, (true, true, learned), "{keys}");
+    }
+    Ok(())
+}
+
+// Offers commands that write these keys, and runs the phases.
+fn run<R: Threads + Wait + Sync>(
+    rt: &R,
+    alloc: Global,
+    config: Config,
+    keys: &[u8],
+    calls: &[Call],
+) -> Result<Outcome, NoMemory> {
+    let (wire, mut passes) = Wire::new(alloc, PaxosRules { config }, &NODES)?;
+    let Some(pass) = passes.pop() else {
+        return Err(NoMemory);
+    };
+    if !offer(rt, alloc, config, &wire, pass, keys)? {
+        return Err(NoMemory);
+    }
+    let mut jobs = jobs_of(alloc, config, &wire, passes)?;
+    let Some(at) = jobs.len().checked_sub(1) else {
+        return Err(NoMemory);
+    };
+    if jobs[at].cell.node() != Node::Coordinator(LEADER) {
+        return Err(NoMemory);
+    }
+    let mut caller = RoundCaller::new(alloc, config)?;
+    call_first(rt, &wire, &mut jobs, at, &mut caller)?;
+    let others = keys.len() as u64;
+    let phases = run_phases(rt, alloc, &wire, jobs, at, &mut caller, others, &Idle);
+    Ok((
+        phases.end == PhasesEnd::Quiet,
+        caller.calls() == calls,
+        learned(&phases.jobs),
+    ))
+}
+
+// Posts the offers. Answers whether all were posted.
+fn offer<R: Threads + Wait + Sync>(
+    rt: &R,
+    alloc: Global,
+    config: Config,
+    wire: &Wire<PaxosRules>,
+    pass: Pass,
+    keys: &[u8],
+) -> Result<bool, NoMemory>
+    requires rules { wire.now.rules.config ≡ config }
+    requires fresh { IsFresh wire.now pass }
+{
+    let node = pass.node();
+    if node != Node::Proposer(0) || keys.len() > MOST_OFFERS {
+        return Ok(false);
+    }
+    let first = offers_of(alloc, config, keys)?;
+    let Ok(cell) = Cell::<MemDisk>::new(alloc, config, node, None, pass) else {
+        return Err(NoMemory);
+    };
+    let mut jobs = Vec::new(alloc);
+    jobs.push(Job {
+        cell,
+        first,
+        cursor: 0,
+        turn: 0,
+        risen: false,
+        fault: None,
+    })?;
+    let jobs = workers(rt, alloc, wire, jobs, &Idle);
+    Ok(jobs.iter().all(|job| job.fault.is_none()))
+}
+
+// An offer for each key, which writes it.
+fn offers_of(alloc: Global, config: Config, keys: &[u8]) -> Result<Moves, NoMemory>
+    requires { length keys.now ≤ MOST_OFFERS }
+    ensures fit { IfOk result (AllFit config (Proposer 0)) }
+    ensures few { IfOk result (λ moves. length moves ≤ length keys.now) }
+{
+    let mut moves = Moves::new(alloc);
+    for i in 0..keys.len() {
+        let draft = draft_for(alloc, keys[i])?;
+        push(&mut moves, Move::Offer(draft))?;
+    }
+    Ok(moves)
+}
+
+fn push(moves: &mut Moves, item: Move) -> Result<(), NoMemory>
+    ensures { OnOk result (moves.new ≡ moves.old ++ item ∷ []) }
+{
+    match moves.push(item) {
+        Ok(()) => Ok(()),
+        Err(refused) => {
+            drop(refused);
+            Err(NoMemory)
+        }
+    }
+}
+
+// A command that writes a key of one byte.
+fn draft_for(alloc: Global, key: u8) -> Result<Draft, NoMemory> {
+    let Ok(key) = Key::new(&[key]) else {
+        return Err(NoMemory);
+    };
+    let touch = Touch {
+        key,
+        access: Access::Write,
+    };
+    match Draft::new(alloc, &[touch], b"x") {
+        Ok(draft) => Ok(draft),
+        Err(_) => Err(NoMemory),
+    }
+}
+
+// A job for each pass, the last one first.
+fn jobs_of(
+    alloc: Global,
+    config: Config,
+    wire: &Wire<PaxosRules>,
+    passes: Vec<Pass>,
+) -> Result<Vec<Job<MemDisk>>, NoMemory>
+    requires rules { wire.now.rules.config ≡ config }
+    requires fresh { Each (IsFresh wire.now) passes.items }
+    ensures { IfOk result (λ js. All (IsNewJob wire.now config) js.items) }
+{
+    let mut left = passes;
+    let mut jobs = Vec::new(alloc);
+    while let Some(pass) = left.pop() {
+        jobs.push(job_of(alloc, config, wire, pass)?)?;
+    }
+    Ok(jobs)
+}
+
+// A job for the node of a pass, which has no move of its own.
+fn job_of(
+    alloc: Global,
+    config: Config,
+    wire: &Wire<PaxosRules>,
+    pass: Pass,
+) -> Result<Job<MemDisk>, NoMemory>
+    requires rules { wire.now.rules.config ≡ config }
+    requires fresh { IsFresh wire.now pass }
+    ensures { IfOk result (IsNewJob wire.now config) }
+{
+    let node = pass.node();
+    if !is_there(config, node) {
+        return Err(NoMemory);
+    }
+    let log = log_for(alloc, config, node, &[])?;
+    match Cell::new(alloc, config, node, log, pass) {
+        Ok(cell) => Ok(Job {
+            cell,
+            first: Moves::new(alloc),
+            cursor: 0,
+            turn: 0,
+            risen: false,
+            fault: None,
+        }),
+        Err(_) => Err(NoMemory),
+    }
+}
+
+// How many commands the learner learned.
+fn learned(jobs: &[Job<MemDisk>]) -> usize {
+    for job in jobs {
+        if let Some(learned) = job.cell.learned() {
+            return learned.len();
+        }
+    }
+    0
+}
