@@ -9,8 +9,6 @@ use Rattle.gp_msg.specs.declared.record.Record.{Record}
 use Rattle.gp_run.specs.Runs.{entries_in}
 use Rattle.gp_round.specs.Counts.{Counts}
 use Rattle.gp_round.specs.Configs.{counts}
-use Rattle.gp_report.specs.Replicas.{IsInAgreement}
-use Rattle.gp_report.proofs.Agreeing.{in_agreement}
 use Rattle.gp_edge.specs.Reads.{ReadsUpTo, LosesUpTo}
 use Rattle.gp_edge.specs.Writes.{AppendsWhole, AppendsPart}
 use Rattle.gp_script.specs.declared.reason.Reason.{Reason}
@@ -18,18 +16,19 @@ use Rattle.gp_world.specs.State.{entries_of}
 use Rattle.gp_text.specs.declared.played.Played.{Played}
 use Rattle.gp_text.specs.declared.played.Unplayed.{Unplayed}
 use Rattle.gp_text.specs.declared.played.Unplayed.TheVariants.{Bad}
-use Rattle.gp_text.specs.Reading.{Reading, Script, run_before, reading}
-use Rattle.gp_text.specs.Playing.{IsRefused, Stops}
-use Rattle.gp_text.specs.Limits.{IsLegalBefore, SaysLegally}
-use Rattle.gp_text.proofs.SaidLegally.{reading_legal}
-use Rattle.gp_text.specs.Playing.{Plays as Gives}
+use Rattle.gp_text.specs.Reading.{Reading, Script, run_before}
+use Rattle.gp_text.specs.Playing.{IsRefused, Stops, PlaysFor as GivesFor}
+use Rattle.gp_text.specs.Limits.{IsLegalScriptFor, IsLegalBeforeFor, SaysLegallyFor}
+use Rattle.gp_cli.specs.declared.subcommand.Operations.{Operations}
 use Rattle.gp_cli.specs.declared.runs.TheConstants.{MOST_READ}
+use Rattle.gp_cli.specs.Machines.{profile_of, reading_of, IsInAgreementOfAll}
 use Rattle.gp_cli.specs.Texts.{refusal_text}
 use Rattle.gp_cli.specs.Outside.{Seen, Told, Wholly, ForMemory}
 use Rattle.gp_cli.specs.Endings.{Ending, Misused, Unread, Refuses, Plays, Drives, Simulates, Shows, DiskFails, Overflows, Breaks, Starved, status_of, status_at_fault, text_of, run_to, config_in, config_of}
 use Rattle.gp_cli.specs.Causes.{HasRead, IsReadCause, IsScriptCause, IsRunCause}
 use Rattle.gp_cli.specs.Logs.{TellsEnding, LogEnds}
 use Rattle.gp_cli.specs.Serving.{IsConfig, EndsBy, AgreesInItsConfig}
+use Rattle.gp_cli.proofs.Machines.{all_agree, script_agrees, script_legal}
 
 -- what a run ends by is in agreement for its own configuration
 pub in_its_config : (Cause : Ending → Type 0) (before now : Seen) (status : ℕ) (trail : List Record) → EndsBy Cause before now status trail → AgreesInItsConfig Cause trail
@@ -46,10 +45,10 @@ loses limit None now bytes reads = reads
 loses limit (Some rest) now bytes reads = (limit, omega arith, reads.1)
 
 -- before anything happened there is nothing to agree on
-none_agrees : (records : List Record) → records ≡ [] → IsInAgreement (counts 3 1 1) (entries_in records)
+none_agrees : (records : List Record) → records ≡ [] → IsInAgreementOfAll (counts 3 1 1) (entries_in records)
 none_agrees records none =
-    let P : List Record → Type 0 = λ rs. IsInAgreement (counts 3 1 1) (entries_in rs) in
-    subst P (sym none) (in_agreement (counts 3 1 1) (omega arith) [] tt)
+    let P : List Record → Type 0 = λ rs. IsInAgreementOfAll (counts 3 1 1) (entries_in rs) in
+    subst P (sym none) (all_agree (counts 3 1 1) (omega arith) [] tt)
 
 -- one cause for another
 pub because : (P Q : Ending → Type 0) (before now : Seen) (status : ℕ) (trail : List Record) → ((ending : Ending) → P ending → Q ending) → EndsBy P before now status trail → EndsBy Q before now status trail
@@ -64,25 +63,25 @@ because P Q before now status trail for ends = record {
 }
 
 -- the cause of a script that was read
-script_cause : (before now : Seen) (bytes : List ℕ) → ReadsUpTo MOST_READ before.bytes now.bytes bytes → now.faults ≡ before.faults → (ending : Ending) → IsScriptCause (reading bytes) ending → IsReadCause before now ending
-script_cause before now bytes taken steady Misused cause = cause
-script_cause before now bytes taken steady Unread cause = absurd cause
-script_cause before now bytes taken steady (Refuses line reason before_it) cause = record { bytes = bytes; taken = taken; steady = steady; says = cause }
-script_cause before now bytes taken steady (Plays config said) cause = record { bytes = bytes; taken = taken; steady = steady; says = cause }
-script_cause before now bytes taken steady (Drives config commands) cause = cause
-script_cause before now bytes taken steady (Simulates seed commands) cause = cause
-script_cause before now bytes taken steady (Shows disk log) cause = cause
-script_cause before now bytes taken steady DiskFails cause = cause
-script_cause before now bytes taken steady (Overflows size need) cause = cause
-script_cause before now bytes taken steady (Breaks place) cause = cause
-script_cause before now bytes taken steady Starved cause = (steady, loses MOST_READ before.bytes now.bytes bytes taken)
+script_cause : (operations : Operations) (before now : Seen) (bytes : List ℕ) → ReadsUpTo MOST_READ before.bytes now.bytes bytes → now.faults ≡ before.faults → (ending : Ending) → IsScriptCause operations (reading_of operations bytes) ending → IsReadCause operations before now ending
+script_cause operations before now bytes taken steady Misused cause = cause
+script_cause operations before now bytes taken steady Unread cause = absurd cause
+script_cause operations before now bytes taken steady (Refuses line reason before_it) cause = record { bytes = bytes; taken = taken; steady = steady; says = cause }
+script_cause operations before now bytes taken steady (Plays own config said) cause = (cause.0, record { bytes = bytes; taken = taken; steady = steady; says = cause.1 })
+script_cause operations before now bytes taken steady (Drives config commands) cause = cause
+script_cause operations before now bytes taken steady (Simulates seed commands) cause = cause
+script_cause operations before now bytes taken steady (Shows disk log) cause = cause
+script_cause operations before now bytes taken steady DiskFails cause = cause
+script_cause operations before now bytes taken steady (Overflows size need) cause = cause
+script_cause operations before now bytes taken steady (Breaks place) cause = cause
+script_cause operations before now bytes taken steady Starved cause = (steady, loses MOST_READ before.bytes now.bytes bytes taken)
 
 -- a script that was read up to the limit ends as a script
-pub read_ends : (rest left before now : Seen) (status : ℕ) (trail : List Record) (bytes script : List ℕ) → script ≡ bytes → ReadsUpTo MOST_READ rest.bytes left.bytes bytes → left.faults ≡ rest.faults
-    → EndsBy (IsScriptCause (reading script)) before now status trail → EndsBy (IsReadCause rest left) before now status trail
-read_ends rest left before now status trail bytes script same taken steady ends =
-    let Q : List ℕ → Type 0 = λ b. EndsBy (IsScriptCause (reading b)) before now status trail in
-    because (IsScriptCause (reading bytes)) (IsReadCause rest left) before now status trail (script_cause rest left bytes taken steady) (subst Q same ends)
+pub read_ends : (operations : Operations) (rest left before now : Seen) (status : ℕ) (trail : List Record) (bytes script : List ℕ) → script ≡ bytes → ReadsUpTo MOST_READ rest.bytes left.bytes bytes → left.faults ≡ rest.faults
+    → EndsBy (IsScriptCause operations (reading_of operations script)) before now status trail → EndsBy (IsReadCause operations rest left) before now status trail
+read_ends operations rest left before now status trail bytes script same taken steady ends =
+    let Q : List ℕ → Type 0 = λ b. EndsBy (IsScriptCause operations (reading_of operations b)) before now status trail in
+    because (IsScriptCause operations (reading_of operations bytes)) (IsReadCause operations rest left) before now status trail (script_cause operations rest left bytes taken steady) (subst Q same ends)
 
 -- a run that was not begun ends with a text alone
 pub without_run : (Cause : Ending → Type 0) (ending : Ending) (before now : Seen) (status : ℕ) (trail : List Record) → Cause ending → run_to ending ≡ [] → config_of ending ≡ None → trail ≡ []
@@ -106,7 +105,7 @@ pub log_ends : (P Q : Ending → Type 0) (before now : Seen) (status : ℕ) (tra
 log_ends P Q before now status trail for ends none = without_run Q ends.ending before now status trail (for ends.ending ends.cause) ends.no_run ends.no_config none ends.told
 
 -- a run that was made as it should be, and what it prints
-pub made_ends : (meant : Ending) (config : Counts) (before now : Seen) (status : ℕ) (trail : List Record) (text : List ℕ) → config_of meant ≡ Some config → IsInAgreement config (entries_in trail) → entries_in trail ≡ run_to meant
+pub made_ends : (meant : Ending) (config : Counts) (before now : Seen) (status : ℕ) (trail : List Record) (text : List ℕ) → config_of meant ≡ Some config → IsInAgreementOfAll config (entries_in trail) → entries_in trail ≡ run_to meant
     → status_of meant ≡ 0 → text ≡ text_of meant → Told before now text 0 5 status → EndsBy (IsRunCause meant) before now status trail
 made_ends meant config before now status trail text own agreement run well is told = record {
   ending = meant;
@@ -126,12 +125,12 @@ unmade_ends meant before now status trail none told = without_run (IsRunCause me
 
 -- a run that was made as it should be, or was not made for want of memory
 pub printed_ends : (meant : Ending) (config : Counts) (before now : Seen) (status : ℕ) (trail : List Record) (made : Result Played NoMemory) → config_of meant ≡ Some config → status_of meant ≡ 0
-    → IfOk made (λ p. entries_of p.world ≡ run_to meant) → IfOk made (λ p. p.text.items ≡ text_of meant) → IfOk made (λ p. IsInAgreement config (entries_of p.world))
+    → IfOk made (λ p. entries_of p.world ≡ run_to meant) → IfOk made (λ p. p.text.items ≡ text_of meant) → IfOk made (λ p. IsInAgreementOfAll config (entries_of p.world))
     → IfOk made (λ p. (trail ≡ p.world.records) × Told before now p.text.items 0 5 status) → IfErr made (λ e. (trail ≡ []) × Told before now [] 1 1 status)
     → EndsBy (IsRunCause meant) before now status trail
 printed_ends meant config before now status trail (Ok played) own well run text agreement printed starved =
     let at : entries_in trail ≡ entries_of played.world = ap entries_in printed.0 in
-    made_ends meant config before now status trail played.text.items own (subst (IsInAgreement config) (sym at) agreement) (at ∙ run) well text printed.1
+    made_ends meant config before now status trail played.text.items own (subst (IsInAgreementOfAll config) (sym at) agreement) (at ∙ run) well text printed.1
 printed_ends meant config before now status trail (Err e) own well run text agreement printed starved = unmade_ends meant before now status trail starved.0 starved.1
 
 -- nothing was written of a text that could not be made
@@ -154,43 +153,46 @@ told_of before now n status meant (Err e) some is told untold_it = untold_it mea
 -- ---- scripts
 
 -- a script that is refused at a line
-stopped : (read : Reading) (result : Result Played Unplayed) (why : Unplayed) (line : ℕ) (reason : Reason) (records : List Record) → result ≡ Err why → why ≡ Bad line reason records
-    → Gives read result → IsRefused read line reason records
-stopped read result why line reason records is bad gives =
-    let P : Result Played Unplayed → Type 0 = λ r. Gives read r in
+stopped : (operations : Operations) (read : Reading) (result : Result Played Unplayed) (why : Unplayed) (line : ℕ) (reason : Reason) (records : List Record) → result ≡ Err why → why ≡ Bad line reason records
+    → GivesFor (profile_of operations) read result → IsRefused read line reason records
+stopped operations read result why line reason records is bad gives =
+    let P : Result Played Unplayed → Type 0 = λ r. GivesFor (profile_of operations) read r in
     let Q : Unplayed → Type 0 = λ u. Stops read u in
     subst Q bad (subst P is gives)
 
 -- a script that was played
-pub played_ends : (read : Reading) (played : Played) (before now : Seen) (status : ℕ) (trail : List Record) → Gives read (Ok played) → IsInAgreement played.world.config (entries_of played.world) → trail ≡ played.world.records
-    → Told before now played.text.items 0 5 status → EndsBy (IsScriptCause read) before now status trail
-played_ends read played before now status trail gives agree same told = record {
-  ending = Plays played.world.config gives.said;
-  cause = gives.whole;
-  run = ap entries_in same ∙ gives.run;
-  config = played.world.config;
-  own_config = refl;
-  agreement = let P : List Record → Type 0 = λ records. IsInAgreement played.world.config (entries_in records) in subst P (sym same) agree;
-  told = let T : List ℕ → Type 0 = λ t. Told before now t 0 5 status in subst T gives.text told;
-}
+pub played_ends : (operations : Operations) (read : Reading) (played : Played) (before now : Seen) (status : ℕ) (trail : List Record) → GivesFor (profile_of operations) read (Ok played) → SaysLegallyFor (profile_of operations) read → trail ≡ played.world.records
+    → Told before now played.text.items 0 5 status → EndsBy (IsScriptCause operations read) before now status trail
+played_ends operations read played before now status trail gives legal same told =
+    let config = played.world.config in
+    let run = ap entries_in same ∙ gives.run in
+    let said : IsLegalScriptFor (profile_of operations) config gives.said.events = subst (SaysLegallyFor (profile_of operations)) gives.whole legal in record {
+      ending = Plays operations config gives.said;
+      cause = (refl, gives.whole);
+      run = run;
+      config = config;
+      own_config = refl;
+      agreement = subst (IsInAgreementOfAll config) (sym run) (script_agrees operations config gives.said.events said);
+      told = let T : List ℕ → Type 0 = λ t. Told before now t 0 5 status in subst T gives.text told;
+    }
 
 -- a configuration of what was said, and the agreement of its run
 record Agreeing (said : Option Script) (run : List Entry) : Type 0 where
   config : Counts
   own : IsConfig (config_in said) config
-  agreement : IsInAgreement config run
+  agreement : IsInAgreementOfAll config run
 
-agreeing : (said : Option Script) (run : List Entry) → IsLegalBefore said → run ≡ run_before said → Agreeing said run
-agreeing None run legal is = record { config = counts 3 1 1; own = tt; agreement = subst (IsInAgreement (counts 3 1 1)) (sym is) (in_agreement (counts 3 1 1) (omega arith) [] tt) }
-agreeing (Some script) run legal is = record { config = script.config; own = refl; agreement = subst (IsInAgreement script.config) (sym is) legal.agreement }
+agreeing : (operations : Operations) (said : Option Script) (run : List Entry) → IsLegalBeforeFor (profile_of operations) said → run ≡ run_before said → Agreeing said run
+agreeing operations None run legal is = record { config = counts 3 1 1; own = tt; agreement = subst (IsInAgreementOfAll (counts 3 1 1)) (sym is) (all_agree (counts 3 1 1) (omega arith) [] tt) }
+agreeing operations (Some script) run legal is = record { config = script.config; own = refl; agreement = subst (IsInAgreementOfAll script.config) (sym is) (script_agrees operations script.config script.events legal) }
 
 -- a script that is refused at a line, which was told
-pub refused_ends : (read : Reading) (result : Result Played Unplayed) (why : Unplayed) (line : ℕ) (reason : Reason) (records : List Record) (before now : Seen) (status : ℕ) (trail : List Record) → result ≡ Err why → why ≡ Bad line reason records
-    → Gives read result → SaysLegally read → trail ≡ records → Told before now (refusal_text line reason) 3 3 status → EndsBy (IsScriptCause read) before now status trail
-refused_ends read result why line reason records before now status trail is bad gives legal same told =
-    let at = stopped read result why line reason records is bad gives in
+pub refused_ends : (operations : Operations) (read : Reading) (result : Result Played Unplayed) (why : Unplayed) (line : ℕ) (reason : Reason) (records : List Record) (before now : Seen) (status : ℕ) (trail : List Record) → result ≡ Err why → why ≡ Bad line reason records
+    → GivesFor (profile_of operations) read result → SaysLegallyFor (profile_of operations) read → trail ≡ records → Told before now (refusal_text line reason) 3 3 status → EndsBy (IsScriptCause operations read) before now status trail
+refused_ends operations read result why line reason records before now status trail is bad gives legal same told =
+    let at = stopped operations read result why line reason records is bad gives in
     let run : entries_in trail ≡ run_before at.before = ap entries_in same ∙ at.run in
-    let own = agreeing at.before (entries_in trail) (subst SaysLegally at.says legal) run in record {
+    let own = agreeing operations at.before (entries_in trail) (subst (SaysLegallyFor (profile_of operations)) at.says legal) run in record {
       ending = Refuses line reason at.before;
       cause = at.says;
       run = run;
@@ -201,5 +203,5 @@ refused_ends read result why line reason records before now status trail is bad 
     }
 
 -- what a script that was read says is legal
-pub read_legal : (before now : Seen) (read : Reading) → HasRead before now read → SaysLegally read
-read_legal before now read has = subst SaysLegally has.says (reading_legal has.bytes)
+pub read_legal : (operations : Operations) (before now : Seen) (read : Reading) → HasRead operations before now read → SaysLegallyFor (profile_of operations) read
+read_legal operations before now read has = subst (SaysLegallyFor (profile_of operations)) has.says (script_legal operations has.bytes)

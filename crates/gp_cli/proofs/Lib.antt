@@ -1,3 +1,4 @@
+pub mod Machines
 pub mod Causes
 pub mod Statuses
 pub mod Arguments

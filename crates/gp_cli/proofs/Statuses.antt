@@ -10,16 +10,17 @@ use Rattle.gp_edge.specs.Faults.{Rose}
 use Rattle.gp_edge.specs.Reads.{ReadsUpTo}
 use Rattle.gp_edge.specs.Writes.{AppendsWhole}
 use Rattle.gp_script.specs.declared.reason.Reason.{Reason}
-use Rattle.gp_report.specs.Replicas.{IsInAgreement}
 use Rattle.gp_sim.specs.Simulated.{sim_config}
-use Rattle.gp_text.specs.Reading.{Reading, Whole, Refused, Script, Sofar, reading}
-use Rattle.gp_text.proofs.ShortScripts.{script_short}
+use Rattle.gp_text.specs.Reading.{Reading, Whole, Refused, Script, Sofar}
+use Rattle.gp_text.proofs.ShortScripts.{whole_short}
 use Rattle.gp_vlog.specs.Files.{Contents, is_limit, read_log}
 use Rattle.gp_vlog.proofs.Moments.{told as at_bytes}
 use Rattle.gp_cli.specs.declared.runs.TheConstants.{MOST_READ}
+use Rattle.gp_cli.specs.declared.subcommand.Operations.{Operations}
 use Rattle.gp_cli.specs.declared.subcommand.Subcommand.{Subcommand}
 use Rattle.gp_cli.specs.declared.subcommand.Subcommand.TheVariants.{Play, Sim, Drive, Log, Upgrade}
 use Rattle.gp_cli.specs.Subcommands.{named}
+use Rattle.gp_cli.specs.Machines.{profile_of, reading_of, IsInAgreementOfAll}
 use Rattle.gp_cli.specs.Outside.{Seen, Outside, Told, Wholly, AtFault, ForMemory}
 use Rattle.gp_cli.specs.Endings.{Ending, Misused, Unread, Refuses, Plays, Drives, Simulates, Shows, DiskFails, Overflows, Breaks, Starved, status_of, status_at_fault, text_of, run_to, config_of}
 use Rattle.gp_cli.specs.Causes.{HasRead, IfLog, HasRoomForLast, HasNoRoom, IsCauseFor, IsCause, IsRunCause, driven_config, seen_at, disk_used}
@@ -37,8 +38,8 @@ nothing_left (Some rest) now bytes reads short =
     rw reads.1 (drop_all MOST_READ rest (omega (arith, taken, count, short)))
 
 -- after a whole script nothing is left
-whole_left : (rest left : Seen) (config : Counts) (said : Sofar) → HasRead rest left (Whole config said) → IfSome left.bytes (λ bytes. bytes ≡ [])
-whole_left rest left config said read = nothing_left rest.bytes left.bytes read.bytes read.taken (script_short read.bytes config said read.says)
+whole_left : (operations : Operations) (rest left : Seen) (config : Counts) (said : Sofar) → HasRead operations rest left (Whole config said) → IfSome left.bytes (λ bytes. bytes ≡ [])
+whole_left operations rest left config said read = nothing_left rest.bytes left.bytes read.bytes read.taken (whole_short (profile_of operations).language read.bytes config said read.says)
 
 -- one status, or the one for memory that ran out, if both texts have one or the sink did not fail
 same_status : (before now : Seen) (text : List ℕ) (n status : ℕ) → Told before now text n n status → (status ≡ n) ⊎ (status ≡ 1)
@@ -58,11 +59,11 @@ starved_status before now text status (AtFault is rose written) = is
 starved_status before now text status (ForMemory is steady written) = is
 
 -- what was read is what the source told
-read_is : (before now : Seen) (rest : List ℕ) (read : Reading) → before.bytes ≡ Some rest → HasRead before now read → reading (take MOST_READ rest) ≡ read
-read_is before now rest read tells has =
+read_is : (operations : Operations) (before now : Seen) (rest : List ℕ) (read : Reading) → before.bytes ≡ Some rest → HasRead operations before now read → reading_of operations (take MOST_READ rest) ≡ read
+read_is operations before now rest read tells has =
     let P : Option (List ℕ) → Type 0 = λ told. ReadsUpTo MOST_READ told now.bytes has.bytes in
     let taken : (has.bytes ≡ take MOST_READ rest) × (now.bytes ≡ Some (drop MOST_READ rest)) = subst P tells has.taken in
-    ap reading (sym taken.0) ∙ has.says
+    ap (reading_of operations) (sym taken.0) ∙ has.says
 
 -- ---- which ending has a status
 
@@ -103,7 +104,7 @@ never_five : (ending : Ending) → status_of ending ≡ 5 → ⊥
 never_five Misused e = cc
 never_five Unread e = cc
 never_five (Refuses line reason said) e = cc
-never_five (Plays config said) e = cc
+never_five (Plays operations config said) e = cc
 never_five (Drives config n) e = cc
 never_five (Simulates seed n) e = cc
 never_five (Shows k log) e = cc
@@ -124,12 +125,12 @@ module _ (before now : Outside) (status : ℕ) (trail : List Record) where
 
   -- ---- a script
 
-  played_whole : (config : Counts) (said : Sofar) → HasRead before.source now.source (Whole config said) → entries_in trail ≡ run_to (Plays config said) → Tells (Plays config said) → status ≡ 0 → PlaysWhole before now trail
-  played_whole config said read run told none_failed = let whole = done (Plays config said) before.sink now.sink status told none_failed in record {
+  played_whole : (operations : Operations) (config : Counts) (said : Sofar) → HasRead operations before.source now.source (Whole config said) → entries_in trail ≡ run_to (Plays operations config said) → Tells (Plays operations config said) → status ≡ 0 → PlaysWhole operations before now trail
+  played_whole operations config said read run told none_failed = let whole = done (Plays operations config said) before.sink now.sink status told none_failed in record {
     config = config;
     said = said;
     read = read;
-    legal = read_legal before.source now.source (Whole config said) read;
+    legal = read_legal operations before.source now.source (Whole config said) read;
     run = run;
     steady = whole.steady;
     written = whole.written;
@@ -138,90 +139,98 @@ module _ (before now : Outside) (status : ℕ) (trail : List Record) where
   clash : (ending : Ending) → (status_of ending ≡ 0 → ⊥) → Tells ending → status ≡ 0 → ⊥
   clash ending never_well told none_failed = never_well (done ending before.sink now.sink status told none_failed).well
 
-  played : (ending : Ending) → Causes (Some Play) ending → entries_in trail ≡ run_to ending → Tells ending → status ≡ 0 → PlaysWhole before now trail
-  played Misused cause run told none_failed = absurd cause
-  played Unread cause run told none_failed = absurd (clash Unread (λ e. cc) told none_failed)
-  played (Refuses line reason said) cause run told none_failed = absurd (clash (Refuses line reason said) (λ e. cc) told none_failed)
-  played (Plays config said) cause run told none_failed = played_whole config said cause run told none_failed
-  played (Drives config n) cause run told none_failed = absurd cause
-  played (Simulates seed n) cause run told none_failed = absurd cause
-  played (Shows k log) cause run told none_failed = absurd cause
-  played DiskFails cause run told none_failed = absurd cause
-  played (Overflows size need) cause run told none_failed = absurd cause
-  played (Breaks place) cause run told none_failed = absurd cause
-  played Starved cause run told none_failed = absurd (clash Starved (λ e. cc) told none_failed)
+  played : (operations : Operations) (ending : Ending) → Causes (Some (Play operations)) ending → entries_in trail ≡ run_to ending → Tells ending → status ≡ 0 → PlaysWhole operations before now trail
+  played operations Misused cause run told none_failed = absurd cause
+  played operations Unread cause run told none_failed = absurd (clash Unread (λ e. cc) told none_failed)
+  played operations (Refuses line reason said) cause run told none_failed = absurd (clash (Refuses line reason said) (λ e. cc) told none_failed)
+  played operations (Plays own config said) cause run told none_failed =
+      let P : Operations → Type 0 = λ o. entries_in trail ≡ run_to (Plays o config said) in
+      let T : Operations → Type 0 = λ o. Tells (Plays o config said) in
+      played_whole operations config said cause.1 (subst P cause.0 run) (subst T cause.0 told) none_failed
+  played operations (Drives config n) cause run told none_failed = absurd cause
+  played operations (Simulates seed n) cause run told none_failed = absurd cause
+  played operations (Shows k log) cause run told none_failed = absurd cause
+  played operations DiskFails cause run told none_failed = absurd cause
+  played operations (Overflows size need) cause run told none_failed = absurd cause
+  played operations (Breaks place) cause run told none_failed = absurd cause
+  played operations Starved cause run told none_failed = absurd (clash Starved (λ e. cc) told none_failed)
 
-  -- only `play` refuses a line
-  refused_at : (sub : Option Subcommand) (line : ℕ) (reason : Reason) (said : Option Script) → Causes sub (Refuses line reason said) → HasRead before.source now.source (Refused line reason said)
+  -- only a script that is to be played has a refused line
+  abbrev RefusedAt : Option Subcommand → ℕ → Reason → Option Script → Type 0
+  RefusedAt sub line reason said = (operations : Operations) × (sub ≡ Some (Play operations)) × HasRead operations before.source now.source (Refused line reason said)
+
+  refused_at : (sub : Option Subcommand) (line : ℕ) (reason : Reason) (said : Option Script) → Causes sub (Refuses line reason said) → RefusedAt sub line reason said
   refused_at None line reason said cause = cc
-  refused_at (Some Play) line reason said cause = cause
+  refused_at (Some (Play operations)) line reason said cause = (operations, refl, cause)
   refused_at (Some (Sim seed n)) line reason said cause = elim cause [ inl is ↦ cc | inr is ↦ cc ]
   refused_at (Some (Drive a l n)) line reason said cause = elim cause [ inl is ↦ cc | inr is ↦ cc ]
   refused_at (Some (Log k)) line reason said cause = absurd cause
   refused_at (Some (Upgrade k)) line reason said cause = absurd cause
 
-  stops : (sub : Option Subcommand) (ending : Ending) → Causes sub ending → entries_in trail ≡ run_to ending → Tells ending → status_of ending ≡ 3 → StopsAtLine before now status trail
-  stops sub Misused cause run told e = cc
-  stops sub Unread cause run told e = cc
-  stops sub (Refuses line reason said) cause run told e = let read = refused_at sub line reason said cause in record {
+  stops : (words : List (List ℕ)) (ending : Ending) → Causes (named words) ending → entries_in trail ≡ run_to ending → Tells ending → status_of ending ≡ 3 → StopsAtLine words before now status trail
+  stops words Misused cause run told e = cc
+  stops words Unread cause run told e = cc
+  stops words (Refuses line reason said) cause run told e = let play = refused_at (named words) line reason said cause in record {
+    operations = play.0;
+    is_play = play.1;
     line = line;
     reason = reason;
     said = said;
-    read = read;
-    legal = read_legal before.source now.source (Refused line reason said) read;
+    read = play.2;
+    legal = read_legal play.0 before.source now.source (Refused line reason said) play.2;
     run = run;
     told = told;
   }
-  stops sub (Plays config said) cause run told e = cc
-  stops sub (Drives config n) cause run told e = cc
-  stops sub (Simulates seed n) cause run told e = cc
-  stops sub (Shows k log) cause run told e = cc
-  stops sub DiskFails cause run told e = cc
-  stops sub (Overflows size need) cause run told e = cc
-  stops sub (Breaks place) cause run told e = cc
-  stops sub Starved cause run told e = cc
+  stops words (Plays operations config said) cause run told e = cc
+  stops words (Drives config n) cause run told e = cc
+  stops words (Simulates seed n) cause run told e = cc
+  stops words (Shows k log) cause run told e = cc
+  stops words DiskFails cause run told e = cc
+  stops words (Overflows size need) cause run told e = cc
+  stops words (Breaks place) cause run told e = cc
+  stops words Starved cause run told e = cc
 
   -- a run that ends well, or would have, read its script to the end
-  to_its_end : (ending : Ending) → Causes (Some Play) ending → status_of ending ≡ 0 → IfSome now.source.bytes (λ rest. rest ≡ [])
-  to_its_end Misused cause e = absurd cause
-  to_its_end Unread cause e = cc
-  to_its_end (Refuses line reason said) cause e = cc
-  to_its_end (Plays config said) cause e = whole_left before.source now.source config said cause
-  to_its_end (Drives config n) cause e = absurd cause
-  to_its_end (Simulates seed n) cause e = absurd cause
-  to_its_end (Shows k log) cause e = absurd cause
-  to_its_end DiskFails cause e = absurd cause
-  to_its_end (Overflows size need) cause e = absurd cause
-  to_its_end (Breaks place) cause e = absurd cause
-  to_its_end Starved cause e = cc
+  to_its_end : (operations : Operations) (ending : Ending) → Causes (Some (Play operations)) ending → status_of ending ≡ 0 → IfSome now.source.bytes (λ rest. rest ≡ [])
+  to_its_end operations Misused cause e = absurd cause
+  to_its_end operations Unread cause e = cc
+  to_its_end operations (Refuses line reason said) cause e = cc
+  to_its_end operations (Plays own config said) cause e = whole_left operations before.source now.source config said cause.1
+  to_its_end operations (Drives config n) cause e = absurd cause
+  to_its_end operations (Simulates seed n) cause e = absurd cause
+  to_its_end operations (Shows k log) cause e = absurd cause
+  to_its_end operations DiskFails cause e = absurd cause
+  to_its_end operations (Overflows size need) cause e = absurd cause
+  to_its_end operations (Breaks place) cause e = absurd cause
+  to_its_end operations Starved cause e = cc
 
-  completes : (ending : Ending) → Causes (Some Play) ending → Tells ending → HoldsScript before.source → ¬ Rose before.source.faults now.source.faults → ¬ Rose before.sink.faults now.sink.faults → (status ≡ 0) ⊎ (status ≡ 1)
-  completes Misused cause told holds read_well written_well = absurd cause
-  completes Unread cause told holds read_well written_well = absurd (read_well cause.0)
-  completes (Refuses line reason before_it) cause told (rest, config, said, is, whole) read_well written_well =
-      let differ = sym whole ∙ read_is before.source now.source rest (Refused line reason before_it) is cause in absurd cc
-  completes (Plays config said) cause told holds read_well written_well = one_status before.sink now.sink (text_of (Plays config said)) 0 5 status written_well told
-  completes (Drives config n) cause told holds read_well written_well = absurd cause
-  completes (Simulates seed n) cause told holds read_well written_well = absurd cause
-  completes (Shows k log) cause told holds read_well written_well = absurd cause
-  completes DiskFails cause told holds read_well written_well = absurd cause
-  completes (Overflows size need) cause told holds read_well written_well = absurd cause
-  completes (Breaks place) cause told holds read_well written_well = absurd cause
-  completes Starved cause told holds read_well written_well = inr (starved_status before.sink now.sink [] status told)
+  completes : (operations : Operations) (ending : Ending) → Causes (Some (Play operations)) ending → Tells ending → HoldsScript operations before.source → ¬ Rose before.source.faults now.source.faults → ¬ Rose before.sink.faults now.sink.faults → (status ≡ 0) ⊎ (status ≡ 1)
+  completes operations Misused cause told holds read_well written_well = absurd cause
+  completes operations Unread cause told holds read_well written_well = absurd (read_well cause.0)
+  completes operations (Refuses line reason before_it) cause told (rest, config, said, is, whole) read_well written_well =
+      let differ = sym whole ∙ read_is operations before.source now.source rest (Refused line reason before_it) is cause in absurd cc
+  completes operations (Plays own config said) cause told holds read_well written_well = one_status before.sink now.sink (text_of (Plays own config said)) 0 5 status written_well told
+  completes operations (Drives config n) cause told holds read_well written_well = absurd cause
+  completes operations (Simulates seed n) cause told holds read_well written_well = absurd cause
+  completes operations (Shows k log) cause told holds read_well written_well = absurd cause
+  completes operations DiskFails cause told holds read_well written_well = absurd cause
+  completes operations (Overflows size need) cause told holds read_well written_well = absurd cause
+  completes operations (Breaks place) cause told holds read_well written_well = absurd cause
+  completes operations Starved cause told holds read_well written_well = inr (starved_status before.sink now.sink [] status told)
 
-  refuses : (ending : Ending) → Causes (Some Play) ending → Tells ending → HoldsBadLine before.source → ¬ Rose before.source.faults now.source.faults → (status ≡ 3) ⊎ (status ≡ 1)
-  refuses Misused cause told holds read_well = absurd cause
-  refuses Unread cause told holds read_well = absurd (read_well cause.0)
-  refuses (Refuses line reason before_it) cause told holds read_well = same_status before.sink now.sink (text_of (Refuses line reason before_it)) 3 status told
-  refuses (Plays config said) cause told (rest, line, reason, before_it, is, bad) read_well =
-      let differ = sym bad ∙ read_is before.source now.source rest (Whole config said) is cause in absurd cc
-  refuses (Drives config n) cause told holds read_well = absurd cause
-  refuses (Simulates seed n) cause told holds read_well = absurd cause
-  refuses (Shows k log) cause told holds read_well = absurd cause
-  refuses DiskFails cause told holds read_well = absurd cause
-  refuses (Overflows size need) cause told holds read_well = absurd cause
-  refuses (Breaks place) cause told holds read_well = absurd cause
-  refuses Starved cause told holds read_well = inr (starved_status before.sink now.sink [] status told)
+  refuses : (operations : Operations) (ending : Ending) → Causes (Some (Play operations)) ending → Tells ending → HoldsBadLine operations before.source → ¬ Rose before.source.faults now.source.faults → (status ≡ 3) ⊎ (status ≡ 1)
+  refuses operations Misused cause told holds read_well = absurd cause
+  refuses operations Unread cause told holds read_well = absurd (read_well cause.0)
+  refuses operations (Refuses line reason before_it) cause told holds read_well = same_status before.sink now.sink (text_of (Refuses line reason before_it)) 3 status told
+  refuses operations (Plays own config said) cause told (rest, line, reason, before_it, is, bad) read_well =
+      let differ = sym bad ∙ read_is operations before.source now.source rest (Whole config said) is cause.1 in absurd cc
+  refuses operations (Drives config n) cause told holds read_well = absurd cause
+  refuses operations (Simulates seed n) cause told holds read_well = absurd cause
+  refuses operations (Shows k log) cause told holds read_well = absurd cause
+  refuses operations DiskFails cause told holds read_well = absurd cause
+  refuses operations (Overflows size need) cause told holds read_well = absurd cause
+  refuses operations (Breaks place) cause told holds read_well = absurd cause
+  refuses operations Starved cause told holds read_well = inr (starved_status before.sink now.sink [] status told)
 
   -- ---- a run without input
 
@@ -230,13 +239,13 @@ module _ (before now : Outside) (status : ℕ) (trail : List Record) where
   meant_is meant ending (inl is) told none_failed = is
   meant_is meant ending (inr is) told none_failed = absurd (clash Starved (λ e. cc) (subst Tells is told) none_failed)
 
-  prints : (meant ending : Ending) (config own : Counts) → IsRunCause meant ending → entries_in trail ≡ run_to ending → config ≡ own → IsInAgreement config (entries_in trail) → Tells ending → status ≡ 0 → Prints own (run_to meant) (text_of meant) before now trail
+  prints : (meant ending : Ending) (config own : Counts) → IsRunCause meant ending → entries_in trail ≡ run_to ending → config ≡ own → IsInAgreementOfAll config (entries_in trail) → Tells ending → status ≡ 0 → Prints own (run_to meant) (text_of meant) before now trail
   prints meant ending config own cause run same agreement told none_failed =
       let is = meant_is meant ending cause told none_failed in
       let whole = done ending before.sink now.sink status told none_failed in
       let runs = run ∙ ap run_to is in
       record {
-        agreement = subst (λ (c : Counts). IsInAgreement c (run_to meant)) same (subst (IsInAgreement config) runs agreement);
+        agreement = subst (λ (c : Counts). IsInAgreementOfAll c (run_to meant)) same (subst (IsInAgreementOfAll config) runs agreement);
         run = runs;
         steady = whole.steady;
         written = subst (λ (text : List ℕ). AppendsWhole before.sink.bytes now.sink.bytes text) (ap text_of is) whole.written;
@@ -254,7 +263,7 @@ module _ (before now : Outside) (status : ℕ) (trail : List Record) where
   shows_log k Misused cause told none_failed = absurd cause
   shows_log k Unread cause told none_failed = absurd cause
   shows_log k (Refuses line reason said) cause told none_failed = absurd cause
-  shows_log k (Plays config said) cause told none_failed = absurd cause
+  shows_log k (Plays operations config said) cause told none_failed = absurd cause
   shows_log k (Drives config n) cause told none_failed = absurd cause
   shows_log k (Simulates seed n) cause told none_failed = absurd cause
   shows_log k (Shows j log) cause told none_failed = let whole = done (Shows j log) before.sink now.sink status told none_failed in record {
@@ -273,7 +282,7 @@ module _ (before now : Outside) (status : ℕ) (trail : List Record) where
   shows_taken_on k Misused cause told none_failed = absurd cause
   shows_taken_on k Unread cause told none_failed = absurd cause
   shows_taken_on k (Refuses line reason said) cause told none_failed = absurd cause
-  shows_taken_on k (Plays config said) cause told none_failed = absurd cause
+  shows_taken_on k (Plays operations config said) cause told none_failed = absurd cause
   shows_taken_on k (Drives config n) cause told none_failed = absurd cause
   shows_taken_on k (Simulates seed n) cause told none_failed = absurd cause
   shows_taken_on k (Shows j log) cause told none_failed = let whole = done (Shows j log) before.sink now.sink status told none_failed in record {
@@ -295,7 +304,7 @@ module _ (before now : Outside) (status : ℕ) (trail : List Record) where
   log_completes k Misused cause told holds disk_well written_well = absurd cause
   log_completes k Unread cause told holds disk_well written_well = absurd cause
   log_completes k (Refuses line reason said) cause told holds disk_well written_well = absurd cause
-  log_completes k (Plays config said) cause told holds disk_well written_well = absurd cause
+  log_completes k (Plays operations config said) cause told holds disk_well written_well = absurd cause
   log_completes k (Drives config n) cause told holds disk_well written_well = absurd cause
   log_completes k (Simulates seed n) cause told holds disk_well written_well = absurd cause
   log_completes k (Shows j log) cause told holds disk_well written_well = one_status before.sink now.sink (text_of (Shows j log)) 0 5 status written_well told
@@ -324,7 +333,7 @@ module _ (before now : Outside) (status : ℕ) (trail : List Record) where
   upgrade_completes k Misused cause told holds disk_well written_well = absurd cause
   upgrade_completes k Unread cause told holds disk_well written_well = absurd cause
   upgrade_completes k (Refuses line reason said) cause told holds disk_well written_well = absurd cause
-  upgrade_completes k (Plays config said) cause told holds disk_well written_well = absurd cause
+  upgrade_completes k (Plays operations config said) cause told holds disk_well written_well = absurd cause
   upgrade_completes k (Drives config n) cause told holds disk_well written_well = absurd cause
   upgrade_completes k (Simulates seed n) cause told holds disk_well written_well = absurd cause
   upgrade_completes k (Shows j log) cause told holds disk_well written_well = one_status before.sink now.sink (text_of (Shows j log)) 0 5 status written_well told
@@ -338,7 +347,7 @@ module _ (before now : Outside) (status : ℕ) (trail : List Record) where
   overflows_if_full k Misused cause told holds well = absurd cause
   overflows_if_full k Unread cause told holds well = absurd cause
   overflows_if_full k (Refuses line reason said) cause told holds well = absurd cause
-  overflows_if_full k (Plays config said) cause told holds well = absurd cause
+  overflows_if_full k (Plays operations config said) cause told holds well = absurd cause
   overflows_if_full k (Drives config n) cause told holds well = absurd cause
   overflows_if_full k (Simulates seed n) cause told holds well = absurd cause
   overflows_if_full k (Shows j shows) cause told (s, log, size, need, is, reads, none) well =
@@ -351,7 +360,7 @@ module _ (before now : Outside) (status : ℕ) (trail : List Record) where
   -- only a log that is shown or taken on overflows, breaks, or has a disk that fails
   overflowed : (sub : Option Subcommand) (size need : ℕ) → Causes sub (Overflows size need) → Tells (Overflows size need) → (k : ℕ) × (sub ≡ Some (Upgrade k)) × Causes (Some (Upgrade k)) (Overflows size need)
   overflowed None size need cause told = cc
-  overflowed (Some Play) size need cause told = absurd cause
+  overflowed (Some (Play operations)) size need cause told = absurd cause
   overflowed (Some (Sim seed n)) size need cause told = elim cause [ inl is ↦ cc | inr is ↦ cc ]
   overflowed (Some (Drive a l n)) size need cause told = elim cause [ inl is ↦ cc | inr is ↦ cc ]
   overflowed (Some (Log k)) size need cause told = absurd cause
@@ -359,7 +368,7 @@ module _ (before now : Outside) (status : ℕ) (trail : List Record) where
 
   broke : (sub : Option Subcommand) (place : ℕ) → Causes sub (Breaks place) → (k : ℕ) × (disk_used sub ≡ Some k) × Causes (Some (Log k)) (Breaks place)
   broke None place cause = cc
-  broke (Some Play) place cause = absurd cause
+  broke (Some (Play operations)) place cause = absurd cause
   broke (Some (Sim seed n)) place cause = elim cause [ inl is ↦ cc | inr is ↦ cc ]
   broke (Some (Drive a l n)) place cause = elim cause [ inl is ↦ cc | inr is ↦ cc ]
   broke (Some (Log k)) place cause = (k, refl, cause)
@@ -367,7 +376,7 @@ module _ (before now : Outside) (status : ℕ) (trail : List Record) where
 
   disk_failed : (sub : Option Subcommand) → Causes sub DiskFails → (k : ℕ) × (disk_used sub ≡ Some k) × Rose (seen_at k before.disks).faults (seen_at k now.disks).faults
   disk_failed None cause = cc
-  disk_failed (Some Play) cause = absurd cause
+  disk_failed (Some (Play operations)) cause = absurd cause
   disk_failed (Some (Sim seed n)) cause = elim cause [ inl is ↦ cc | inr is ↦ cc ]
   disk_failed (Some (Drive a l n)) cause = elim cause [ inl is ↦ cc | inr is ↦ cc ]
   disk_failed (Some (Log k)) cause = (k, refl, cause.0)
@@ -378,14 +387,14 @@ module _ (before now : Outside) (status : ℕ) (trail : List Record) where
   named_nothing None ending cause two = refl
   named_nothing (Some sub) Misused cause two = absurd (by sub cause) where
     by : (sub : Subcommand) → Causes (Some sub) Misused → ⊥
-    by Play cause = cause
+    by (Play operations) cause = cause
     by (Sim seed n) cause = elim cause [ inl is ↦ cc | inr is ↦ cc ]
     by (Drive a l n) cause = elim cause [ inl is ↦ cc | inr is ↦ cc ]
     by (Log k) cause = cause
     by (Upgrade k) cause = cause
   named_nothing (Some sub) Unread cause two = cc
   named_nothing (Some sub) (Refuses line reason said) cause two = cc
-  named_nothing (Some sub) (Plays config said) cause two = cc
+  named_nothing (Some sub) (Plays operations config said) cause two = cc
   named_nothing (Some sub) (Drives config n) cause two = cc
   named_nothing (Some sub) (Simulates seed n) cause two = cc
   named_nothing (Some sub) (Shows k log) cause two = cc
@@ -396,7 +405,7 @@ module _ (before now : Outside) (status : ℕ) (trail : List Record) where
 
   source_failed : (sub : Option Subcommand) → Causes sub Unread → Rose before.source.faults now.source.faults
   source_failed None cause = cc
-  source_failed (Some Play) cause = cause.0
+  source_failed (Some (Play operations)) cause = cause.0
   source_failed (Some (Sim seed n)) cause = elim cause [ inl is ↦ cc | inr is ↦ cc ]
   source_failed (Some (Drive a l n)) cause = elim cause [ inl is ↦ cc | inr is ↦ cc ]
   source_failed (Some (Log k)) cause = absurd cause
@@ -410,7 +419,7 @@ module _ (before now : Outside) (status : ℕ) (trail : List Record) where
   unread_is Misused e = cc
   unread_is Unread e = refl
   unread_is (Refuses line reason said) e = cc
-  unread_is (Plays config said) e = cc
+  unread_is (Plays operations config said) e = cc
   unread_is (Drives config n) e = cc
   unread_is (Simulates seed n) e = cc
   unread_is (Shows k log) e = cc
@@ -423,7 +432,7 @@ module _ (before now : Outside) (status : ℕ) (trail : List Record) where
   disk_fails_is Misused e = cc
   disk_fails_is Unread e = cc
   disk_fails_is (Refuses line reason said) e = cc
-  disk_fails_is (Plays config said) e = cc
+  disk_fails_is (Plays operations config said) e = cc
   disk_fails_is (Drives config n) e = cc
   disk_fails_is (Simulates seed n) e = cc
   disk_fails_is (Shows k log) e = cc
@@ -436,7 +445,7 @@ module _ (before now : Outside) (status : ℕ) (trail : List Record) where
   overflows_is Misused e = cc
   overflows_is Unread e = cc
   overflows_is (Refuses line reason said) e = cc
-  overflows_is (Plays config said) e = cc
+  overflows_is (Plays operations config said) e = cc
   overflows_is (Drives config n) e = cc
   overflows_is (Simulates seed n) e = cc
   overflows_is (Shows k log) e = cc
@@ -449,7 +458,7 @@ module _ (before now : Outside) (status : ℕ) (trail : List Record) where
   breaks_is Misused e = cc
   breaks_is Unread e = cc
   breaks_is (Refuses line reason said) e = cc
-  breaks_is (Plays config said) e = cc
+  breaks_is (Plays operations config said) e = cc
   breaks_is (Drives config n) e = cc
   breaks_is (Simulates seed n) e = cc
   breaks_is (Shows k log) e = cc
@@ -468,7 +477,7 @@ module _ (before now : Outside) (status : ℕ) (trail : List Record) where
   unlogged k Misused cause told holds well = absurd cause
   unlogged k Unread cause told holds well = absurd cause
   unlogged k (Refuses line reason said) cause told holds well = absurd cause
-  unlogged k (Plays config said) cause told holds well = absurd cause
+  unlogged k (Plays operations config said) cause told holds well = absurd cause
   unlogged k (Drives config n) cause told holds well = absurd cause
   unlogged k (Simulates seed n) cause told holds well = absurd cause
   unlogged k (Shows j log) cause told (s, place, is, broken) well = absurd (no_log_shown (seen_at k before.disks).bytes s place _ is broken cause.2)
@@ -481,7 +490,7 @@ module _ (before now : Outside) (status : ℕ) (trail : List Record) where
   unlogged_upgrade k Misused cause told holds well = absurd cause
   unlogged_upgrade k Unread cause told holds well = absurd cause
   unlogged_upgrade k (Refuses line reason said) cause told holds well = absurd cause
-  unlogged_upgrade k (Plays config said) cause told holds well = absurd cause
+  unlogged_upgrade k (Plays operations config said) cause told holds well = absurd cause
   unlogged_upgrade k (Drives config n) cause told holds well = absurd cause
   unlogged_upgrade k (Simulates seed n) cause told holds well = absurd cause
   unlogged_upgrade k (Shows j log) cause told (s, place, is, broken) well = absurd (no_log_shown (seen_at k before.disks).bytes s place _ is broken cause.2)
@@ -505,21 +514,21 @@ module _ (words : List (List ℕ)) (before now : Outside) (status : ℕ) (trail 
   told_at : (ending : Ending) → ends.ending ≡ ending → TellsEnding ending before.sink now.sink status
   told_at ending is = subst (λ (x : Ending). TellsEnding x before.sink now.sink status) is ends.told
 
-  pub plays_whole : named words ≡ Some Play → status ≡ 0 → PlaysWhole before now trail
-  plays_whole is none_failed = played before now status trail ends.ending (by_name (Some Play) is) ends.run ends.told none_failed
+  pub plays_whole : (operations : Operations) → named words ≡ Some (Play operations) → status ≡ 0 → PlaysWhole operations before now trail
+  plays_whole operations is none_failed = played before now status trail operations ends.ending (by_name (Some (Play operations)) is) ends.run ends.told none_failed
 
-  pub stops_at_line : status ≡ 3 → StopsAtLine before now status trail
-  stops_at_line three = stops before now status trail (named words) ends.ending ends.cause ends.run ends.told (own 1 three (λ e. cc))
+  pub stops_at_line : status ≡ 3 → StopsAtLine words before now status trail
+  stops_at_line three = stops before now status trail words ends.ending ends.cause ends.run ends.told (own 1 three (λ e. cc))
 
-  pub read_to_end : named words ≡ Some Play → (status ≡ 0) ⊎ (status ≡ 5) → IfSome now.source.bytes (λ rest. rest ≡ [])
-  read_to_end is (inl none_failed) = to_its_end before now status trail ends.ending (by_name (Some Play) is) (done ends.ending before.sink now.sink status ends.told none_failed).well
-  read_to_end is (inr five) = to_its_end before now status trail ends.ending (by_name (Some Play) is) (sink_failed ends.ending before.sink now.sink status (never_five ends.ending) ends.told five).0
+  pub read_to_end : (operations : Operations) → named words ≡ Some (Play operations) → (status ≡ 0) ⊎ (status ≡ 5) → IfSome now.source.bytes (λ rest. rest ≡ [])
+  read_to_end operations is (inl none_failed) = to_its_end before now status trail operations ends.ending (by_name (Some (Play operations)) is) (done ends.ending before.sink now.sink status ends.told none_failed).well
+  read_to_end operations is (inr five) = to_its_end before now status trail operations ends.ending (by_name (Some (Play operations)) is) (sink_failed ends.ending before.sink now.sink status (never_five ends.ending) ends.told five).0
 
-  pub complete : named words ≡ Some Play → HoldsScript before.source → ¬ Rose before.source.faults now.source.faults → ¬ Rose before.sink.faults now.sink.faults → (status ≡ 0) ⊎ (status ≡ 1)
-  complete is holds read_well written_well = completes before now status trail ends.ending (by_name (Some Play) is) ends.told holds read_well written_well
+  pub complete : (operations : Operations) → named words ≡ Some (Play operations) → HoldsScript operations before.source → ¬ Rose before.source.faults now.source.faults → ¬ Rose before.sink.faults now.sink.faults → (status ≡ 0) ⊎ (status ≡ 1)
+  complete operations is holds read_well written_well = completes before now status trail operations ends.ending (by_name (Some (Play operations)) is) ends.told holds read_well written_well
 
-  pub refuse : named words ≡ Some Play → HoldsBadLine before.source → ¬ Rose before.source.faults now.source.faults → (status ≡ 3) ⊎ (status ≡ 1)
-  refuse is holds read_well = refuses before now status trail ends.ending (by_name (Some Play) is) ends.told holds read_well
+  pub refuse : (operations : Operations) → named words ≡ Some (Play operations) → HoldsBadLine operations before.source → ¬ Rose before.source.faults now.source.faults → (status ≡ 3) ⊎ (status ≡ 1)
+  refuse operations is holds read_well = refuses before now status trail operations ends.ending (by_name (Some (Play operations)) is) ends.told holds read_well
 
   -- the configuration of a run that was made as it should be
   config_is : (config : Counts) (ending : Ending) → IsConfig (Some config) ends.config → ends.config ≡ config
@@ -575,7 +584,7 @@ module _ (words : List (List ℕ)) (before now : Outside) (status : ℕ) (trail 
 
   no_log_for : (k : ℕ) (sub : Option Subcommand) → named words ≡ sub → disk_used sub ≡ Some k → HoldsNoLog k before → ¬ Rose (seen_at k before.disks).faults (seen_at k now.disks).faults → (status ≡ 8) ⊎ (status ≡ 1)
   no_log_for k None is used holds well = cc
-  no_log_for k (Some Play) is used holds well = cc
+  no_log_for k (Some (Play operations)) is used holds well = cc
   no_log_for k (Some (Sim seed n)) is used holds well = cc
   no_log_for k (Some (Drive a l n)) is used holds well = cc
   no_log_for k (Some (Log j)) is used holds well =

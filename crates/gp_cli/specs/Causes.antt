@@ -5,41 +5,43 @@ use Rattle.gp_round.specs.Configs.{counts}
 use Rattle.gp_edge.specs.Disks.{IfRevealed}
 use Rattle.gp_edge.specs.Faults.{Rose}
 use Rattle.gp_edge.specs.Reads.{ReadsUpTo, LosesUpTo}
-use Rattle.gp_text.specs.Reading.{Reading, Whole, Refused, reading}
+use Rattle.gp_text.specs.Reading.{Reading, Whole, Refused}
 use Rattle.gp_msg.specs.Messages.{EpochPart}
 use Rattle.gp_vlog.specs.Bodies.{LogEntry, need}
 use Rattle.gp_vlog.specs.Files.{Contents, is_limit, read_log}
 use Rattle.gp_vlog.specs.Logs.{has_old}
+use Rattle.gp_cli.specs.declared.subcommand.Operations.{Operations}
 use Rattle.gp_cli.specs.declared.subcommand.Subcommand.{Subcommand}
 use Rattle.gp_cli.specs.declared.subcommand.Subcommand.TheVariants.{Play, Sim, Drive, Log, Upgrade}
 use Rattle.gp_cli.specs.declared.runs.TheConstants.{MOST_READ}
 use Rattle.gp_cli.specs.Subcommands.{named}
+use Rattle.gp_cli.specs.Machines.{reading_of}
 use Rattle.gp_cli.specs.Outside.{Seen, seen, Outside}
 use Rattle.gp_cli.specs.Endings.{Shown, Ending, Misused, Unread, Refuses, Plays, Drives, Simulates, Shows, DiskFails, Overflows, Breaks, Starved}
 
 -- ---- a script
 
--- the bytes read, up to one more than a script may have, have this reading, and no fault was counted
-pub record HasRead (before now : Seen) (read : Reading) : Type 0 where
+-- the bytes read, up to one more than a script may have, have this reading by the machine's operations, and no fault was counted
+pub record HasRead (operations : Operations) (before now : Seen) (read : Reading) : Type 0 where
   pub bytes : List ℕ
   pub taken : ReadsUpTo MOST_READ before.bytes now.bytes bytes
   pub steady : now.faults ≡ before.faults
-  pub says : reading bytes ≡ read
+  pub says : reading_of operations bytes ≡ read
 
--- why a run ends so if a script is to be read, by the source before and now
-abbrev pub IsReadCause : Seen → Seen → Ending → Type 0
-IsReadCause before now Unread = Rose before.faults now.faults × LosesUpTo MOST_READ before.bytes now.bytes
-IsReadCause before now (Refuses line reason said) = HasRead before now (Refused line reason said)
-IsReadCause before now (Plays config said) = HasRead before now (Whole config said)
-IsReadCause before now Starved = (now.faults ≡ before.faults) × LosesUpTo MOST_READ before.bytes now.bytes
-IsReadCause before now ending = ⊥
+-- why a run ends so if a script of the machine is to be read, by the source before and now
+abbrev pub IsReadCause : Operations → Seen → Seen → Ending → Type 0
+IsReadCause operations before now Unread = Rose before.faults now.faults × LosesUpTo MOST_READ before.bytes now.bytes
+IsReadCause operations before now (Refuses line reason said) = HasRead operations before now (Refused line reason said)
+IsReadCause operations before now (Plays own config said) = (own ≡ operations) × HasRead operations before now (Whole config said)
+IsReadCause operations before now Starved = (now.faults ≡ before.faults) × LosesUpTo MOST_READ before.bytes now.bytes
+IsReadCause operations before now ending = ⊥
 
--- why a run with a script at hand ends so, by the script's reading
-abbrev pub IsScriptCause : Reading → Ending → Type 0
-IsScriptCause read (Refuses line reason before) = read ≡ Refused line reason before
-IsScriptCause read (Plays config said) = read ≡ Whole config said
-IsScriptCause read Starved = Unit {0}
-IsScriptCause read ending = ⊥
+-- why a run with a script of the machine at hand ends so, by the script's reading
+abbrev pub IsScriptCause : Operations → Reading → Ending → Type 0
+IsScriptCause operations read (Refuses line reason before) = read ≡ Refused line reason before
+IsScriptCause operations read (Plays own config said) = (own ≡ operations) × (read ≡ Whole config said)
+IsScriptCause operations read Starved = Unit {0}
+IsScriptCause operations read ending = ⊥
 
 -- ---- a run that needs no input
 
@@ -126,7 +128,7 @@ IsMisuse ending = ending ≡ Misused
 -- why a run ends so, by the subcommand, if there is one
 abbrev pub IsCauseFor : Option Subcommand → Outside → Outside → Ending → Type 0
 IsCauseFor None before now ending = IsMisuse ending
-IsCauseFor (Some Play) before now ending = IsReadCause before.source now.source ending
+IsCauseFor (Some (Play operations)) before now ending = IsReadCause operations before.source now.source ending
 IsCauseFor (Some (Sim seed commands)) before now ending = IsRunCause (Simulates seed commands) ending
 IsCauseFor (Some (Drive acceptors learners commands)) before now ending = IsRunCause (Drives (driven_config acceptors learners) commands) ending
 IsCauseFor (Some (Log k)) before now ending = IsLogCause k (seen_at k before.disks) (seen_at k now.disks) ending
@@ -139,7 +141,7 @@ IsCause words before now ending = IsCauseFor (named words) before now ending
 -- the subcommand reads the source
 abbrev pub IsReader : Option Subcommand → Type 0
 IsReader None = ⊥
-IsReader (Some Play) = Unit {0}
+IsReader (Some (Play operations)) = Unit {0}
 IsReader (Some (Sim seed commands)) = ⊥
 IsReader (Some (Drive acceptors learners commands)) = ⊥
 IsReader (Some (Log k)) = ⊥
@@ -148,7 +150,7 @@ IsReader (Some (Upgrade k)) = ⊥
 -- the disk that the subcommand uses, if it uses one
 abbrev pub disk_used : Option Subcommand → Option ℕ
 disk_used None = None
-disk_used (Some Play) = None
+disk_used (Some (Play operations)) = None
 disk_used (Some (Sim seed commands)) = None
 disk_used (Some (Drive acceptors learners commands)) = None
 disk_used (Some (Log k)) = Some k

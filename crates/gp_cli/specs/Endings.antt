@@ -9,8 +9,10 @@ use Rattle.gp_report.specs.Summaries.{summary}
 use Rattle.gp_sim.specs.Driven.{driven}
 use Rattle.gp_sim.specs.Simulated.{sim_config, simulated}
 use Rattle.gp_text.specs.Reading.{Script, Sofar, run_before}
-use Rattle.gp_text.specs.Texts.{output}
+use Rattle.gp_text.specs.Texts.{output_for}
 use Rattle.gp_text.specs.Logs.{log_text}
+use Rattle.gp_cli.specs.declared.subcommand.Operations.{Operations}
+use Rattle.gp_cli.specs.Machines.{profile_of}
 use Rattle.gp_cli.specs.Texts.{usage, read_fault, disk_fault, full_text, broken_text, refusal_text}
 
 -- the durable parts that a log holds, the oldest first, and its size
@@ -18,12 +20,12 @@ pub record Shown : Type 0 where
   pub parts : List EpochPart
   pub size : ℕ
 
--- the words name no subcommand; the source failed; a line of the script is refused, and this is what the lines before it said; the script was played; commands were driven; the workload of a seed was settled; the log of a disk is shown; the disk failed; the renewed log, of this size, would need too much; the disk's bytes are no log, at this place; memory ran out before any of these was known
+-- the words name no subcommand; the source failed; a line of the script is refused, and this is what the lines before it said; the script of a machine was played; commands were driven; the workload of a seed was settled; the log of a disk is shown; the disk failed; the renewed log, of this size, would need too much; the disk's bytes are no log, at this place; memory ran out before any of these was known
 pub data Ending : Type 0 where
   Misused : Ending
   Unread : Ending
   Refuses : ℕ → Reason → Option Script → Ending
-  Plays : Counts → Sofar → Ending
+  Plays : Operations → Counts → Sofar → Ending
   Drives : Counts → ℕ → Ending
   Simulates : ℕ → ℕ → Ending
   Shows : ℕ → Shown → Ending
@@ -37,7 +39,7 @@ abbrev pub status_of : Ending → ℕ
 status_of Misused = 2
 status_of Unread = 4
 status_of (Refuses line reason before) = 3
-status_of (Plays config said) = 0
+status_of (Plays operations config said) = 0
 status_of (Drives config commands) = 0
 status_of (Simulates seed commands) = 0
 status_of (Shows disk log) = 0
@@ -56,7 +58,7 @@ abbrev pub text_of : Ending → List ℕ
 text_of Misused = usage
 text_of Unread = read_fault
 text_of (Refuses line reason before) = refusal_text line reason
-text_of (Plays config said) = output config said
+text_of (Plays operations config said) = output_for (profile_of operations) config said
 text_of (Drives config commands) = report config (driven config commands)
 text_of (Simulates seed commands) = summary seed commands sim_config (simulated seed commands)
 text_of (Shows disk log) = log_text disk log.parts log.size
@@ -70,7 +72,7 @@ abbrev pub run_to : Ending → List Entry
 run_to Misused = []
 run_to Unread = []
 run_to (Refuses line reason before) = run_before before
-run_to (Plays config said) = run_of config said.events
+run_to (Plays operations config said) = run_of config said.events
 run_to (Drives config commands) = driven config commands
 run_to (Simulates seed commands) = simulated seed commands
 run_to (Shows disk log) = []
@@ -89,7 +91,7 @@ abbrev pub config_of : Ending → Option Counts
 config_of Misused = None
 config_of Unread = None
 config_of (Refuses line reason before) = config_in before
-config_of (Plays config said) = Some config
+config_of (Plays operations config said) = Some config
 config_of (Drives config commands) = Some config
 config_of (Simulates seed commands) = Some sim_config
 config_of (Shows disk log) = None

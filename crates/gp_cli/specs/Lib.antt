@@ -1,5 +1,6 @@
 pub mod Texts
 pub mod Subcommands
+pub mod Machines
 pub mod Outside
 pub mod Endings
 pub mod Causes

@@ -6,15 +6,18 @@ use Rattle.gp_msg.specs.Messages.{Entry}
 use Rattle.gp_run.specs.Runs.{run_of, entries_in}
 use Rattle.gp_edge.specs.Writes.{AppendsWhole}
 use Rattle.gp_script.specs.declared.reason.Reason.{Reason}
-use Rattle.gp_report.specs.Replicas.{IsInAgreement}
 use Rattle.gp_report.specs.Texts.{report}
 use Rattle.gp_report.specs.Summaries.{summary}
 use Rattle.gp_sim.specs.Driven.{driven}
 use Rattle.gp_sim.specs.Simulated.{sim_config, simulated}
-use Rattle.gp_text.specs.Reading.{Whole, Refused, Script, Sofar, run_before, reading}
-use Rattle.gp_text.specs.Limits.{IsLegalBefore, IsLegalScript}
-use Rattle.gp_text.specs.Texts.{output}
+use Rattle.gp_text.specs.Reading.{Whole, Refused, Script, Sofar, run_before}
+use Rattle.gp_text.specs.Limits.{IsLegalBeforeFor, IsLegalScriptFor}
+use Rattle.gp_text.specs.Texts.{output_for}
 use Rattle.gp_cli.specs.declared.runs.TheConstants.{MOST_READ}
+use Rattle.gp_cli.specs.declared.subcommand.Operations.{Operations}
+use Rattle.gp_cli.specs.declared.subcommand.Subcommand.TheVariants.{Play}
+use Rattle.gp_cli.specs.Subcommands.{named}
+use Rattle.gp_cli.specs.Machines.{profile_of, reading_of, IsInAgreementOfAll}
 use Rattle.gp_cli.specs.Outside.{Seen, Outside, Told}
 use Rattle.gp_cli.specs.Endings.{Ending, run_to, config_of}
 use Rattle.gp_cli.specs.Causes.{HasRead}
@@ -34,7 +37,7 @@ pub record AgreesInItsConfig (Cause : Ending → Type 0) (trail : List Record) :
   pub cause : Cause ending
   pub config : Counts
   pub own_config : IsConfig (config_of ending) config
-  pub agreement : IsInAgreement config (entries_in trail)
+  pub agreement : IsInAgreementOfAll config (entries_in trail)
 
 -- the run ended in a way that has its cause: its records are the run of that ending, and the text of that ending went to the sink, with its status
 pub record EndsBy (Cause : Ending → Type 0) (before now : Seen) (status : ℕ) (trail : List Record) : Type 0 where
@@ -43,7 +46,7 @@ pub record EndsBy (Cause : Ending → Type 0) (before now : Seen) (status : ℕ)
   pub run : entries_in trail ≡ run_to ending
   pub config : Counts
   pub own_config : IsConfig (config_of ending) config
-  pub agreement : IsInAgreement config (entries_in trail)
+  pub agreement : IsInAgreementOfAll config (entries_in trail)
   pub told : TellsEnding ending before now status
 
 -- the same, where the cause is one by the outside before and now
@@ -59,37 +62,39 @@ EachDisk {D} P before now = (i : ℕ) (was is : D) → slice_get before i ≡ So
 
 -- ---- what statuses say
 
--- the source reveals its bytes, and up to one more than a script may have they are a script that is read whole
-abbrev pub HoldsScript : Seen → Type 0
-HoldsScript source = (rest : List ℕ) × (config : Counts) × (said : Sofar) × (source.bytes ≡ Some rest) × (reading (take MOST_READ rest) ≡ Whole config said)
+-- the source reveals its bytes, and up to one more than a script may have they are a script of the machine that is read whole
+abbrev pub HoldsScript : Operations → Seen → Type 0
+HoldsScript operations source = (rest : List ℕ) × (config : Counts) × (said : Sofar) × (source.bytes ≡ Some rest) × (reading_of operations (take MOST_READ rest) ≡ Whole config said)
 
 -- the source reveals its bytes, and up to one more than a script may have a line of them is refused
-abbrev pub HoldsBadLine : Seen → Type 0
-HoldsBadLine source = (rest : List ℕ) × (line : ℕ) × (reason : Reason) × (said : Option Script) × (source.bytes ≡ Some rest) × (reading (take MOST_READ rest) ≡ Refused line reason said)
+abbrev pub HoldsBadLine : Operations → Seen → Type 0
+HoldsBadLine operations source = (rest : List ℕ) × (line : ℕ) × (reason : Reason) × (said : Option Script) × (source.bytes ≡ Some rest) × (reading_of operations (take MOST_READ rest) ≡ Refused line reason said)
 
--- a script was read whole, what it says is legal and in agreement, the trail is the run of its events, and all that it prints was written without a fault
-pub record PlaysWhole (before now : Outside) (trail : List Record) : Type 0 where
+-- a script of the machine was read whole, what it says is legal and in agreement, the trail is the run of its events, and all that it prints was written without a fault
+pub record PlaysWhole (operations : Operations) (before now : Outside) (trail : List Record) : Type 0 where
   pub config : Counts
   pub said : Sofar
-  pub read : HasRead before.source now.source (Whole config said)
-  pub legal : IsLegalScript config said.events
+  pub read : HasRead operations before.source now.source (Whole config said)
+  pub legal : IsLegalScriptFor (profile_of operations) config said.events
   pub run : entries_in trail ≡ run_of config said.events
   pub steady : now.sink.faults ≡ before.sink.faults
-  pub written : AppendsWhole before.sink.bytes now.sink.bytes (output config said)
+  pub written : AppendsWhole before.sink.bytes now.sink.bytes (output_for (profile_of operations) config said)
 
--- a line of the script is refused, what was said before it is legal and in agreement, the trail is its run, and the line and the reason were told
-pub record StopsAtLine (before now : Outside) (status : ℕ) (trail : List Record) : Type 0 where
+-- the words name the playing of a script, a line of which is refused; what was said before it is legal and in agreement, the trail is its run, and the line and the reason were told
+pub record StopsAtLine (words : List (List ℕ)) (before now : Outside) (status : ℕ) (trail : List Record) : Type 0 where
+  pub operations : Operations
+  pub is_play : named words ≡ Some (Play operations)
   pub line : ℕ
   pub reason : Reason
   pub said : Option Script
-  pub read : HasRead before.source now.source (Refused line reason said)
-  pub legal : IsLegalBefore said
+  pub read : HasRead operations before.source now.source (Refused line reason said)
+  pub legal : IsLegalBeforeFor (profile_of operations) said
   pub run : entries_in trail ≡ run_before said
   pub told : Told before.sink now.sink (refusal_text line reason) 3 3 status
 
 -- the trail is this run, which is legal and in agreement, and this text was written whole without a fault
 pub record Prints (config : Counts) (meant : List Entry) (text : List ℕ) (before now : Outside) (trail : List Record) : Type 0 where
-  pub agreement : IsInAgreement config meant
+  pub agreement : IsInAgreementOfAll config meant
   pub run : entries_in trail ≡ meant
   pub steady : now.sink.faults ≡ before.sink.faults
   pub written : AppendsWhole before.sink.bytes now.sink.bytes text

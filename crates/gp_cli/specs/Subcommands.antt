@@ -7,6 +7,7 @@ use Rattle.gp_round.specs.Configs.{is_between, bad_count}
 use Rattle.gp_words.specs.Numbers.{number_of}
 use Rattle.gp_random.specs.declared.workload.TheConstants.{MOST_COMMANDS}
 use Rattle.gp_sim.specs.declared.driving.TheConstants.{MOST_DRIVEN}
+use Rattle.gp_cli.specs.declared.subcommand.Operations.TheVariants.{Store, Bank}
 use Rattle.gp_cli.specs.declared.subcommand.Subcommand.{Subcommand}
 use Rattle.gp_cli.specs.declared.subcommand.Subcommand.TheVariants.{Play, Sim, Drive, Log, Upgrade}
 
@@ -27,6 +28,10 @@ drive_named acceptors learners commands =
 abbrev pub sim_named : List ℕ → List ℕ → Option Subcommand
 sim_named seed commands = option_and_then (λ s. option_map (λ n. Sim s n) (number_within 1 MOST_COMMANDS commands)) (number_of seed)
 
+-- `play` and `bank`, which play a script of the key store and one of accounts
+abbrev pub named_by_one : List ℕ → Option Subcommand
+named_by_one word = if bytes_eq word (codes "play") then Some (Play Store) else if bytes_eq word (codes "bank") then Some (Play Bank) else None
+
 -- the number of a disk
 abbrev pub disk_named : List ℕ → Option ℕ
 disk_named = number_within 0 11
@@ -43,7 +48,7 @@ named_by_two word number =
 -- the subcommand that the words name
 abbrev pub named : List (List ℕ) → Option Subcommand
 named [] = None
-named (word ∷ []) = if bytes_eq word (codes "play") then Some Play else None
+named (word ∷ []) = named_by_one word
 named (word ∷ x ∷ []) = named_by_two word x
 named (word ∷ x ∷ y ∷ []) = if bytes_eq word (codes "sim") then sim_named x y else None
 named (word ∷ x ∷ y ∷ z ∷ []) = if bytes_eq word (codes "drive") then drive_named x y z else None
@@ -51,7 +56,7 @@ named (word ∷ x ∷ y ∷ z ∷ other ∷ others) = None
 
 -- the numbers of a subcommand are in range
 abbrev pub IsWithin : Subcommand → Type 0
-IsWithin Play = Unit {0}
+IsWithin (Play operations) = Unit {0}
 IsWithin (Sim seed commands) = (1 ≤ commands) × (commands ≤ MOST_COMMANDS)
 IsWithin (Drive acceptors learners commands) = (bad_count acceptors 3 learners ≡ None) × (commands ≤ MOST_DRIVEN)
 IsWithin (Log disk) = disk < 12

@@ -5,7 +5,7 @@ use Rattle.gp_script.specs.declared.reason.Reason.TheVariants.{TooLong, NoNodesL
 
 -- what is printed if the words name no subcommand
 abbrev pub usage : List ℕ
-usage = codes "usage: mcgp play | run [LIMIT] | sim SEED COMMANDS | drive A L K | log K | upgrade K\n"
+usage = codes "usage: mcgp play | run [LIMIT] | sim SEED COMMANDS | drive A L K | log K | upgrade K | bank\n"
 
 -- what is printed if the source failed
 abbrev pub read_fault : List ℕ

@@ -2,6 +2,7 @@
 ghost use Rattle.std.specs.Prelude.{◌≡◌, ◌⊎◌, List, [], ℕ, true, false, None, Some, IfSome};
 ghost use Rattle.gp_edge.specs.Faults.{Rose};
 ghost use Rattle.gp_msg.specs.declared.record.Record.{Record};
+ghost use Rattle.gp_cli.specs.declared.subcommand.Operations.{Operations};
 ghost use Rattle.gp_cli.specs.declared.subcommand.Subcommand.TheVariants.{Play, Sim, Drive, Log, Upgrade};
 ghost use Rattle.gp_cli.specs.Subcommands.{named};
 ghost use Rattle.gp_cli.specs.Outside.{Outside};
@@ -10,24 +11,25 @@ ghost use Rattle.gp_cli.specs.Serving.{Ends, HoldsScript, HoldsBadLine, PlaysWho
 ghost use Rattle.gp_cli.specs.LogRuns.{HoldsLog, HoldsRoomyLog, HoldsFullLog, HoldsNoLog, ShowsLog, ShowsTakenOn, HasNoSpace, IsBrokenAt};
 ghost use Rattle.gp_cli.specs.Program.{Arguments, AreWords, IsProgramCause};
 
-/// With status 0 a script was read to its end and played, and all that it prints was written, with no
-/// fault of the source or the sink. With status 3 a line of a script was refused, and nothing else was
-/// printed than which, and why. With status 5 too the script was read to its end.
+/// With status 0 a script, of the key store for `play` and of accounts for `bank`, was read to its end and
+/// played, and all that it prints was written, with no fault of the source or the sink. With status 3 a
+/// line of such a script was refused, and nothing else was printed than which, and why. With status 5 too
+/// the script was read to its end.
 pub fn a_script_was_played_or_refused()
-    ensures played { (words : List (List ℕ)) (before now : Outside) (status : ℕ) (trail : List Record) → Ends (IsCause words) before now status trail
-        → named words ≡ Some Play → status ≡ 0 → PlaysWhole before now trail }
+    ensures played { (words : List (List ℕ)) (before now : Outside) (status : ℕ) (trail : List Record) → Ends (IsCause words) before now status trail → (operations : Operations)
+        → named words ≡ Some (Play operations) → status ≡ 0 → PlaysWhole operations before now trail }
     ensures refused { (words : List (List ℕ)) (before now : Outside) (status : ℕ) (trail : List Record) → Ends (IsCause words) before now status trail
-        → status ≡ 3 → StopsAtLine before now status trail }
-    ensures read_to_end { (words : List (List ℕ)) (before now : Outside) (status : ℕ) (trail : List Record) → Ends (IsCause words) before now status trail
-        → named words ≡ Some Play → (status ≡ 0) ⊎ (status ≡ 5) → IfSome now.source.bytes (λ rest. rest ≡ []) }
+        → status ≡ 3 → StopsAtLine words before now status trail }
+    ensures read_to_end { (words : List (List ℕ)) (before now : Outside) (status : ℕ) (trail : List Record) → Ends (IsCause words) before now status trail → (operations : Operations)
+        → named words ≡ Some (Play operations) → (status ≡ 0) ⊎ (status ≡ 5) → IfSome now.source.bytes (λ rest. rest ≡ []) }
 {}
 
 /// A whole script is played, and one with a bad line is refused, if nothing fails and there is memory.
 pub fn a_script_has_its_status()
-    ensures complete { (words : List (List ℕ)) (before now : Outside) (status : ℕ) (trail : List Record) → Ends (IsCause words) before now status trail → named words ≡ Some Play → HoldsScript before.source
-        → ¬ Rose before.source.faults now.source.faults → ¬ Rose before.sink.faults now.sink.faults → (status ≡ 0) ⊎ (status ≡ 1) }
-    ensures refuses { (words : List (List ℕ)) (before now : Outside) (status : ℕ) (trail : List Record) → Ends (IsCause words) before now status trail → named words ≡ Some Play → HoldsBadLine before.source
-        → ¬ Rose before.source.faults now.source.faults → (status ≡ 3) ⊎ (status ≡ 1) }
+    ensures complete { (words : List (List ℕ)) (before now : Outside) (status : ℕ) (trail : List Record) → Ends (IsCause words) before now status trail → (operations : Operations) → named words ≡ Some (Play operations)
+        → HoldsScript operations before.source → ¬ Rose before.source.faults now.source.faults → ¬ Rose before.sink.faults now.sink.faults → (status ≡ 0) ⊎ (status ≡ 1) }
+    ensures refuses { (words : List (List ℕ)) (before now : Outside) (status : ℕ) (trail : List Record) → Ends (IsCause words) before now status trail → (operations : Operations) → named words ≡ Some (Play operations)
+        → HoldsBadLine operations before.source → ¬ Rose before.source.faults now.source.faults → (status ≡ 3) ⊎ (status ≡ 1) }
 {}
 
 /// `drive` and `sim` end with status 0 or 5, or because memory ran out; without a fault of the sink they do

@@ -1,19 +1,21 @@
 //! The subcommands that make a run: of a script, of commands that are driven, of a workload.
 ghost use Rattle.std.specs.Prelude.{◌≡◌, ◌≤◌, [], None, IfOk, IfErr};
 ghost use Rattle.gp_round.specs.Configs.{bad_count};
-ghost use Rattle.gp_report.specs.Replicas.{IsInAgreement};
 ghost use Rattle.gp_report.specs.Texts.{report};
 ghost use Rattle.gp_report.specs.Summaries.{summary};
 ghost use Rattle.gp_sim.specs.Driven.{driven};
 ghost use Rattle.gp_sim.specs.Simulated.{sim_config, simulated};
-ghost use Rattle.gp_text.specs.Reading.{reading};
+ghost use Rattle.gp_text.specs.Playing.{PlaysFor};
+ghost use Rattle.gp_text.specs.Limits.{SaysLegallyFor};
 ghost use Rattle.gp_world.specs.State.{entries_of};
+ghost use Rattle.gp_cli.specs.Machines.{profile_of, reading_of, IsInAgreementOfAll};
 ghost use Rattle.gp_cli.specs.Endings.{Drives, Simulates};
 ghost use Rattle.gp_cli.specs.Outside.{seen, Told};
 ghost use Rattle.gp_cli.specs.Causes.{IsReadCause, IsRunCause, IsScriptCause, driven_config};
 ghost use Rattle.gp_cli.specs.Serving.{EndsBy};
 
 use crate::status::{DONE, NO_MEMORY, REFUSED, UNREAD, UNWRITTEN};
+use crate::subcommand::Operations;
 use crate::telling::{READ_FAULT, refusal_text, tell, tell_of};
 use gp_command::NoMemory;
 use gp_edge::{Refused, Sink, Source, read_up_to};
@@ -21,7 +23,7 @@ use gp_msg::Records;
 use gp_report::summary;
 use gp_round::Config;
 use gp_sim::{drive, simulate};
-use gp_text::{MOST_BYTES, Played, Unplayed, play, report};
+use gp_text::{MOST_BYTES, Played, Unplayed, play, play_bank, report};
 use std::alloc::Global;
 use std::sync::Wait;
 
@@ -63,13 +65,29 @@ fn print<K: Sink>(alloc: Global, made: Result<Played, NoMemory>, sink: &mut K) -
     }
 }
 
+// Plays a script whose operations are for the machine.
+fn play_for(alloc: Global, operations: Operations, script: &[u8]) -> Result<Played, Unplayed>
+    ensures plays { PlaysFor (profile_of operations) (reading_of operations script.now) result }
+    ensures legal { SaysLegallyFor (profile_of operations) (reading_of operations script.now) }
+{
+    match operations {
+        Operations::Store => play(alloc, script),
+        Operations::Bank => play_bank(alloc, script),
+    }
+}
+
 // Plays a script, and prints what it prints, or its first refused line.
-fn play_script<K: Sink>(alloc: Global, script: &[u8], sink: &mut K) -> Outcome
-    ensures ends { EndsBy (IsScriptCause (reading script.now))
+fn play_script<K: Sink>(
+    alloc: Global,
+    operations: Operations,
+    script: &[u8],
+    sink: &mut K,
+) -> Outcome
+    ensures ends { EndsBy (IsScriptCause operations (reading_of operations script.now))
         (seen (K.written sink.old) (K.faults sink.old)) (seen (K.written sink.new) (K.faults sink.new)) result.status result.trail }
     ensures never_falls { K.faults sink.old ≤ K.faults sink.new }
 {
-    match play(alloc, script) {
+    match play_for(alloc, operations, script) {
         Ok(played) => print(alloc, Ok(played), sink),
         Err(
             Unplayed::Bad {
@@ -85,19 +103,20 @@ fn play_script<K: Sink>(alloc: Global, script: &[u8], sink: &mut K) -> Outcome
     }
 }
 
-/// Reads a script, and plays it.
+/// Reads a script whose operations are for the machine, and plays it.
 pub(crate) fn read_and_play<S: Source, K: Sink>(
     alloc: Global,
+    operations: Operations,
     source: &mut S,
     sink: &mut K,
 ) -> Outcome
-    ensures ends { EndsBy (IsReadCause (seen (S.rest source.old) (S.faults source.old)) (seen (S.rest source.new) (S.faults source.new)))
+    ensures ends { EndsBy (IsReadCause operations (seen (S.rest source.old) (S.faults source.old)) (seen (S.rest source.new) (S.faults source.new)))
         (seen (K.written sink.old) (K.faults sink.old)) (seen (K.written sink.new) (K.faults sink.new)) result.status result.trail }
     ensures source_never_falls { S.faults source.old ≤ S.faults source.new }
     ensures sink_never_falls { K.faults sink.old ≤ K.faults sink.new }
 {
     match read_up_to(alloc, source, MOST_READ) {
-        Ok(script) => play_script(alloc, &script, sink),
+        Ok(script) => play_script(alloc, operations, &script, sink),
         Err(Refused::Failed) => {
             let status = tell(sink, READ_FAULT, UNREAD, UNREAD);
             without_run(alloc, status)
@@ -123,7 +142,7 @@ fn driven<W: Wait>(rt: &W, alloc: Global, config: Config, commands: u32) -> Resu
     requires few { commands ≤ 64 }
     ensures run { IfOk result (λ played. entries_of played.world ≡ driven config commands) }
     ensures text { IfOk result (λ played. played.text.items ≡ report config (driven config commands)) }
-    ensures agreement { IfOk result (λ played. IsInAgreement config (entries_of played.world)) }
+    ensures agreement { IfOk result (λ played. IsInAgreementOfAll config (entries_of played.world)) }
 {
     let world = drive(rt, alloc, config, commands)?;
     let _legal = world.records();
@@ -158,7 +177,7 @@ fn simulated<W: Wait>(rt: &W, alloc: Global, seed: u64, commands: u32) -> Result
     requires few { commands ≤ 256 }
     ensures run { IfOk result (λ played. entries_of played.world ≡ simulated seed commands) }
     ensures text { IfOk result (λ played. played.text.items ≡ summary seed commands sim_config (simulated seed commands)) }
-    ensures agreement { IfOk result (λ played. IsInAgreement sim_config (entries_of played.world)) }
+    ensures agreement { IfOk result (λ played. IsInAgreementOfAll sim_config (entries_of played.world)) }
 {
     let world = simulate(rt, alloc, seed, commands)?;
     let _legal = world.records();

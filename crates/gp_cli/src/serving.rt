@@ -101,7 +101,8 @@ fn use_log<D: Disk, K: Sink>(
 ///
 /// `play` reads a script to its end, or to one byte past the most that a script may have, plays it, and
 /// prints what its `show` lines ask for and the report. If a read fails the script is not played. If a
-/// line is refused only the refusal is printed. `sim` makes the workload of a seed, settles it, and
+/// line is refused only the refusal is printed. `bank` does the same with a script whose operations are on
+/// accounts, and its report has the totals of each learner's accounts. `sim` makes the workload of a seed, settles it, and
 /// prints a summary. `drive` drives commands one by one in a multi round of which one coordinator takes no
 /// part, and prints the report. `log` prints the entries of the log of a disk, and changes no byte of it;
 /// `upgrade` does the same after it has renewed a log with entries of version 1 of the format. Words that
@@ -134,7 +135,9 @@ pub fn serve<W: Wait, S: Source, K: Sink, D: Disk>(
     ensures disks_never_fall { EachDisk (λ was is. D.faults was ≤ D.faults is) disks.items result.disks.items }
 {
     match subcommand_of(words) {
-        Some(Subcommand::Play) => with_disks(read_and_play(alloc, source, sink), disks),
+        Some(Subcommand::Play { operations }) => {
+            with_disks(read_and_play(alloc, operations, source, sink), disks)
+        }
         Some(Subcommand::Sim { seed, commands }) => {
             with_disks(
                 simulate_and_summarize(rt, alloc, seed, commands, sink),

@@ -1,6 +1,6 @@
 //! The subcommands, and the words that name them.
 ghost use Rattle.std.specs.Prelude.{◌≡◌, IfSome};
-ghost use Rattle.gp_cli.specs.Subcommands.{texts_of, number_within, drive_named, sim_named, disk_named, named_by_two, named, IsWithin};
+ghost use Rattle.gp_cli.specs.Subcommands.{texts_of, number_within, drive_named, sim_named, disk_named, named_by_one, named_by_two, named, IsWithin};
 
 use gp_random::MOST_COMMANDS;
 use gp_sim::MOST_DRIVEN;
@@ -9,11 +9,23 @@ use gp_words::number_of;
 /// The number of disks: one for each acceptor, 0 to 6, and one for each coordinator, 7 to 11.
 pub const DISKS: u32 = 12;
 
+/// The machine that the operations of a script are for.
+#[derive(Clone, Copy, Debug, PartialEq, Eq)]
+pub enum Operations {
+    /// The key store.
+    Store,
+    /// The bank, which keeps accounts.
+    Bank,
+}
+
 /// What the words of the command line ask for.
 #[derive(Clone, Copy, Debug, PartialEq, Eq)]
 pub enum Subcommand {
     /// Read a script, play it, and print what its `show` lines ask for and its report.
-    Play,
+    Play {
+        /// The machine that the script's operations are for.
+        operations: Operations,
+    },
     /// Make a workload from a seed, play and settle it, and print a summary.
     Sim {
         /// The seed of the generator.
@@ -74,6 +86,21 @@ fn sim_of(seed: &str, commands: &str) -> Option<Subcommand>
     })
 }
 
+// A word alone.
+fn of_one(word: &str) -> Option<Subcommand>
+    ensures { result ≡ named_by_one word.now }
+{
+    match word {
+        "play" => Some(Subcommand::Play {
+            operations: Operations::Store,
+        }),
+        "bank" => Some(Subcommand::Play {
+            operations: Operations::Bank,
+        }),
+        _ => None,
+    }
+}
+
 // A word and a number.
 fn of_two(word: &str, number: &str) -> Option<Subcommand>
     ensures { result ≡ named_by_two word.now number.now }
@@ -92,7 +119,7 @@ pub fn subcommand_of(words: &[String]) -> Option<Subcommand>
     ensures within { IfSome result IsWithin }
 {
     match words {
-        [word] if word.as_str() == "play" => Some(Subcommand::Play),
+        [word] => of_one(word.as_str()),
         [word, number] => of_two(word.as_str(), number.as_str()),
         [word, seed, commands] if word.as_str() == "sim" => {
             sim_of(seed.as_str(), commands.as_str())
