@@ -129,6 +129,90 @@ l1 total 10 deposits 10 withdrawals 0
 events 38 messages 26
 ";
 
+// four accounts with 10 each, and four transfers that lead from each to the next and collide in a fast
+// round: every two neighbours in the ring stand in other orders at two acceptors, so only the deposits are
+// learned there; a single round orders the transfers, and the greatest is not granted
+const RING_OF_TRANSFERS: &[u8] = b"\
+nodes 3 1 2
+begin c0 1 fast
+take a0 0
+take a1 0
+take a2 0
+take c0 1
+take c0 2
+take a0 4
+take a1 4
+take a2 4
+offer p0 deposit a 10
+offer p1 deposit b 10
+offer p2 deposit c 10
+offer p3 deposit d 10
+offer p4 transfer a b 4
+offer p5 transfer b c 12
+offer p6 transfer c d 3
+offer p7 transfer d a 9
+take a0 8
+take a0 9
+take a0 10
+take a0 11
+take a0 12
+take a0 13
+take a0 14
+take a0 15
+take a1 11
+take a1 10
+take a1 9
+take a1 8
+take a1 15
+take a1 14
+take a1 13
+take a1 12
+take a2 9
+take a2 8
+take a2 11
+take a2 10
+take a2 13
+take a2 15
+take a2 12
+take a2 14
+take l0 23
+take l0 31
+take l0 39
+show l0
+take c0 8
+take c0 9
+take c0 10
+take c0 11
+take c0 15
+take c0 13
+take c0 12
+take c0 14
+begin c0 2 single
+take a0 40
+take a1 40
+take c0 41
+take c0 42
+take a0 43
+take a1 43
+take l0 44
+take l0 45
+take l1 44
+take l1 45
+";
+
+const RING_OF_TRANSFERS_PRINTS: &[u8] = b"\
+l0 learned 4: p0.1 p1.1 p2.1 p3.1
+l0 learned 8: p0.1 p1.1 p2.1 p3.1 p5.1 p7.1 p4.1 p6.1
+l0 state: a=15 b=14 c=7 d=4
+l0 replies: p0.1=ok p1.1=ok p2.1=ok p3.1=ok p5.1=no p7.1=yes p4.1=yes p6.1=yes
+l0 total 40 deposits 40 withdrawals 0
+l1 learned 8: p0.1 p1.1 p2.1 p3.1 p5.1 p7.1 p4.1 p6.1
+l1 state: a=15 b=14 c=7 d=4
+l1 replies: p0.1=ok p1.1=ok p2.1=ok p3.1=ok p5.1=no p7.1=yes p4.1=yes p6.1=yes
+l1 total 40 deposits 40 withdrawals 0
+events 63 messages 46
+";
+
 // a checkpoint between two deposits: what precedes it is learned with it, and the rest is not
 const CHECKPOINT_BETWEEN_DEPOSITS: &[u8] = b"\
 nodes 3 1 1
@@ -226,6 +310,12 @@ fn every_operation_with_every_reply(rt: HostRuntime) -> Result<(), Fail> {
 #[test]
 fn transfers_that_collide_keep_the_total(rt: HostRuntime) -> Result<(), Fail> {
     assert!(rt; prints(rt.alloc(), TRANSFERS_COLLIDE, TRANSFERS_COLLIDE_PRINTS));
+    Ok(())
+}
+
+#[test]
+fn transfers_in_a_ring_keep_the_total(rt: HostRuntime) -> Result<(), Fail> {
+    assert!(rt; prints(rt.alloc(), RING_OF_TRANSFERS, RING_OF_TRANSFERS_PRINTS));
     Ok(())
 }
 

@@ -1,6 +1,8 @@
-//! Tests of the subcommands that read no script, and of the words that name a subcommand.
+//! Tests of the subcommands that read no script of the key store, and of the words that name a subcommand.
 #![tactic(auto)]
 
+#[cfg(test)]
+mod accounts;
 #[cfg(test)]
 mod driven_runs;
 #[cfg(test)]

@@ -44,16 +44,17 @@ pub struct Finished<D: Disk> {
     pub sink: CalmSink,
 }
 
-/// A command without input over these disks.
-pub fn served<W: Wait, D: Disk>(
+/// A command with this input over these disks.
+pub fn served_with<W: Wait, D: Disk>(
     rt: &W,
     alloc: Global,
     words: &[&str],
+    input: &[u8],
     disks: Vec<D>,
 ) -> Result<Finished<D>, Fail>
     requires { length disks.items ≡ 12 }
 {
-    let mut source = CalmSource::new(alloc, b"")?;
+    let mut source = CalmSource::new(alloc, input)?;
     let mut sink = CalmSink::new(alloc)?;
     let ran = serve(
         rt,
@@ -64,6 +65,18 @@ pub fn served<W: Wait, D: Disk>(
         disks,
     );
     Ok(Finished { ran, sink })
+}
+
+/// A command without input over these disks.
+pub fn served<W: Wait, D: Disk>(
+    rt: &W,
+    alloc: Global,
+    words: &[&str],
+    disks: Vec<D>,
+) -> Result<Finished<D>, Fail>
+    requires { length disks.items ≡ 12 }
+{
+    served_with(rt, alloc, words, b"", disks)
 }
 
 /// Whether a command without input and logs ends with this status and prints this.
