@@ -1,5 +1,6 @@
 //! Runs the examples in the folders that its arguments name, and compares the exit status and the output of
-//! each with the page `NAME.md` beside it: a script `NAME.txt` is played, and a log `NAME.log` is shown.
+//! each with the page `NAME.md` beside it: a script `NAME.txt` of the key store, or `NAME.bank` of accounts, is
+//! played, and a log `NAME.log` is shown.
 #![tactic(auto)]
 
 ghost use Rattle.std.specs.Prelude.{◌≡◌, IfOk, length};
@@ -57,10 +58,10 @@ fn passage(
     Ok(format!(in alloc; "ends with status {status}:\n\n```text\n{text}```\n")?)
 }
 
-// The passage of a script, which is played.
-fn played(rt: &HostRuntime, wait: &impl Wait, path: &str) -> io::Result<String> {
+// The passage of a script, which this word plays.
+fn played(rt: &HostRuntime, wait: &impl Wait, word: &str, path: &str) -> io::Result<String> {
     let alloc = rt.alloc();
-    let words = [String::from_str(alloc, "play")?];
+    let words = [String::from_str(alloc, word)?];
     let disks = disks_with(alloc, b"")?;
     passage(wait, alloc, &words, fs::open(rt, path)?, disks)
 }
@@ -86,16 +87,25 @@ fn compare(rt: &HostRuntime, folder: &str, name: &str, passage: &str) -> io::Res
     }
 }
 
-fn compare_all(rt: &HostRuntime, wait: &impl Wait, folder: &str) -> io::Result<()> {
-    for name in names_in(rt, folder, ".txt")? {
-        let script = format!(in rt.alloc(); "{folder}/{name}.txt")?;
-        compare(
-            rt,
-            folder,
-            name.as_str(),
-            played(rt, wait, script.as_str())?.as_str(),
-        )?;
+// The same for each script of a folder whose name has this ending, which this word plays.
+fn compare_scripts(
+    rt: &HostRuntime,
+    wait: &impl Wait,
+    folder: &str,
+    ending: &str,
+    word: &str,
+) -> io::Result<()> {
+    for name in names_in(rt, folder, ending)? {
+        let script = format!(in rt.alloc(); "{folder}/{name}{ending}")?;
+        let passage = played(rt, wait, word, script.as_str())?;
+        compare(rt, folder, name.as_str(), passage.as_str())?;
     }
+    Ok(())
+}
+
+fn compare_all(rt: &HostRuntime, wait: &impl Wait, folder: &str) -> io::Result<()> {
+    compare_scripts(rt, wait, folder, ".txt", "play")?;
+    compare_scripts(rt, wait, folder, ".bank", "bank")?;
     for name in names_in(rt, folder, ".log")? {
         let log = format!(in rt.alloc(); "{folder}/{name}.log")?;
         compare(
