@@ -1,0 +1,3 @@
+pub mod OfferSteps
+pub mod SaidOffers
+pub mod PlayedAlone

@@ -1,0 +1,19 @@
+-- What reading a script of `run` answers.
+use Rattle.std.specs.Prelude.{◌≡◌, ℕ, Result, Ok, Err}
+use Rattle.gp_script.specs.declared.fault.LineFault.{LineFault}
+use Rattle.gp_script.specs.declared.fault.LineFault.TheVariants as fault
+use Rattle.gp_offers.specs.declared.script.Offers.{Offers}
+use Rattle.gp_offers.specs.declared.script.Unread.{Unread}
+use Rattle.gp_offers.specs.declared.script.Unread.TheVariants.{Bad, NoMemory}
+use Rattle.gp_offers.specs.Offering.{OffersReading, Offered, RefusedAt}
+
+-- a line with this number was not read
+abbrev pub unread_at : ℕ → LineFault → Unread
+unread_at line fault.NoMemory = NoMemory
+unread_at line (fault.Refused reason) = Bad line reason
+
+-- the answer is what the script says, or its first refused line with the reason, unless memory ran out
+abbrev pub Reads : OffersReading → Result Offers Unread → Type 0
+Reads read (Ok offers) = read ≡ Offered offers
+Reads read (Err (Bad line reason)) = read ≡ RefusedAt line reason
+Reads read (Err NoMemory) = Unit {0}
