@@ -26,7 +26,7 @@ use Rattle.gp_offers.proofs.SaidOffers.{offer_item, line_offers, with_one, IsMor
 
 -- ---- one offer
 
-events_more : (offers : List Offer) (offer : Offer) → offer_events (offers ++ offer ∷ []) ≡ offer_events offers ++ event.Offer offer.0 offer.1 ∷ []
+pub events_more : (offers : List Offer) (offer : Offer) → offer_events (offers ++ offer ∷ []) ≡ offer_events offers ++ event.Offer offer.0 offer.1 ∷ []
 events_more offers offer = map-append (λ (o : Offer). event.Offer o.0 o.1) offers (offer ∷ [])
 
 -- a script of `play` has room for it

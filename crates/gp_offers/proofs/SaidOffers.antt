@@ -25,7 +25,7 @@ use Rattle.gp_offers.specs.Offering.{Offer, offer_in, offer_by, offer_line, with
 use Rattle.gp_offers.specs.Offered.{IsOffer, AreOffered}
 
 -- the test was not passed, and the answer is that of the step behind it
-test_else : {A E : Type 0} (b : Bool) (fault : E) (step : Result A E) (y : A) → cond b (Err fault) step ≡ Ok y → (b ≡ false) × (step ≡ Ok y)
+pub test_else : {A E : Type 0} (b : Bool) (fault : E) (step : Result A E) (y : A) → cond b (Err fault) step ≡ Ok y → (b ≡ false) × (step ≡ Ok y)
 test_else true fault step y e = absurd cc
 test_else false fault step y e = (refl, e)
 

@@ -1,12 +1,12 @@
 -- What a script of `run` can offer, and the events of it.
-use Rattle.std.specs.Prelude.{◌≤◌, ◌<◌, List, [], length, map}
+use Rattle.std.specs.Prelude.{◌≡◌, ℕ, ◌≤◌, ◌<◌, List, [], length, map}
 use Rattle.std.specs.List.{All}
 use Rattle.gp_round.specs.Ranges.{AreInRange}
 use Rattle.gp_msg.specs.declared.event.Event.{Event}
 use Rattle.gp_msg.specs.declared.event.Event.TheVariants as event
 use Rattle.gp_service.specs.Languages.{IsSpoken}
 use Rattle.gp_service.specs.Stores.{store_language}
-use Rattle.gp_text.specs.Reading.{Sofar}
+use Rattle.gp_text.specs.Reading.{Whole, Sofar, reading}
 use Rattle.gp_offers.specs.declared.script.Offers.{Offers}
 use Rattle.gp_offers.specs.declared.limits.TheConstants.{MOST_OFFERS}
 use Rattle.gp_offers.specs.Offering.{Offer}
@@ -28,3 +28,7 @@ offer_events offers = map (λ (offer : Offer). event.Offer offer.0 offer.1) offe
 -- a script that says these offers in this order, and shows nothing
 abbrev pub offers_alone : List Offer → Sofar
 offers_alone offers = record { events = offer_events offers; shown = [] }
+
+-- `play` reads the script too, as these offers and nothing else, and there are no more than a script of `run` may have
+abbrev pub IsPlayedAlone : List ℕ → Offers → Type 0
+IsPlayedAlone bytes offers = (reading bytes ≡ Whole offers.config (offers_alone offers.list)) × (length offers.list ≤ MOST_OFFERS)
