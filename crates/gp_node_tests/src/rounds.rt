@@ -50,14 +50,29 @@ const SECOND: Call = Call {
 
 const MOST_OFFERS: usize = 8;
 
-// The keys that the offered commands write, the calls, and how many commands are learned.
-type Case = (&'static str, &'static [Call], usize);
+// The keys that the offered commands write, a node, and the numbers of the calls of its disk that fail.
+type Scene = (&'static str, Node, &'static [u64]);
 
-// Coordinator 1 takes the offers in the other order than coordinator 0.
-static CASES: [Case; 3] = [
-    ("", &[FIRST], 0),
-    ("ab", &[FIRST], 2),
-    ("aa", &[FIRST, SECOND], 2),
+// What phases come to: whether they end quietly, the calls, and how many commands are learned.
+type Case = (Scene, bool, &'static [Call], usize);
+
+const NOTHING: &[u64] = &[];
+
+// Coordinator 1 takes the offers in the other order than coordinator 0. The first three calls of a disk make its log, and the
+// next four append the first entry; a node whose disk fails there falls, and it ends its work if the disk fails again
+// when it comes up. A leader that falls in its first move has begun no round.
+static CASES: [Case; 6] = [
+    (("", Node::Acceptor(0), NOTHING), true, &[FIRST], 0),
+    (("ab", Node::Acceptor(0), NOTHING), true, &[FIRST], 2),
+    (
+        ("aa", Node::Acceptor(0), NOTHING),
+        true,
+        &[FIRST, SECOND],
+        2,
+    ),
+    (("ab", Node::Acceptor(0), &[3]), true, &[FIRST], 2),
+    (("ab", Node::Coordinator(0), &[3]), true, &[FIRST], 0),
+    (("", Node::Coordinator(0), &[3, 4]), false, &[FIRST], 0),
 ];
 
 // What phases came to: whether they ended quietly, whether these were the calls, and how many commands were learned.
@@ -67,9 +82,9 @@ type Outcome = (bool, bool, usize);
 fn a_clash_is_answered_by_a_single_round(rt: HostRuntime) -> Result<(), Fail> {
     let alloc = rt.alloc();
     let config = Config::new(3, 2, 1).or(Err("no configuration"))?;
-    for (keys, calls, learned) in CASES {
-        let outcome = run(&rt, alloc, config, keys.as_bytes(), calls)?;
-        assert_eq!(rt; outcome, (true, true, learned), "{keys}");
+    for (scene, quiet, calls, learned) in CASES {
+        let outcome = run(&rt, alloc, config, &scene, calls)?;
+        assert_eq!(rt; outcome, (quiet, true, learned), "{scene:?}");
     }
     Ok(())
 }
@@ -79,9 +94,10 @@ fn run<R: Threads + Wait + Sync>(
     rt: &R,
     alloc: Global,
     config: Config,
-    keys: &[u8],
+    scene: &Scene,
     calls: &[Call],
 ) -> Result<Outcome, NoMemory> {
+    let keys = scene.0.as_bytes();
     let (wire, mut passes) = Wire::new(alloc, PaxosRules { config }, &NODES)?;
     let Some(pass) = passes.pop() else {
         return Err(NoMemory);
@@ -89,7 +105,7 @@ fn run<R: Threads + Wait + Sync>(
     if !offer(rt, alloc, config, &wire, pass, keys)? {
         return Err(NoMemory);
     }
-    let mut jobs = jobs_of(alloc, config, &wire, passes)?;
+    let mut jobs = jobs_of(alloc, config, &wire, passes, scene)?;
     let Some(at) = jobs.len().checked_sub(1) else {
         return Err(NoMemory);
     };
@@ -187,6 +203,7 @@ fn jobs_of(
     config: Config,
     wire: &Wire<PaxosRules>,
     passes: Vec<Pass>,
+    scene: &Scene,
 ) -> Result<Vec<Job<MemDisk>>, NoMemory>
     requires rules { wire.now.rules.config ≡ config }
     requires fresh { Each (IsFresh wire.now) passes.items }
@@ -195,7 +212,7 @@ fn jobs_of(
     let mut left = passes;
     let mut jobs = Vec::new(alloc);
     while let Some(pass) = left.pop() {
-        jobs.push(job_of(alloc, config, wire, pass)?)?;
+        jobs.push(job_of(alloc, config, wire, pass, scene)?)?;
     }
     Ok(jobs)
 }
@@ -206,16 +223,18 @@ fn job_of(
     config: Config,
     wire: &Wire<PaxosRules>,
     pass: Pass,
+    scene: &Scene,
 ) -> Result<Job<MemDisk>, NoMemory>
     requires rules { wire.now.rules.config ≡ config }
     requires fresh { IsFresh wire.now pass }
     ensures { IfOk result (IsNewJob wire.now config) }
 {
     let node = pass.node();
+    let failing = if node == scene.1 { scene.2 } else { NOTHING };
     if !is_there(config, node) {
         return Err(NoMemory);
     }
-    let log = log_for(alloc, config, node, &[])?;
+    let log = log_for(alloc, config, node, failing)?;
     match Cell::new(alloc, config, node, log, pass) {
         Ok(cell) => Ok(Job {
             cell,
