@@ -32,7 +32,7 @@ use Rattle.gp_phase.specs.Phases.{rounds, only_at, Going, FaultCause, Carried, A
 use Rattle.gp_phase.proofs.Deeds.{tidy_on, tidy_looked, begins_append, done_made, no_offer}
 
 -- a job that was done in a phase without a fault
-done_of : (too_great : Event → ℕ → ℕ → Type 0) (p : ProcessState) (f : Bool) (first : List Move) (cursor : ℕ) (q : ProcessState) (g : Bool) (behind : ℕ) (fault : Option JobFault)
+pub done_of : (too_great : Event → ℕ → ℕ → Type 0) (p : ProcessState) (f : Bool) (first : List Move) (cursor : ℕ) (q : ProcessState) (g : Bool) (behind : ℕ) (fault : Option JobFault)
     → fault ≡ None → Ends too_great p f first cursor q g behind fault → Done p f first cursor q g behind
 done_of too_great p f first cursor q g behind fault none e = subst (Ends too_great p f first cursor q g behind) none e
 
@@ -96,7 +96,7 @@ not_true : (f : Bool) → f ≡ false → f ≡ true → ⊥
 not_true true a b = cc
 not_true false a b = cc
 
-was_false : (f g : Bool) → (f ≡ true → g ≡ true) → g ≡ false → f ≡ false
+pub was_false : (f g : Bool) → (f ≡ true → g ≡ true) → g ≡ false → f ≡ false
 was_false true g h e = absurd (not_true g e (h refl))
 was_false false g h e = refl
 

@@ -12,7 +12,7 @@ use Rattle.gp_rules.specs.Own.{own_events}
 use Rattle.gp_work.specs.declared.faults.JobFault.{JobFault}
 use Rattle.gp_work.specs.declared.faults.JobFault.TheVariants.{NoMemory, Disk, Full, NotLog, Changed}
 use Rattle.gp_work.specs.declared.job.Job.{Job}
-use Rattle.gp_work.specs.Doing.{ProcessState, posted, Goes}
+use Rattle.gp_work.specs.Doing.{ProcessState, posted, Goes, Posted}
 use Rattle.gp_work.specs.Moves.{event_of, AllFit}
 use Rattle.gp_work.specs.declared.moves.Move.TheVariants as move
 use Rattle.gp_phase.specs.declared.caller.Call.{Call}
@@ -117,6 +117,10 @@ pub record Finished {N P : Type 0} (state : P → ProcessState) (is_of : P → N
   pub split : (state k.cell).list ≡ seen ++ more
   pub whole : length seen ≡ all
   pub looked : length (messages_in seen) ≤ k.cursor
+
+-- unless its node has fallen, what a job posted begins with the rounds that were its first moves: the node took no message before
+abbrev pub Opens : {P : Type 0} → (P → ProcessState) → Job P → Job P → Type 0
+Opens state j k = (rs : List Round) → j.first ≡ begin_moves rs → k.risen ≡ false → (rest : List Event) × Posted (state j.cell) (state k.cell) (begins (state j.cell).node rs ++ rest)
 
 -- what a caller left for the next phase
 pub record Asked {P : Type 0} (state : P → ProcessState) (answers : List Call → List Record → Option Call → Type 0) (before after : List Call) (j k : Job P) (left : Bool) : Type 0 where

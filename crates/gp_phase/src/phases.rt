@@ -5,7 +5,7 @@ ghost use Rattle.std.specs.Prelude.{None};
 ghost use Rattle.gp_work.specs.declared.job.Job.{Job};
 ghost use Rattle.gp_work.specs.Doing.{Goes, Posted};
 ghost use Rattle.gp_phase.specs.declared.phases.PhasesEnd.TheVariants as PhasesEnd;
-ghost use Rattle.gp_phase.specs.Phases.{rounds, only_at, total, AreReady, Carried, Finished, Asked, Follows};
+ghost use Rattle.gp_phase.specs.Phases.{rounds, only_at, total, AreReady, Carried, Finished, Opens, Asked, Follows};
 
 use crate::caller::Caller;
 use gp_command::NoMemory;
@@ -146,6 +146,7 @@ pub fn run_phases<
     ensures carried { (i : ℕ) (d : Job P) → i < length jobs.items → Carried P.state P.is_of P.too_great net.now (slice_index_or jobs.items i d) (slice_index_or result.jobs.items i d) }
     ensures finished { result.end ≡ PhasesEnd.Quiet → (i : ℕ) (d : Job P) → i < length jobs.items
         → Finished P.state P.is_of net.now (only_at at i (rounds (C.called caller.new))) (total P.state others result.jobs.items) (slice_index_or jobs.items i d) (slice_index_or result.jobs.items i d) }
+    ensures opens { result.end ≡ PhasesEnd.Quiet → (i : ℕ) (d : Job P) → i < length jobs.items → Opens P.state (slice_index_or jobs.items i d) (slice_index_or result.jobs.items i d) }
     ensures follows { result.end ≡ PhasesEnd.Quiet → (d : Job P) → Follows P.state C.answers (slice_index_or result.jobs.items at d) (C.called caller.new) None }
     ensures last { result.end ≡ PhasesEnd.Quiet → (d : Job P) → let j = slice_index_or result.jobs.items at d in C.answers (P.state j.cell).config (P.state j.cell).node (C.called caller.new) (P.state j.cell).list None }
     ensures node { C.node caller.new ≡ C.node caller.old }

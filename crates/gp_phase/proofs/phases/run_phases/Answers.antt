@@ -1,10 +1,11 @@
-use Rattle.std.proofs.Common.{◌≡◌, ◌++◌, true, List, length, get_or, set, refl, sym, ap, ◌∙◌, subst, None, arith, get_or-set_same}
+use Rattle.std.proofs.Common.{◌≡◌, inl, inr, ◌++◌, true, List, length, get_or, set, refl, sym, ap, ◌∙◌, subst, None, arith, get_or-set_same}
 use Rattle.std.proofs.lemmas.List.{append-nil}
 use Rattle.std.specs.Option.{option_to_list}
 use Rattle.std.specs.List.{All}
 use Rattle.gp_work.specs.declared.job.Job.{Job}
 use Rattle.gp_phase.specs.Phases.{Asked, Follows, total}
 use Rattle.gp_phase.proofs.Phasing.{Looks, starts, ready, worked, looked, asked, finished, all_carried, carried_asked, known}
+use Rattle.gp_phase.proofs.Opening.{worked_open, looked_open}
 use Rattle.gp_phase.proofs.phases.run_phases.Goals as goal
 
 pub loop-init : goal.loop-init
@@ -15,6 +16,7 @@ loop-init g c = let r = c.requires.ready in (
   r.begun,
   r.pending,
   starts g.P.Process.state g.P.Process.is_of g.P.Process.too_great c.args.net.now g.C.Caller.answers c.args.at c.args.jobs.items (g.C.Caller.node c.args.caller.now) (g.C.Caller.config c.args.caller.now) (g.C.Caller.called c.args.caller.now) r (λ d. (c.requires.node d, c.requires.config d)),
+  inl refl,
 )
 
 pub workers-jobs-requires-clause-ready : goal.workers-jobs-requires-clause-ready
@@ -101,6 +103,22 @@ returns-then-not-left-clause-finished g c _ i d l =
     subst (λ (xs : List (Job g.row.P.Denot)). All (λ (k : Job g.row.P.Denot). length (g.P.Process.state k.cell).list ≡ total g.P.Process.state c.args.others xs) xs) c.deref-in-loop-2.ensures.value (c.if-quiet.ensures refl) in
     finished g.P.Process.state g.P.Process.is_of g.P.Process.too_great c.args.net.now g.C.Caller.answers c.args.at js0 ks me us called after c.args.others y j c.in-Ok.left c.requires.at done w a c.if-not-left.true ends quiet i d l
 
+pub returns-then-not-left-clause-opens : goal.returns-then-not-left-clause-opens
+returns-then-not-left-clause-opens g c _ i d l =
+    let js0 = c.args.jobs.items in let js = c.loop.jobs.items in let ks = c.workers-jobs.result.items in
+    let me = g.C.Caller.node c.args.caller.now in let us = g.C.Caller.config c.args.caller.now in let called = g.C.Caller.called c.loop.caller in
+    let inv = c.loop.invariant in let ph = inv.5 in
+    let none : All (λ (k : Job g.row.P.Denot). k.fault ≡ None) ks = subst (All (λ (k : Job g.row.P.Denot). k.fault ≡ None)) c.deref-in-loop.ensures.value (c.if-has_fault.ensures refl) in
+    let done = worked g.P.Process.state g.P.Process.is_of g.P.Process.too_great c.args.net.now g.C.Caller.answers c.args.at js0 js ks me us inv.3 inv.4 called c.requires.at ph c.workers-jobs.ensures.same c.workers-jobs.ensures.each none in
+    let j : Job g.row.P.Denot = c.index_mut.result.now in
+    let here : j ≡ get_or ks c.args.at j = c.index_mut.ensures.value in
+    let y : Job g.row.P.Denot = c.call_round.new.job in let after = g.C.Caller.called c.call_round.new.caller in
+    let e = c.call_round.ensures in
+    let w0 : Looks g.P.Process.state g.P.Process.is_of g.P.Process.too_great c.args.net.now g.C.Caller.answers c.args.at j y = record { own = e.own; goes = e.goes; posts = e.posts; up = e.up; cursor = e.cursor; risen = e.risen; fault = e.fault } in
+    let w = subst (λ (x : Job g.row.P.Denot). Looks g.P.Process.state g.P.Process.is_of g.P.Process.too_great c.args.net.now g.C.Caller.answers c.args.at x y) here w0 in
+    let opened = worked_open g.P.Process.state g.P.Process.is_of g.P.Process.too_great c.args.net.now js0 js ks ph.size c.workers-jobs.ensures.same inv.6 c.workers-jobs.ensures.each none in
+    looked_open g.P.Process.state g.P.Process.is_of g.P.Process.too_great c.args.net.now g.C.Caller.answers c.args.at js0 ks y j done.size w opened i d l
+
 pub returns-then-not-left-clause-follows : goal.returns-then-not-left-clause-follows
 returns-then-not-left-clause-follows g c _ d =
     let js0 = c.args.jobs.items in let js = c.loop.jobs.items in let ks = c.workers-jobs.result.items in
@@ -134,6 +152,7 @@ loop-preserved g c =
     let w0 : Looks g.P.Process.state g.P.Process.is_of g.P.Process.too_great c.args.net.now g.C.Caller.answers c.args.at j y = record { own = e.own; goes = e.goes; posts = e.posts; up = e.up; cursor = e.cursor; risen = e.risen; fault = e.fault } in
     let w = subst (λ (x : Job g.row.P.Denot). Looks g.P.Process.state g.P.Process.is_of g.P.Process.too_great c.args.net.now g.C.Caller.answers c.args.at x y) here w0 in
     let a = subst (λ (x : Job g.row.P.Denot). Asked g.P.Process.state (g.C.Caller.answers (g.P.Process.state x.cell).config (g.P.Process.state x.cell).node) called after x y c.in-Ok.left) here c.in-Ok.ensures.asked in
+    let opened = worked_open g.P.Process.state g.P.Process.is_of g.P.Process.too_great c.args.net.now js0 js ks ph.size c.workers-jobs.ensures.same inv.6 c.workers-jobs.ensures.each none in
     let next = asked g.P.Process.state g.P.Process.is_of g.P.Process.too_great c.args.net.now g.C.Caller.answers c.args.at js0 ks me us called after y j c.in-Ok.left c.requires.at done w a in
     let mine : (d : Job g.row.P.Denot) → get_or (set ks c.args.at y) c.args.at d ≡ y = λ d. get_or-set_same ks c.args.at y d (let size = done.size in let there = c.requires.at in omega arith) in (
       e.node ∙ inv.0,
@@ -142,4 +161,5 @@ loop-preserved g c =
       called,
       a.answer,
       next,
+      inr (looked_open g.P.Process.state g.P.Process.is_of g.P.Process.too_great c.args.net.now g.C.Caller.answers c.args.at js0 ks y j done.size w opened),
     )
