@@ -3,6 +3,7 @@
 
 #[cfg(test)]
 mod banks;
+pub mod greatest;
 #[cfg(test)]
 mod histories;
 #[cfg(test)]
