@@ -21,7 +21,7 @@ use Rattle.gp_wire.specs.Lists.{Each, Has}
 use Rattle.gp_wire.specs.Legal.{LegalFrom, IsOfOther}
 use Rattle.gp_wire.specs.Rule.{Slot, items, post_of, view, IsForeign, IsLater, IsBelow, Knows, Begins, IsSomebody, Stands, ticket, tickets, waiting, NotServing, NoTurn, Ascends, Kept}
 use Rattle.gp_wire.specs.Told.{SeatState, drawn, looked, posted, left_, learned}
-use Rattle.gp_wire.proofs.Words.{each_append, each_back, each_map, legal_more, legal_behind, items_append, others, ascends_more, waiting_set, below_more, later_of_below}
+use Rattle.gp_wire.proofs.Words.{each_append, each_map, legal_more, legal_behind, items_append, others, ascends_more, waiting_set, below_more, later_of_below}
 
 abbrev pub Homes : Type 0
 Homes = List (maybe.Option Slot)
@@ -202,7 +202,7 @@ module _ (L : List Record → Record → Type 0) (all : List Node) where
             (λ j u other is. (k.knows j u is, k.below j u is, stands_on k.log k.log k.next k.next k.serving k.serving s.homes (set s.homes 0 maybe.none) u u.standing (k.stands j u is) (others_wait s k id v at has_it j u other is) (omega arith) (λ _ _ l. l)))
             (λ j u a other is tw tu. other (k.one_ticket j id u v k.serving is at (tu ∙ (sym tw ∙ ap Some found)) has_it))
             (λ none. absurd (none id w (set_there s.views id v w at))),
-        ((λ _. record { more = more; after = refl; foreign = know.foreign; inside = subst (λ l. Each (λ e. Has e.item.node l) more) (sym (k.told id v mine.3.0 at mine.3.1)) (each_back (λ e. Has e.item.node all) v.seen more (subst (Each (λ e. Has e.item.node all)) know.split k.ours)); risen = below_more v.turn k.serving x (k.below id v at) (omega arith) }), (λ wrong. absurd (wrong (waits ∙ ap Waiting (served ∙ sym found))))),
+        ((λ _. record { more = more; after = refl; foreign = know.foreign; inside = subst (λ l. Each (λ e. Has e.item.node l) whole) (sym (k.told id v mine.3.0 at mine.3.1)) (subst (Each (λ e. Has e.item.node all)) know.split k.ours); risen = below_more v.turn k.serving x (k.below id v at) (omega arith) }), (λ wrong. absurd (wrong (waits ∙ ap Waiting (served ∙ sym found))))),
       ))
       (λ later. (
         v,

@@ -13,6 +13,7 @@ use Rattle.gp_wire.specs.Known.{PassState, record_of, records, HoldsAll}
 use Rattle.gp_wire.specs.Passes.{HadTurn, nothing, only}
 use Rattle.gp_wire.proofs.Keeps.{append_nil}
 use Rattle.gp_wire.proofs.Ends.{nothing_left}
+use Rattle.gp_wire.proofs.Words.{each_back}
 
 abbrev pub state_of : Node → TableId → SeatState → PassState
 state_of node_ wire_ m = record { node = node_; wire = wire_; all = m.0.all; holds = m.0.nodes; seen = m.0.seen; turn = m.0.turn }
@@ -38,7 +39,7 @@ had_turn p n s s' posts is same t = subst (λ (q : PassState). HadTurn q (seated
 pub no_more : (p q : PassState) (posts : ℕ → List Post) (t : HadTurn p q posts) → HoldsAll p → q.seen ≡ p.seen ++ posts t.turn
 no_more p q posts t cover =
     ap (λ (r : PassState). r.seen) t.after
-    ∙ ap (λ l. (p.seen ++ l) ++ posts t.turn) (nothing_left p.all p.holds t.more cover t.inside t.foreign)
+    ∙ ap (λ l. (p.seen ++ l) ++ posts t.turn) (nothing_left p.all p.holds t.more cover (each_back (λ e. Has e.item.node p.all) p.seen t.more t.inside) t.foreign)
     ∙ ap (λ l. l ++ posts t.turn) (append_nil p.seen)
 
 pub nothing_new : (p q : PassState) → HadTurn p q nothing → HoldsAll p → q.seen ≡ p.seen

@@ -73,7 +73,7 @@ pub record HasPosted (m q : SeatState) (t : ℕ) (x : Record) (list : List Recor
   pub risen : IsBelow m.0.turn t
   pub more : List Post
   pub foreign : Each (IsForeign m.0.nodes) more
-  pub inside : Each (λ e. Has e.item.node m.0.all) more
+  pub inside : Each (λ e. Has e.item.node m.0.all) (m.0.seen ++ more)
   pub after : q ≡ (view m.0.all m.0.nodes ((m.0.seen ++ more) ++ post_of x t ∷ []) (Serving t) m.0.turn m.0.olds, (0, Some list) ∷ [])
   pub whole : list ≡ items ((m.0.seen ++ more) ++ post_of x t ∷ [])
 

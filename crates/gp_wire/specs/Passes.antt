@@ -11,13 +11,13 @@ use Rattle.gp_wire.specs.Known.{PassState}
 abbrev pub after_turn : PassState → List Post → ℕ → PassState
 after_turn p seen_ turn_ = record { node = p.node; wire = p.wire; all = p.all; holds = p.holds; seen = seen_; turn = Some turn_ }
 
--- the pass has had a turn, after its last one: it has seen more records than before, of other nodes than those it holds, and then these, posted in that turn
+-- the pass has had a turn, after its last one: it has seen more records than before, of other nodes than those it holds, and then these, posted in that turn. What it saw up to them is of nodes of the wire
 pub record HadTurn (p q : PassState) (posts : ℕ → List Post) : Type 0 where
   pub turn : ℕ
   pub risen : IsBelow p.turn turn
   pub more : List Post
   pub foreign : Each (IsForeign p.holds) more
-  pub inside : Each (λ e. Has e.item.node p.all) more
+  pub inside : Each (λ e. Has e.item.node p.all) (p.seen ++ more)
   pub after : q ≡ after_turn p ((p.seen ++ more) ++ posts turn) turn
 
 -- no post in a turn

@@ -20,12 +20,12 @@ drawn st m r m' =
     (r ≡ st.first → m' ≡ (view m.0.all m.0.nodes m.0.seen (Waiting r) m.0.turn m.0.olds, m.1))
     × (r ≢ st.first → m' ≡ m)
 
--- where its ticket is served, a seat has the turn, the slot and the whole list
+-- where its ticket is served, a seat has the turn, the slot and the whole list, which is of nodes of the wire
 pub record HasTurn (t : ℕ) (m m' : SeatState) : Type 0 where
   pub more : List Post
   pub after : m' ≡ (view m.0.all m.0.nodes (m.0.seen ++ more) (Serving t) m.0.turn m.0.olds, (0, Some (items (m.0.seen ++ more))) ∷ m.1)
   pub foreign : Each (IsForeign m.0.nodes) more
-  pub inside : Each (λ e. Has e.item.node m.0.all) more
+  pub inside : Each (λ e. Has e.item.node m.0.all) (m.0.seen ++ more)
   pub risen : IsBelow m.0.turn t
 
 -- a look at the served ticket gives the turn where it is the seat's own, and else nothing

@@ -36,7 +36,7 @@ pub record Turned (m m' : Me Slot View) (posts : ℕ → List Post) : Type 0 whe
   pub risen : IsBelow m.0.turn turn
   pub more : List Post
   pub foreign : Each (IsForeign m.0.nodes) more
-  pub inside : Each (λ e. Has e.item.node m.0.all) more
+  pub inside : Each (λ e. Has e.item.node m.0.all) (m.0.seen ++ more)
   pub after : m' ≡ (view m.0.all m.0.nodes ((m.0.seen ++ more) ++ posts turn) Idle (Some turn) m.0.olds, m.1)
 
 -- what a seat knows once it has given up the turn of this ticket
@@ -48,6 +48,6 @@ pub record Enters (m m' : Me Slot View) (ticket : ℕ) (out : List Record) : Typ
   pub risen : IsBelow m.0.turn ticket
   pub more : List Post
   pub foreign : Each (IsForeign m.0.nodes) more
-  pub inside : Each (λ e. Has e.item.node m.0.all) more
+  pub inside : Each (λ e. Has e.item.node m.0.all) (m.0.seen ++ more)
   pub after : m' ≡ (view m.0.all m.0.nodes (m.0.seen ++ more) (Serving ticket) m.0.turn m.0.olds, (0, None) ∷ [])
   pub whole : out ≡ items m'.0.seen
