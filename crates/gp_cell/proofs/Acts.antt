@@ -1,14 +1,11 @@
 -- A cell as the node of a worker.
-use Rattle.std.proofs.Common.{◌≡◌, ℕ, ◌≤◌, false, List, [], ◌∷◌, ◌++◌, map, refl, sym, ap, ◌∙◌, subst, arith, Option, Some, None, Result, Ok, Err}
+use Rattle.std.proofs.Common.{◌≡◌, ℕ, ◌≤◌, false, [], ◌∷◌, ◌++◌, map, refl, sym, ap, ◌∙◌, subst, arith, Option, Some, None, Result, Ok, Err}
 use Rattle.std.specs.Prelude.{IfOk, IfErr, OnOk, OnErr, IsSome}
 use Rattle.std.proofs.lemmas.List.{append-nil, map-append}
-use Rattle.gp_msg.specs.declared.node.Node.{Node}
 use Rattle.gp_msg.specs.declared.event.Event.{Event}
 use Rattle.gp_msg.specs.declared.event.Event.TheVariants.{Fall}
-use Rattle.gp_vlog.specs.Logs.{LogState}
 use Rattle.gp_wire.specs.Lists.{Has}
 use Rattle.gp_wire.specs.Known.{WireState, records}
-use Rattle.gp_wire.specs.declared.view.Post.{Post}
 use Rattle.gp_wire.specs.Rule.{IsBelow}
 use Rattle.gp_wire.specs.Known.{PassState}
 use Rattle.gp_wire.specs.Passes.{HadTurn, nothing}
@@ -17,17 +14,16 @@ use Rattle.gp_work.specs.declared.faults.StepFault.{StepFault}
 use Rattle.gp_work.specs.declared.faults.StepFault.TheVariants.{Waiting, NoMemory, Disk, Full}
 use Rattle.gp_work.specs.declared.faults.RiseFault.{RiseFault}
 use Rattle.gp_work.specs.declared.faults.RiseFault.TheVariants as rise
-use Rattle.gp_work.specs.Doing.{ProcessState, Goes, Posted, HasRisen}
+use Rattle.gp_work.specs.Doing.{Goes, Posted, HasRisen}
 use Rattle.gp_work.specs.Causes as work
 use Rattle.gp_work.specs.Moves.{event_of}
 use Rattle.gp_rules.specs.Own.{own, own_events, event_in}
 use Rattle.gp_rules.specs.declared.rules.PaxosRules.{PaxosRules}
 use Rattle.gp_cell.specs.Cells.{CellState, PostsOne}
-use Rattle.gp_cell.specs.Passing.{Later, GoesOn}
+use Rattle.gp_cell.specs.Passing.{GoesOn}
 use Rattle.gp_cell.specs.Falls.{Rises}
 use Rattle.gp_cell.specs.Refusals.{CountsFaults, CountsRiseFaults, IsTooGreat, StepCause, faults_of}
 use Rattle.gp_cell.specs.Working.{process_of, is_up, IsAt}
-use Rattle.gp_cell.proofs.Going.{later_goes}
 
 pub risen_to : (t : Option ℕ) (n : ℕ) → IsBelow t n → HasRisen t (Some n)
 risen_to None n b = tt
@@ -43,6 +39,7 @@ module _ {D : Type 0} (faults : D → ℕ) (o r : CellState D) (config : r.confi
   pub at_same : (w : WireState PaxosRules) → GoesOn o.pass r.pass → IsAt o w → IsAt r w
   at_same w g a = record {
     own = g.wire ∙ a.own;
+    all = g.all ∙ a.all;
     config = config ∙ a.config;
     holds = subst (Has r.pass.node) (sym g.holds) (subst (λ n. Has n o.pass.holds) (sym g.node) a.holds);
   }

@@ -1,18 +1,17 @@
 -- What a crash inside a step may leave.
-use Rattle.std.proofs.Common.{◌≡◌, ◌≢◌, ℕ, ◌≤◌, ◌⊎◌, true, false, List, [], ◌∷◌, ◌++◌, refl, sym, ap, ◌∙◌, subst, Option, Some, None, Result, Ok, Err, inl, inr, arith}
+use Rattle.std.proofs.Common.{◌≡◌, ◌≢◌, ℕ, ◌⊎◌, false, List, [], ◌∷◌, ◌++◌, refl, sym, ap, ◌∙◌, subst, Option, Some, None, Result, Ok, Err, inl, inr, arith}
 use Rattle.std.specs.Prelude.{OnOk}
 use Rattle.std.proofs.lemmas.List.{append-nil}
 use Rattle.gp_round.specs.Counts.{Counts}
 use Rattle.gp_msg.specs.declared.node.Node.{Node}
 use Rattle.gp_msg.specs.declared.durable.Durable.{Durable}
-use Rattle.gp_msg.specs.declared.record.Record.{Record}
-use Rattle.gp_msg.specs.Messages.{Stamped, EpochPart, part_of}
+use Rattle.gp_msg.specs.Messages.{EpochPart, part_of}
 use Rattle.gp_run.specs.Messages.{messages}
 use Rattle.gp_run.specs.Runs.{entries_in}
 use Rattle.gp_run.proofs.Telling.{messages-append}
 use Rattle.gp_edge.specs.Disks.{IfRevealed, LeavesOnly, Only}
 use Rattle.gp_vlog.specs.Bodies.{LogEntry, entry_with}
-use Rattle.gp_vlog.specs.Logs.{LogState, HoldsEntries, Shows, IsReady, log_entries, entry_for}
+use Rattle.gp_vlog.specs.Logs.{LogState, Shows, log_entries}
 use Rattle.gp_wire.specs.Known.{PassState, records}
 use Rattle.gp_work.specs.declared.moves.Move.{Move}
 use Rattle.gp_work.specs.declared.faults.StepFault.{StepFault}
@@ -23,7 +22,7 @@ use Rattle.gp_rules.specs.Still.{entries_append}
 use Rattle.gp_cell.specs.declared.planning.Plan.{Plan}
 use Rattle.gp_work.specs.Doing.{IsUpTo}
 use Rattle.gp_cell.specs.Cells.{CellState, IsFit, Keeps, IsThoughtAt, last_or}
-use Rattle.gp_cell.specs.Refusals.{AddsPart, IsFullWhere, IsFullLogWhere}
+use Rattle.gp_cell.specs.Refusals.{AddsPart, IsFullWhere}
 use Rattle.gp_cell.specs.Passing.{GoesOn}
 use Rattle.gp_cell.specs.Crashes.{AddsToLog, Writes, OldOrWritten, LeavesWritten, last_part, EndsAs, LeavesOneOf, IsReadyLog}
 use Rattle.gp_cell.proofs.Reviving.{next_core}

@@ -33,7 +33,7 @@ use Rattle.gp_rules.specs.declared.roles.Core.TheVariants.{Proposer, Coordinator
 use Rattle.gp_cell.specs.declared.planning.Plan.{Plan}
 use Rattle.gp_rules.specs.Cores.{opening, acts, core_at, part_in}
 use Rattle.gp_cell.specs.Plans.{HasRole, planned, named, took_if, IsNamed}
-use Rattle.gp_cell.specs.Cells.{CellState, IsSound, IsPlan, Keeps, IsFitLog, HasLog, IsLogged, WentDown}
+use Rattle.gp_cell.specs.Cells.{IsSound, IsPlan, Keeps, IsFitLog, HasLog, IsLogged, WentDown}
 use Rattle.gp_rules.specs.Lawful.{IsLawful}
 use Rattle.gp_cell.specs.Falls.{fell, kept_of, KeepsMove}
 use Rattle.gp_cell.proofs.Acting.{core_role}
@@ -261,6 +261,7 @@ module _ {D : Type 0} (config : Counts) (n : Node) (core : Core) (log : Option (
     present = s.present;
     core_is = s.core_is;
     posted_is = s.posted_is;
+    lawful = s.lawful;
     log_is = λ e. absurd (no_none Move (subst IsSome e h));
     down_is = λ mv e. let f = s.down_is mv e in record { logged = f.logged; there = there; fits = f.fits; stands = f.stands };
   }
@@ -272,6 +273,7 @@ module _ {D : Type 0} (config : Counts) (n : Node) (core : Core) (log : Option (
     present = s.present;
     core_is = s.core_is;
     posted_is = s.posted_is;
+    lawful = s.lawful;
     log_is = λ up. absurd (let wrong : None ≡ Some mv = sym up ∙ e in cc);
     down_is = λ m f. let same : mv ≡ m = cc in subst (λ x. WentDown config n other (messages (entries_in (records p))) x) same (record { logged = logged; there = there; fits = fits; stands = stands });
   }

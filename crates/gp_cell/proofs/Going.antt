@@ -1,13 +1,14 @@
 -- A pass that goes on.
-use Rattle.std.proofs.Common.{◌≡◌, ℕ, ◌<◌, ◌≤◌, List, [], ◌∷◌, ◌++◌, map, refl, sym, ap, ◌∙◌, subst, append_assoc, arith, Option, Some, None}
-use Rattle.std.proofs.lemmas.List.{append-nil, map-append}
+use Rattle.std.proofs.Common.{◌≡◌, ℕ, [], ◌∷◌, ◌++◌, map, sym, ap, ◌∙◌, subst, append_assoc, arith, Option, Some, None, ◌+◌, length, length-append, List}
+use Rattle.std.proofs.lemmas.List.{map-append, length-map}
 use Rattle.gp_round.specs.Counts.{Counts}
 use Rattle.gp_msg.specs.declared.node.Node.{Node}
 use Rattle.gp_msg.specs.declared.event.Event.{Event}
 use Rattle.gp_msg.specs.declared.record.Record.{Record}
-use Rattle.gp_wire.specs.Rule.{IsBelow, items, post_of}
-use Rattle.gp_wire.specs.Known.{PassState, records, record_of}
-use Rattle.gp_wire.specs.Passes.{HadTurn, nothing, only}
+use Rattle.gp_wire.specs.Rule.{items, post_of}
+use Rattle.gp_wire.specs.Lists.{Has}
+use Rattle.gp_wire.specs.Known.{PassState, HoldsAll, records, record_of}
+use Rattle.gp_wire.specs.Passes.{HadTurn, only}
 use Rattle.gp_rules.specs.Own.{own}
 use Rattle.gp_work.specs.Doing.{IsUpTo}
 use Rattle.gp_cell.specs.Cells.{PostsOne}
@@ -69,3 +70,19 @@ posts_after config n p q r e f l same is x = record {
   event_is = x.event_is ∙ is;
   lawful = x.lawful;
 }
+
+-- ---- a pass that holds all nodes
+
+pub holds_all : (p q : PassState) → q.all ≡ p.all → q.holds ≡ p.holds → HoldsAll p → HoldsAll q
+holds_all p q all holds h n there = subst (Has n) (sym holds) (h n (subst (Has n) all there))
+
+pub one_seen : (p q : PassState) (x : Record) → records q ≡ records p ++ x ∷ [] → length q.seen ≡ length p.seen + 1
+one_seen p q x e = let a = length-map q.seen record_of in let b = length-map p.seen record_of in let l = ap length e ∙ length-append (records p) (x ∷ []) in omega arith
+
+pub none_seen : (p q : PassState) → q.seen ≡ p.seen → length q.seen ≡ length p.seen + 0
+none_seen p q e = let l = ap length e in omega arith
+
+-- a step reads, and then posts so many records
+pub step_sees : (o q w r : PassState) (k : ℕ) → Later o q → w ≡ q → (HoldsAll o → length q.seen ≡ length o.seen) → (HoldsAll w → length r.seen ≡ length w.seen + k) → HoldsAll o → length r.seen ≡ length o.seen + k
+step_sees o q w r k l same first last h =
+    let a = first h in let b = last (subst HoldsAll (sym same) (holds_all o q l.all l.holds h)) in let s = ap (λ (x : PassState). length x.seen) same in omega arith

@@ -4,6 +4,7 @@ pub mod Offering
 pub mod Acting
 pub mod Lasting
 pub mod Stepping
+pub mod Lawfully
 pub mod Reading
 pub mod Posting
 pub mod Falling

@@ -1,5 +1,5 @@
 -- A coordinator keeps its configuration and its number, also from one epoch to the next.
-use Rattle.std.proofs.Common.{◌≡◌, ℕ, suc, Bool, true, false, cond, List, refl, ◌∙◌, Some, None}
+use Rattle.std.proofs.Common.{◌≡◌, ℕ, suc, Bool, true, false, cond, List, refl, Some, None}
 use Rattle.std.specs.Prelude.{Option, slice_get, nat_eq, nat_lt}
 use Rattle.std.specs.FinSet as set
 use Rattle.gp_round.specs.Rounds.{earlier}
@@ -7,9 +7,9 @@ use Rattle.gp_round.specs.declared.round.Round.{Round}
 use Rattle.gp_msg.specs.declared.node.Node.TheVariants.{Proposer, Coordinator, Acceptor, Learner}
 use Rattle.gp_msg.specs.declared.event.Event.{Event}
 use Rattle.gp_msg.specs.declared.event.Event.TheVariants.{Offer, Begin, Take, Fall}
-use Rattle.gp_msg.specs.Messages.{Message, Proposed, Stamped, Offered, InEpoch, Final, Part, Acceptors, Coordinators, EpochPart}
+use Rattle.gp_msg.specs.Messages.{Message, Proposed, Stamped, Offered, InEpoch, Final, Part, Acceptors, Coordinators}
 use Rattle.gp_coordinator.specs.State.{CoordinatorState}
-use Rattle.gp_coordinator.specs.Table.{coordinator_begin, coordinator_take, coordinator_fall, begun}
+use Rattle.gp_coordinator.specs.Table.{coordinator_begin, coordinator_take, begun}
 use Rattle.gp_coordinator.specs.Epochs as coordinator
 use Rattle.gp_coordinator.specs.Epochs.{CoordinatorInEpoch, stepped, settled, entered}
 use Rattle.gp_run.specs.Messages.{on_message}

@@ -23,9 +23,10 @@ use Rattle.gp_rules.specs.Cores.{opening, acts, core_at, part_in}
 use Rattle.gp_rules.specs.Lawful.{IsLawful}
 use Rattle.gp_rules.specs.Still.{AreOthers, core_still, lawful_still, entries_append}
 use Rattle.gp_vlog.specs.Logs.{LogState, has_old, log_entries}
-use Rattle.gp_cell.specs.Cells.{last_or, Keeps, IsFreshLog, IsSound, PostsOne}
+use Rattle.gp_cell.specs.Cells.{last_or, Keeps, IsFreshLog, IsSound, OwnLawful, PostsOne}
 use Rattle.gp_cell.specs.Passing.{Later}
-use Rattle.gp_cell.proofs.Reading.{foreign_others, sound_later, down_still}
+use Rattle.gp_cell.proofs.Reading.{foreign_others, down_still}
+use Rattle.gp_cell.proofs.Lawfully.{none_lawful, lawful_more, lawful_one}
 
 pub up_to : (t : Option ℕ) (n : ℕ) → IsBelow t n → IsUpTo t (Some n)
 up_to None n b = tt
@@ -77,6 +78,12 @@ own_posted p q x n t h e =
     ∙ own_append n (records p ++ items t.more) (x ∷ [])
     ∙ (λ i. (own_append n (records p) (items t.more) ∙ ap (λ l. own n (records p) ++ l) (own_foreign n p.holds t.more h t.foreign) ∙ append-nil (own n (records p))) i ++ own_one n x e i)
 
+-- the record is lawful after all that the pass has then seen
+lawful_ahead : (config : Counts) (n : Node) (p q : PassState) (x : Record) → Has n p.holds → (t : HadTurn p q (only x)) → x.node ≡ n → IsLawful config (entries_in (records p)) (entry_of x)
+    → IsLawful config (entries_in (ahead p q x t)) (entry_of x)
+lawful_ahead config n p q x h t e l = subst (λ es. IsLawful config es (entry_of x)) (sym (entries_ahead p q x t))
+    (lawful_still config (entries_in (items t.more)) (entries_in (records p)) (entry_of x) l (subst (λ m. AreOthers m (entries_in (items t.more))) (sym e) (others p q x n t h)))
+
 pub posts_one : (config : Counts) (n : Node) (p q : PassState) (x : Record) → Has n p.holds → HadTurn p q (only x) → x.node ≡ n → IsLawful config (entries_in (records p)) (entry_of x)
     → PostsOne config n (records p) (records q) x.event
 posts_one config n p q x h t e l = record {
@@ -87,9 +94,14 @@ posts_one config n p q x h t e l = record {
   grown = grown p q x t;
   one = own_posted p q x n t h e;
   event_is = refl;
-  lawful = subst (λ es. IsLawful config es (entry_of x)) (sym (entries_ahead p q x t))
-      (lawful_still config (entries_in (items t.more)) (entries_in (records p)) (entry_of x) l (subst (λ m. AreOthers m (entries_in (items t.more))) (sym e) (others p q x n t h)));
+  lawful = lawful_ahead config n p q x h t e l;
 }
+
+own_lawful_posted : (config : Counts) (n : Node) (p q : PassState) (x : Record) → Has n p.holds → (t : HadTurn p q (only x)) → x.node ≡ n → OwnLawful config n (records p)
+    → IsLawful config (entries_in (records p)) (entry_of x) → OwnLawful config n (records q)
+own_lawful_posted config n p q x h t e own_lawful l = subst (OwnLawful config n) (sym (grown p q x t)) (lawful_one config n (ahead p q x t) x
+    (subst (OwnLawful config n) (sym (ahead_is p q x t)) (lawful_more config n (records p) (items t.more) own_lawful (own_foreign n p.holds t.more h t.foreign)))
+    (lawful_ahead config n p q x h t e l))
 
 core_posted : (config : Counts) (n : Node) (p q : PassState) (x : Record) (core next : Core) → Has n p.holds → (t : HadTurn p q (only x)) → x.node ≡ n → core ≡ core_at config n (entries_in (records p))
     → ((more : List Stamped) → next ≡ (acts n core (messages (entries_in (records p)) ++ more) x.event).0) → next ≡ core_at config n (entries_in (records q))
@@ -110,13 +122,14 @@ core_posted config n p q x core next h t e is plan = sym (
 
 pub sound_posted : {D : Type 0} (config : Counts) (n : Node) (core next : Core) (log : Option (LogState D)) (p q : PassState) (x : Record) (posted : ℕ) (down now : Option Move)
     → IsSound config n core log p posted down → Has p.node p.holds → (t : HadTurn p q (only x)) → x.node ≡ n
-    → ((more : List Stamped) → next ≡ (acts n core (messages (entries_in (records p)) ++ more) x.event).0)
+    → IsLawful config (entries_in (records p)) (entry_of x) → ((more : List Stamped) → next ≡ (acts n core (messages (entries_in (records p)) ++ more) x.event).0)
     → Keeps (part_in (opening config n)) (part_in next) log → now ≡ None → IsSound config n next log q (posted + 1) now
-sound_posted config n core next log p q x posted down now s h t e plan kept up = let mine : Has n p.holds = subst (λ m. Has m p.holds) s.node_is h in record {
+sound_posted config n core next log p q x posted down now s h t e may plan kept up = let mine : Has n p.holds = subst (λ m. Has m p.holds) s.node_is h in record {
   node_is = ap (λ (y : PassState). y.node) t.after ∙ s.node_is;
   present = s.present;
   core_is = core_posted config n p q x core next mine t e s.core_is plan;
   posted_is = ap (λ k. k + 1) s.posted_is ∙ sym (ap length (own_posted p q x n t mine e) ∙ length-append (own n (records p)) (x ∷ []));
+  lawful = own_lawful_posted config n p q x mine t e s.lawful may;
   log_is = λ _. kept;
   down_is = λ mv went. absurd (let wrong : None ≡ Some mv = sym up ∙ went in cc);
 }
@@ -165,6 +178,7 @@ sound_longer config n core log p q rest posted down s same split mine =
       present = s.present;
       core_is = s.core_is ∙ sym (ap (λ rs. core_at config n (entries_in rs)) list ∙ ap (core_at config n) (entries_append (records p) (items rest)) ∙ core_still config n (entries_in (items rest)) (entries_in (records p)) (nothing_own n (items rest) none));
       posted_is = s.posted_is ∙ ap length (sym mine);
+      lawful = subst (OwnLawful config n) (sym list) (lawful_more config n (records p) (items rest) s.lawful none);
       log_is = s.log_is;
       down_is = λ mv e. down_still config n log (records p) (items rest) (records q) mv list (s.down_is mv e);
     }
@@ -183,6 +197,7 @@ sound_new config n core log p here mine none kept e = record {
   present = here;
   core_is = e ∙ sym (ap (core_at config n) (sym (append-nil (entries_in (records p)))) ∙ core_still config n (entries_in (records p)) [] (nothing_own n (records p) none));
   posted_is = ap length (sym none);
+  lawful = none_lawful config n (records p) none;
   log_is = λ _. subst (λ c. Keeps (part_in (opening config n)) (part_in c) log) (sym e) kept;
   down_is = λ mv went. absurd (let wrong : None ≡ Some mv = went in cc);
 }

@@ -19,12 +19,13 @@ use Rattle.gp_run.specs.Messages.{messages}
 use Rattle.gp_run.proofs.Telling.{messages-append}
 use Rattle.gp_cell.proofs.Stepping.{named_more}
 use Rattle.gp_cell.proofs.Acting.{own_entries, can_plan}
+use Rattle.gp_cell.proofs.Lawfully.{lawful_more}
 use Rattle.gp_rules.specs.Owning.{own_append, own_foreign}
 use Rattle.gp_rules.specs.declared.roles.Core.{Core}
 use Rattle.gp_rules.specs.Cores.{core_at}
 use Rattle.gp_rules.specs.Still.{AreOthers, core_still, entries_append}
 use Rattle.gp_vlog.specs.Logs.{LogState}
-use Rattle.gp_cell.specs.Cells.{IsSound, WentDown}
+use Rattle.gp_cell.specs.Cells.{IsSound, WentDown, OwnLawful}
 use Rattle.gp_cell.specs.Passing.{Later}
 
 pub none_beyond : {A : Type 0} (ms : List A) (k : ℕ) → slice_get ms k ≡ None → length ms ≤ k
@@ -78,6 +79,7 @@ sound_later config n core log p q posted down s h l = let mine : Has n p.holds =
   present = s.present;
   core_is = s.core_is ∙ sym (core_later config n p q mine l);
   posted_is = s.posted_is ∙ ap length (sym (own_later n p q mine l));
+  lawful = subst (OwnLawful config n) (sym (records_later p q l)) (lawful_more config n (records p) (items l.more) s.lawful (own_foreign n p.holds l.more mine l.foreign));
   log_is = s.log_is;
   down_is = λ mv e. down_still config n log (records p) (items l.more) (records q) mv (records_later p q l) (s.down_is mv e);
 }

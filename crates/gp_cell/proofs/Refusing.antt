@@ -1,9 +1,7 @@
 -- What a write leaves of a cell.
 use Rattle.std.proofs.Common.{◌≡◌, ◌≢◌, ℕ, [], ◌++◌, refl, sym, ap, ◌∙◌, subst, Option, Some, None, Result, Ok, Err, inl, inr}
-use Rattle.std.specs.Prelude.{OnOk, OnErr, IfErr}
-use Rattle.gp_msg.specs.declared.event.Event.{Event}
-use Rattle.gp_msg.specs.declared.record.Record.{Record}
-use Rattle.gp_msg.specs.Messages.{EpochPart, entry_of}
+use Rattle.std.specs.Prelude.{IfErr}
+use Rattle.gp_msg.specs.Messages.{EpochPart}
 use Rattle.gp_run.specs.Messages.{messages}
 use Rattle.gp_run.specs.Runs.{entries_in}
 use Rattle.std.proofs.lemmas.List.{append-nil}
@@ -15,10 +13,9 @@ use Rattle.gp_work.specs.declared.faults.StepFault.TheVariants.{Waiting, NoMemor
 use Rattle.gp_work.specs.Moves.{event_of}
 use Rattle.gp_rules.specs.declared.roles.Core.{Core}
 use Rattle.gp_rules.specs.Cores.{acts, part_in}
-use Rattle.gp_rules.specs.Lawful.{IsLawful}
 use Rattle.gp_cell.specs.declared.planning.Plan.{Plan}
 use Rattle.gp_cell.specs.Cells.{CellState, cell_of, IsThought}
-use Rattle.gp_cell.specs.Refusals.{HasNoRoom, IsFullWhere, IsFullLogWhere, IsOverFull, IsTried, IsTooGreat, WriteCause, StepCause}
+use Rattle.gp_cell.specs.Refusals.{IsFullLogWhere, IsOverFull, IsTried, IsTooGreat, WriteCause, StepCause}
 
 -- ---- the log had no room
 

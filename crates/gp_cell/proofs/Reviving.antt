@@ -1,5 +1,5 @@
 -- A node that comes up again.
-use Rattle.std.proofs.Common.{◌≡◌, ◌≢◌, ℕ, Bool, true, false, cond, List, [], ◌∷◌, ◌++◌, refl, sym, ap, ◌∙◌, subst, Option, Some, None, Result, Ok, Err, inl, inr}
+use Rattle.std.proofs.Common.{◌≡◌, ℕ, true, List, [], ◌++◌, sym, ap, ◌∙◌, subst, Option, Some, None, Result, Ok, Err, inl, inr}
 use Rattle.std.specs.Prelude.{IfOk, IfErr, IfSome}
 use Rattle.std.proofs.lemmas.List.{append-nil}
 use Rattle.gp_command.specs.declared.memory.NoMemory.{NoMemory}
@@ -9,7 +9,7 @@ use Rattle.gp_msg.specs.declared.event.Event.TheVariants.{Fall}
 use Rattle.gp_msg.specs.declared.event.Kept.{Kept}
 use Rattle.gp_msg.specs.declared.record.Record.{Record}
 use Rattle.gp_msg.specs.declared.durable.Durable.{Durable}
-use Rattle.gp_msg.specs.Messages.{Stamped, EpochPart, part_of, entry_of}
+use Rattle.gp_msg.specs.Messages.{Stamped, EpochPart, part_of}
 use Rattle.gp_run.specs.Messages.{messages}
 use Rattle.gp_run.specs.Runs.{entries_in}
 use Rattle.gp_run.proofs.Telling.{messages-append}
@@ -22,14 +22,13 @@ use Rattle.gp_work.specs.Moves.{event_of, Fits}
 use Rattle.gp_rules.specs.Own.{own}
 use Rattle.gp_rules.specs.declared.roles.Core.{Core}
 use Rattle.gp_rules.specs.Cores.{opening, acts, part_in}
-use Rattle.gp_rules.specs.Lawful.{IsLawful}
 use Rattle.gp_rules.specs.Still.{entries_append}
 use Rattle.gp_cell.specs.declared.planning.Plan.{Plan}
 use Rattle.gp_cell.specs.declared.found.Found.{Found}
-use Rattle.gp_cell.specs.Cells.{CellState, cell_of, IsSound, IsThoughtAt, IsLogged, Keeps, PostsOne, last_entry}
+use Rattle.gp_cell.specs.Cells.{CellState, cell_of, IsSound, IsThoughtAt, IsLogged, Keeps, PostsOne}
 use Rattle.gp_cell.specs.Passing.{Later}
 use Rattle.gp_cell.specs.Falls.{fell, KeepsMove, FitsNone, IsFallAt, IsRevival, Rises}
-use Rattle.gp_cell.specs.Founds.{found_entry, IsFound, IsOldLog, EndsWith, HasOtherLog, FallCause, RiseCause, IsChanged, LogBreaksWhere}
+use Rattle.gp_cell.specs.Founds.{found_entry, IsFound, FallCause, RiseCause, IsChanged, LogBreaksWhere}
 use Rattle.gp_cell.proofs.Falling.{fall_lawful, fall_next, fall_part}
 use Rattle.gp_cell.proofs.Going.{posts_after}
 

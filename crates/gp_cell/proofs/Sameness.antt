@@ -1,8 +1,8 @@
 -- Durable parts that are the same.
-use Rattle.std.proofs.Common.{◌≡◌, ℕ, refl}
+use Rattle.std.proofs.Common.{◌≡◌, ℕ}
 use Rattle.gp_history.specs.History.{History}
 use Rattle.gp_round.specs.declared.round.Round.{Round}
-use Rattle.gp_msg.specs.Messages.{Part, Acceptors, Coordinators, EpochPart}
+use Rattle.gp_msg.specs.Messages.{Acceptors, Coordinators, EpochPart}
 
 abbrev pub acceptors : ℕ → Round → Round → History → EpochPart
 acceptors e r q v = record { epoch = e; part = Acceptors r q v }

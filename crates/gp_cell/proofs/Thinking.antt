@@ -1,5 +1,5 @@
 -- A plan that a sound cell made.
-use Rattle.std.proofs.Common.{◌≡◌, ℕ, List, length, map, refl, sym, ap, ◌∙◌, subst, Option, Some, None, Result, Ok, Err}
+use Rattle.std.proofs.Common.{◌≡◌, ℕ, List, map, refl, sym, ap, ◌∙◌, subst, Option, Some, None, Result, Ok, Err}
 use Rattle.std.specs.Prelude.{IfOk, slice_get}
 use Rattle.std.specs.Option.{option_map, option_to_list}
 use Rattle.gp_command.specs.declared.memory.NoMemory.{NoMemory}

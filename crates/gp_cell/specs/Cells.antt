@@ -1,5 +1,5 @@
 -- What contracts see of a cell, and what its type keeps.
-use Rattle.std.specs.Prelude.{◌≡◌, ℕ, Bool, true, false, List, [], ◌∷◌, ◌++◌, map, length, Option, Some, None}
+use Rattle.std.specs.Prelude.{◌≡◌, ℕ, true, false, List, [], ◌∷◌, ◌++◌, map, length, Option, Some, None}
 use Rattle.std.specs.Option.{option_to_list}
 use Rattle.gp_round.specs.Counts.{Counts}
 use Rattle.gp_msg.specs.declared.node.Node.{Node}
@@ -86,12 +86,17 @@ pub record WentDown {D : Type 0} (config : Counts) (node : Node) (log : Option (
   pub fits : Fits config node mv
   pub stands : IsNamed mv (named ms mv)
 
--- the core is the state of the node's own records, and while the node is up its log keeps the durable part of the core
+-- each record of the node was lawful after the records ahead of it
+abbrev pub OwnLawful : Counts → Node → List Record → Type 0
+OwnLawful config n rs = (ahead : List Record) (x : Record) (rest : List Record) → rs ≡ ahead ++ x ∷ rest → x.node ≡ n → IsLawful config (entries_in ahead) (entry_of x)
+
+-- the core is the state of the node's own records, each of which was lawful, and while the node is up its log keeps the durable part of the core
 pub record IsSound {D : Type 0} (config : Counts) (node : Node) (core : Core) (log : Option (LogState D)) (pass : PassState) (posted : ℕ) (down : Option Move) : Type 0 where
   pub node_is : pass.node ≡ node
   pub present : is_present config node ≡ true
   pub core_is : core ≡ core_at config node (entries_in (records pass))
   pub posted_is : posted ≡ length (own node (records pass))
+  pub lawful : OwnLawful config node (records pass)
   pub log_is : down ≡ None → Keeps (part_in (opening config node)) (part_in core) log
   pub down_is : (mv : Move) → down ≡ Some mv → WentDown config node log (messages (entries_in (records pass))) mv
 

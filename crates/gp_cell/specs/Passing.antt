@@ -1,5 +1,5 @@
 -- A pass that has seen more.
-use Rattle.std.specs.Prelude.{◌≡◌, List, ◌++◌}
+use Rattle.std.specs.Prelude.{◌≡◌, ℕ, List, ◌++◌, Result, Ok, Err}
 use Rattle.gp_wire.specs.declared.view.Post.{Post}
 use Rattle.gp_wire.specs.Lists.{Each}
 use Rattle.gp_wire.specs.Rule.{IsForeign}
@@ -27,3 +27,8 @@ pub record GoesOn (p q : PassState) : Type 0 where
   pub turn : IsUpTo p.turn q.turn
   pub more : List Record
   pub grown : records q ≡ records p ++ more
+
+-- how many records a step with this answer posted
+abbrev pub posts_in : {T E : Type 0} → Result T E → ℕ
+posts_in (Ok x) = 1
+posts_in (Err e) = 0

@@ -17,8 +17,9 @@ is_up (Some mv) = false
 abbrev pub process_of : {D : Type 0} → (D → ℕ) → CellState D → ProcessState
 process_of faults c = record { node = c.node; config = c.config; list = records c.pass; turn = c.pass.turn; faults = faults_of faults c.log; up = is_up c.down }
 
--- the cell's pass is one of this wire and holds the cell's node, and the wire has the rules of the cell's configuration
+-- the cell's pass is one of this wire, knows its nodes and holds the cell's node, and the wire has the rules of the cell's configuration
 pub record IsAt {D : Type 0} (c : CellState D) (w : WireState PaxosRules) : Type 0 where
   pub own : c.pass.wire ≡ w.id
+  pub all : c.pass.all ≡ w.nodes
   pub config : c.config ≡ w.rules.config
   pub holds : Has c.pass.node c.pass.holds

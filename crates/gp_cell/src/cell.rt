@@ -13,7 +13,7 @@ ghost use Rattle.gp_wire.specs.Known.{records, old_of};
 ghost use Rattle.gp_wire.specs.Passes.{HadTurn, nothing, met, spent};
 ghost use Rattle.gp_rules.specs.Own.{own};
 ghost use Rattle.gp_rules.specs.Cores.{opening, core_at, part_in, learned_in};
-ghost use Rattle.gp_cell.specs.Cells.{cell_of, IsFreshLog, IsSameBut, IsHeldBy, Keeps, last_entry};
+ghost use Rattle.gp_cell.specs.Cells.{cell_of, IsFreshLog, IsSameBut, IsHeldBy, Keeps, OwnLawful, last_entry};
 
 use crate::opening::opening_core;
 use gp_command::NoMemory;
@@ -116,9 +116,12 @@ impl<D: Disk> Cell<D> {
         self.pass.seen()
     }
 
-    /// Whether the node is down. If it is up, its log keeps the durable part of its state. It takes no memory.
+    /// Whether the node is down. If it is up, its log keeps the durable part of its state. Each record of the node was legal
+    /// where it stands in the list of its pass. It takes no memory.
     pub fn is_down(&self) -> bool
         ensures down { IsTrue result ↔ IsSome self.now.down }
+        ensures node { self.now.pass.node ≡ self.now.node }
+        ensures lawful { OwnLawful self.now.config self.now.node (records self.now.pass) }
         ensures core { self.now.core ≡ core_at self.now.config self.now.node (entries_in (records self.now.pass)) }
         ensures kept { self.now.down ≡ None → Keeps (part_in (opening self.now.config self.now.node)) (part_in self.now.core) self.now.log }
     {

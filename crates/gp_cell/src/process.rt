@@ -5,10 +5,10 @@ ghost use Rattle.gp_msg.specs.Reads.{kind_of};
 ghost use Rattle.gp_wire.specs.Lists.{Has};
 ghost use Rattle.gp_wire.specs.Messages.{messages_in};
 ghost use Rattle.gp_wire.specs.Known.{records};
+ghost use Rattle.gp_wire.specs.Passes.{HadTurn, nothing};
 ghost use Rattle.gp_work.specs.Doing.{HasRisen};
 ghost use Rattle.gp_rules.specs.Own.{own};
 ghost use Rattle.gp_cell.specs.Cells.{IsSameBut};
-ghost use Rattle.gp_cell.specs.Passing.{Later};
 ghost use Rattle.gp_cell.specs.Refusals.{IsTooGreat};
 ghost use Rattle.gp_cell.specs.Working.{process_of, IsAt};
 
@@ -21,12 +21,13 @@ use gp_work::{Move, Process, RiseFault, StepFault};
 use std::sync::Wait;
 
 impl<D: Disk> Cell<D> {
-    // The kind of message k, from 0, of the list that its pass has seen at the end of this call.
-    fn kind_of<W: Wait>(&mut self, rt: &W, wire: &Wire<PaxosRules>, k: u64) -> Option<MsgKind>
+    /// The kind of message k, from 0, of the list that its pass has seen at the end of this call, and `None` exactly if
+    /// that list has no message k. The pass has a turn at the wire; nothing else of the cell changes. It takes no memory.
+    pub fn kind_of<W: Wait>(&mut self, rt: &W, wire: &Wire<PaxosRules>, k: u64) -> Option<MsgKind>
         requires own { self.old.pass.wire ≡ wire.now.id }
         requires holds { Has self.old.pass.node self.old.pass.holds }
         ensures rest { IsSameBut self.old self.new }
-        ensures pass { Later self.old.pass self.new.pass }
+        ensures turn { HadTurn self.old.pass self.new.pass nothing }
         ensures own { own self.new.node (records self.new.pass) ≡ own self.old.node (records self.old.pass) }
         ensures risen { HasRisen self.old.pass.turn self.new.pass.turn }
         ensures few { length (messages_in (records self.new.pass)) < 2 ^ 64 }

@@ -1,12 +1,12 @@
 //! The moves of a running node.
-ghost use Rattle.std.specs.Prelude.{◌≡◌, ◌⊎◌, ◌<◌, ◌^◌, ◌++◌, List, true, false, None, Some, length, IfOk, IfErr, OnOk, OnErr};
+ghost use Rattle.std.specs.Prelude.{◌≡◌, ◌⊎◌, ◌<◌, ◌^◌, ◌+◌, ◌++◌, List, true, false, None, Some, length, IfOk, IfErr, OnOk, OnErr};
 ghost use Rattle.std.specs.Option.{option_map, option_copied};
 ghost use Rattle.gp_msg.specs.Messages.{Stamped, message_of, entry_of};
 ghost use Rattle.gp_run.specs.Messages.{messages};
 ghost use Rattle.gp_run.specs.Runs.{entries_in};
 ghost use Rattle.gp_wire.specs.Lists.{Has};
 ghost use Rattle.gp_wire.specs.Messages.{messages_in};
-ghost use Rattle.gp_wire.specs.Known.{records};
+ghost use Rattle.gp_wire.specs.Known.{records, HoldsAll};
 ghost use Rattle.gp_work.specs.declared.faults.StepFault.TheVariants as StepFault;
 ghost use Rattle.gp_rules.specs.Own.{own};
 ghost use Rattle.gp_work.specs.Moves.{event_of, Fits, HasRoom, IsBeyond};
@@ -14,7 +14,7 @@ ghost use Rattle.gp_rules.specs.Cores.{opening, acts, part_in};
 ghost use Rattle.gp_cell.specs.Plans.{HasRole, IsNamed, Names, named};
 ghost use Rattle.gp_rules.specs.Lawful.{IsLawful};
 ghost use Rattle.gp_cell.specs.Cells.{IsSameBut, IsThought, Keeps, PostsOne};
-ghost use Rattle.gp_cell.specs.Passing.{Later, GoesOn};
+ghost use Rattle.gp_cell.specs.Passing.{Later, GoesOn, posts_in};
 ghost use Rattle.gp_cell.specs.Crashes.{Writes, LeavesOneOf, IsReadyLog};
 ghost use Rattle.gp_cell.specs.Refusals.{CountsFaults, IsReadFault, StepCause, WriteCause, faults_of, part_after};
 
@@ -62,6 +62,7 @@ impl<D: Disk> Cell<D> {
         requires room { HasRoom (length (own self.old.node (records self.old.pass))) mv.now }
         ensures rest { IsSameBut self.old self.new }
         ensures pass { Later self.old.pass self.new.pass }
+        ensures whole { HoldsAll self.old.pass → length self.new.pass.seen ≡ length self.old.pass.seen }
         ensures own { own self.new.node (records self.new.pass) ≡ own self.old.node (records self.old.pass) }
         ensures thought { IfOk result (IsThought self.new mv.now) }
         ensures waiting { IfErr result (λ f. f ≡ StepFault.Waiting → IsBeyond (length (messages_in (records self.new.pass))) mv.now) }
@@ -141,6 +142,7 @@ impl<D: Disk> Cell<D> {
         requires kept { Keeps (part_in (opening self.old.config self.old.node)) (part_in next) self.old.log }
         ensures rest { (self.new.config ≡ self.old.config) × (self.new.node ≡ self.old.node) × (self.new.log ≡ self.old.log) }
         ensures goes { GoesOn self.old.pass self.new.pass }
+        ensures whole { HoldsAll self.old.pass → length self.new.pass.seen ≡ length self.old.pass.seen + posts_in result }
         ensures posted { OnOk result (PostsOne self.old.config self.old.node (records self.old.pass) (records self.new.pass) made.event) }
         ensures count { IfOk result (λ n. n ≡ length (messages_in (records self.new.pass))) }
         ensures next { OnOk result (self.new.core ≡ next) }
@@ -175,6 +177,8 @@ impl<D: Disk> Cell<D> {
     /// pass has changed. It is refused with `Full` if the log has no room even for this part alone, and with `Disk` only if
     /// the number of faults of the disk has risen; the node is then down and remembers the move. If memory runs out, it is down
     /// exactly if the log was being written, and otherwise nothing but the pass has changed. A refused move posts nothing.
+    ///
+    /// A pass that holds all nodes sees no record then but the one that it posts.
     pub fn step<W: Wait, G: Gate>(
         &mut self,
         rt: &W,
@@ -191,6 +195,7 @@ impl<D: Disk> Cell<D> {
         requires room { HasRoom (length (own self.old.node (records self.old.pass))) mv }
         ensures same { (self.new.config ≡ self.old.config) × (self.new.node ≡ self.old.node) }
         ensures goes { GoesOn self.old.pass self.new.pass }
+        ensures whole { HoldsAll self.old.pass → length self.new.pass.seen ≡ length self.old.pass.seen + posts_in result }
         ensures posted { OnOk result (PostsOne self.old.config self.old.node (records self.old.pass) (records self.new.pass) (event_of self.old.node mv)) }
         ensures count { IfOk result (λ n. n ≡ length (messages_in (records self.new.pass))) }
         ensures up { OnOk result (self.new.down ≡ None) }
@@ -232,6 +237,7 @@ fn read_named<W: Wait>(
     requires own { pass.old.wire ≡ wire.now.id }
     requires holds { Has pass.old.node pass.old.holds }
     ensures knows { Later pass.old pass.new }
+    ensures whole { HoldsAll pass.old → length pass.new.seen ≡ length pass.old.seen }
     ensures named { IfOk result (Names (messages_in (records pass.new)) mv.now) }
     ensures waiting { IfErr result (λ f. f ≡ StepFault.Waiting → IsBeyond (length (messages_in (records pass.new))) mv.now) }
     ensures cause { IfErr result IsReadFault }

@@ -41,11 +41,11 @@ each_front P [] x h = (tt, h.0)
 each_front P (y ∷ xs) x h = let r = each_front P xs x h.1 in ((h.0, r.0), r.1)
 
 -- the passes of a new wire have seen nothing
-pub all_fresh : (wire : WireState PaxosRules) (all ns : List Node) (ps : List PassState) → AreFresh wire.id all ns ps → Each (IsFresh wire) ps
-all_fresh wire all [] [] h = tt
-all_fresh wire all [] (p ∷ ps) h = absurd h
-all_fresh wire all (n ∷ ns) [] h = absurd h
-all_fresh wire all (n ∷ ns) (p ∷ ps) h = (subst (IsFresh wire) (sym h.0) (refl, inl refl, refl), all_fresh wire all ns ps h.1)
+pub all_fresh : (wire : WireState PaxosRules) (all ns : List Node) (ps : List PassState) → wire.nodes ≡ all → AreFresh wire.id all ns ps → Each (IsFresh wire) ps
+all_fresh wire all [] [] e h = tt
+all_fresh wire all [] (p ∷ ps) e h = absurd h
+all_fresh wire all (n ∷ ns) [] e h = absurd h
+all_fresh wire all (n ∷ ns) (p ∷ ps) e h = (subst (IsFresh wire) (sym h.0) (refl, sym e, inl refl, refl), all_fresh wire all ns ps e h.1)
 
 pub fits_more : (config : Counts) (n : Node) (ms : List Move) (m : Move) → AllFit config n ms → Fits config n m → AllFit config n (ms ++ m ∷ [])
 fits_more config n [] m h f = (f, tt)

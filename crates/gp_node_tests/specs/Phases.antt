@@ -11,9 +11,9 @@ use Rattle.gp_rules.specs.declared.rules.PaxosRules.{PaxosRules}
 use Rattle.gp_cell.specs.Cells.{CellState}
 use Rattle.gp_node.specs.Phases.{IsReadyJob}
 
--- the pass is one of this wire, holds its node, and has seen nothing
+-- the pass is one of this wire, knows its nodes, holds its own node, and has seen nothing
 abbrev pub IsFresh : WireState PaxosRules → PassState → Type 0
-IsFresh wire p = (p.wire ≡ wire.id) × Has p.node p.holds × (p.seen ≡ [])
+IsFresh wire p = (p.wire ≡ wire.id) × (p.all ≡ wire.nodes) × Has p.node p.holds × (p.seen ≡ [])
 
 -- the job can be done at this wire
 abbrev pub IsReady : WireState PaxosRules → Job (CellState MemDiskState) → Type 0

@@ -1,6 +1,6 @@
-use Rattle.std.proofs.Common.{sym, subst, length, ap, ◌∙◌}
+use Rattle.std.proofs.Common.{◌≡◌, sym, subst, length, ap, ◌∙◌}
 use Rattle.gp_wire.specs.Lists.{Has}
-use Rattle.gp_wire.specs.Known.{records}
+use Rattle.gp_wire.specs.Known.{HoldsAll, records}
 use Rattle.gp_rules.specs.Own.{own}
 use Rattle.gp_work.specs.Moves.{HasRoom}
 use Rattle.gp_cell.specs.Cells.{CellState}
@@ -43,3 +43,12 @@ returns-in-Err-made-clause-own g c =
     let s = c.self.inside in
     let mine = subst (λ m. Has m s.pass.holds) c.self.invariant.node_is (subst (λ (x : CellState g.row.D.Denot). Has x.pass.node x.pass.holds) (sym c.self.view_is) c.requires.holds) in
     own_later s.node s.pass c.read_named.new.pass mine c.read_named.ensures.knows ∙ ap (λ (x : CellState g.row.D.Denot). own x.node (records x.pass)) c.self.view_is
+
+pub returns-in-Err-clause-whole : goal.returns-in-Err-clause-whole
+returns-in-Err-clause-whole g c = subst (λ (x : CellState g.row.D.Denot). HoldsAll x.pass → length c.read_named.new.pass.seen ≡ length x.pass.seen) c.self.view_is c.read_named.ensures.whole
+
+pub returns-in-Ok-made-clause-whole : goal.returns-in-Ok-made-clause-whole
+returns-in-Ok-made-clause-whole g c = subst (λ (x : CellState g.row.D.Denot). HoldsAll x.pass → length c.read_named.new.pass.seen ≡ length x.pass.seen) c.self.view_is c.read_named.ensures.whole
+
+pub returns-in-Err-made-clause-whole : goal.returns-in-Err-made-clause-whole
+returns-in-Err-made-clause-whole g c = subst (λ (x : CellState g.row.D.Denot). HoldsAll x.pass → length c.read_named.new.pass.seen ≡ length x.pass.seen) c.self.view_is c.read_named.ensures.whole

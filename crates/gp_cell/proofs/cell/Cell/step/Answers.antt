@@ -1,4 +1,4 @@
-use Rattle.std.proofs.Common.{◌≡◌, sym, subst, ap, ◌∙◌}
+use Rattle.std.proofs.Common.{◌≡◌, arith, sym, subst, ap, ◌∙◌}
 use Rattle.gp_rules.specs.Cores.{opening, part_in}
 use Rattle.gp_wire.specs.Known.{records}
 use Rattle.gp_rules.specs.Own.{own}
@@ -7,7 +7,8 @@ use Rattle.gp_work.proofs.Results.{on_ok}
 use Rattle.gp_cell.specs.Cells.{CellState, cell_of, PostsOne}
 use Rattle.gp_cell.specs.Refusals.{part_after}
 use Rattle.gp_cell.specs.Crashes.{Writes, LeavesOneOf, IsReadyLog}
-use Rattle.gp_cell.proofs.Going.{posts_after, goes_on}
+use Rattle.gp_cell.specs.Passing.{posts_in}
+use Rattle.gp_cell.proofs.Going.{posts_after, goes_on, step_sees}
 use Rattle.gp_cell.proofs.Crashing.{same_leaves, step_leaves, same_goes}
 use Rattle.gp_cell.proofs.Refusing.{step_cause}
 use Rattle.gp_cell.proofs.cell.Cell.step.Goals as goal
@@ -56,3 +57,12 @@ returns-in-Ok-write-clause-log g c =
     let a = c.in-Ok.ensures.rest in let p = c.post.ensures.rest in
     let wrote = subst (λ l. Writes l r.log (part_in o.core) (part_in c.in-Ok.plan.next)) a.3 (subst (λ k. Writes q.log r.log (part_in k) (part_in c.in-Ok.plan.next)) a.2 (subst (λ l. Writes q.log l (part_in q.core) (part_in c.in-Ok.plan.next)) (sym p.2) c.in-Ok-write.ensures.log)) in
     on_ok c.post.result (r.core ≡ c.in-Ok.plan.next) (Writes o.log r.log (part_in o.core) (part_in r.core)) (λ e. subst (λ k. Writes o.log r.log (part_in o.core) (part_in k)) (sym e) wrote) c.post.ensures.next
+
+pub returns-in-Ok-write-clause-whole : goal.returns-in-Ok-write-clause-whole
+returns-in-Ok-write-clause-whole g c = step_sees c.args.self.now.pass c.prepare.new.self.pass c.write.new.self.pass c.post.new.self.pass (posts_in c.post.result) c.in-Ok.ensures.pass c.in-Ok-write.ensures.rest.3 c.in-Ok.ensures.whole c.post.ensures.whole
+
+pub returns-in-Err-write-clause-whole : goal.returns-in-Err-write-clause-whole
+returns-in-Err-write-clause-whole g c = step_sees c.args.self.now.pass c.prepare.new.self.pass c.write.new.self.pass c.write.new.self.pass 0 c.in-Ok.ensures.pass c.in-Err-write.ensures.rest.3 c.in-Ok.ensures.whole (λ all. omega arith)
+
+pub returns-in-Err-clause-whole : goal.returns-in-Err-clause-whole
+returns-in-Err-clause-whole g c = λ all. let h = c.in-Err.ensures.whole all in omega arith
