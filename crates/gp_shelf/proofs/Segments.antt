@@ -1,0 +1,212 @@
+-- Lists of disks in segments.
+use Rattle.std.proofs.Common.{◌≡◌, ℕ, zero, suc, ◌+◌, ◌-◌, ◌<◌, ◌≤◌, List, [], ◌∷◌, ◌++◌, get_or, length, take, drop, refl, sym, ap, ◌∙◌, ⊎_elim, arith, append_assoc, length-append, length-drop, take-append-drop}
+use Rattle.std.specs.Prelude.{slice_get}
+use Rattle.std.proofs.lemmas.List.{length-take-le, take_all, take_at, drop_at, drop-drop}
+use Rattle.std.proofs.lemmas.Bool.{cases_lt}
+use Rattle.std.proofs.lemmas.Bool.Decides.{nat_tests}
+use Rattle.gp_round.specs.Counts.{Counts}
+use Rattle.gp_shelf.specs.Places.{logged, place_at}
+use Rattle.gp_shelf.specs.Lists.{lent_of, kept_of, shelved, KeepsOthers}
+
+-- ---- the place of a node
+
+pub place_below : (n : Counts) (k : ℕ) → k < n.acceptors → place_at n k ≡ k
+place_below n k lt = grind (arith, nat_tests)
+
+pub place_above : (n : Counts) (k : ℕ) → n.acceptors ≤ k → place_at n k ≡ 7 + (k - n.acceptors)
+place_above n k le = grind (arith, nat_tests)
+
+module _ {D : Type 0} where
+  -- ---- an element of a part
+
+  pub get-append_left : (xs ys : List D) (i : ℕ) → i < length xs → slice_get (xs ++ ys) i ≡ slice_get xs i
+  get-append_left [] ys i lt = absurd (omega (arith, lt))
+  get-append_left (x ∷ xs) ys zero lt = refl
+  get-append_left (x ∷ xs) ys (suc i) lt = get-append_left xs ys i (omega (arith, lt))
+
+  pub get-append_right : (xs ys : List D) (n i : ℕ) → length xs ≡ n → slice_get (xs ++ ys) (n + i) ≡ slice_get ys i
+  get-append_right [] ys n i e = ap (slice_get ys) (let same : n + i ≡ i = omega (arith, e) in same)
+  get-append_right (x ∷ xs) ys zero i e = absurd (omega (arith, e))
+  get-append_right (x ∷ xs) ys (suc n) i e =
+      ap (slice_get (x ∷ xs ++ ys)) (let same : suc n + i ≡ suc (n + i) = omega arith in same) ∙ get-append_right xs ys n i (omega (arith, e))
+
+  pub get-take : (n : ℕ) (xs : List D) (i : ℕ) → i < n → slice_get (take n xs) i ≡ slice_get xs i
+  get-take zero xs i lt = absurd (omega (arith, lt))
+  get-take (suc n) [] i lt = refl
+  get-take (suc n) (x ∷ xs) zero lt = refl
+  get-take (suc n) (x ∷ xs) (suc i) lt = get-take n xs i (omega (arith, lt))
+
+  pub get-drop : (n : ℕ) (xs : List D) (i : ℕ) → slice_get (drop n xs) i ≡ slice_get xs (n + i)
+  get-drop zero xs i = ap (slice_get xs) (let same : i ≡ 0 + i = omega arith in same)
+  get-drop (suc n) [] i = refl
+  get-drop (suc n) (x ∷ xs) i = get-drop n xs i ∙ ap (slice_get (x ∷ xs)) (let same : suc (n + i) ≡ suc n + i = omega arith in same)
+
+  -- ---- a list of twelve in four parts
+
+  drop_to : (a : ℕ) (xs : List D) → a ≤ 7 → drop (7 - a) (drop a xs) ≡ drop 7 xs
+  drop_to a xs le = drop-drop (7 - a) a xs ∙ ap (λ (m : ℕ). drop m xs) (let e : a + (7 - a) ≡ 7 = omega arith in e)
+
+  -- what was moved in four steps
+  pub divided_lent : (n : Counts) (before disks : List D) → before ≡ [] → n.acceptors ≤ 7
+      → (before ++ take n.acceptors disks) ++ take n.coordinators (drop (7 - n.acceptors) (drop n.acceptors disks)) ≡ lent_of n disks
+  divided_lent n before disks none le =
+      ap (λ (b : List D). (b ++ take n.acceptors disks) ++ take n.coordinators (drop (7 - n.acceptors) (drop n.acceptors disks))) none
+      ∙ ap (λ (r : List D). take n.acceptors disks ++ take n.coordinators r) (drop_to n.acceptors disks le)
+
+  pub divided_kept : (n : Counts) (before disks : List D) (rest : ℕ) → before ≡ [] → n.acceptors ≤ 7 → length disks ≤ 7 + n.coordinators + rest
+      → (before ++ take (7 - n.acceptors) (drop n.acceptors disks)) ++ take rest (drop n.coordinators (drop (7 - n.acceptors) (drop n.acceptors disks))) ≡ kept_of n disks
+  divided_kept n before disks rest none le most =
+      let there : drop n.coordinators (drop (7 - n.acceptors) (drop n.acceptors disks)) ≡ drop (7 + n.coordinators) disks
+      = ap (drop n.coordinators) (drop_to n.acceptors disks le) ∙ drop-drop n.coordinators 7 disks in
+      let all : take rest (drop (7 + n.coordinators) disks) ≡ drop (7 + n.coordinators) disks
+      = take_all rest (drop (7 + n.coordinators) disks) (omega (arith, length-drop (7 + n.coordinators) disks)) in
+      ap (λ (b : List D). (b ++ take (7 - n.acceptors) (drop n.acceptors disks)) ++ take rest (drop n.coordinators (drop (7 - n.acceptors) (drop n.acceptors disks)))) none
+      ∙ ap (λ (r : List D). take (7 - n.acceptors) (drop n.acceptors disks) ++ take rest r) there
+      ∙ ap (λ (r : List D). take (7 - n.acceptors) (drop n.acceptors disks) ++ r) all
+
+  pub length-lent : (n : Counts) (disks : List D) → length disks ≡ 12 → n.acceptors ≤ 7 → n.coordinators ≤ 5 → length (lent_of n disks) ≡ logged n
+  length-lent n disks twelve a c =
+      length-append (take n.acceptors disks) (take n.coordinators (drop 7 disks))
+      ∙ ap (λ (m : ℕ). m + length (take n.coordinators (drop 7 disks))) (length-take-le n.acceptors disks (omega arith))
+      ∙ ap (λ (m : ℕ). n.acceptors + m) (length-take-le n.coordinators (drop 7 disks) (omega (arith, length-drop 7 disks)))
+
+  first_kept : (n : Counts) (disks : List D) → length disks ≡ 12 → n.acceptors ≤ 7 → length (take (7 - n.acceptors) (drop n.acceptors disks)) ≡ 7 - n.acceptors
+  first_kept n disks twelve a = length-take-le (7 - n.acceptors) (drop n.acceptors disks) (omega (arith, length-drop n.acceptors disks))
+
+  pub length-kept : (n : Counts) (disks : List D) → length disks ≡ 12 → n.acceptors ≤ 7 → n.coordinators ≤ 5 → length (kept_of n disks) + logged n ≡ 12
+  length-kept n disks twelve a c =
+      let all = length-append (take (7 - n.acceptors) (drop n.acceptors disks)) (drop (7 + n.coordinators) disks) in
+      let first = first_kept n disks twelve a in
+      let second = length-drop (7 + n.coordinators) disks in
+      omega (arith, all, first, second)
+
+  -- disks that are put back as they were taken out
+  pub come_back : (n : Counts) (disks : List D) → length disks ≡ 12 → n.acceptors ≤ 7 → n.coordinators ≤ 5 → shelved n (kept_of n disks) (lent_of n disks) ≡ disks
+  come_back n disks twelve a c =
+      let p = take n.acceptors disks in
+      let q = take (7 - n.acceptors) (drop n.acceptors disks) in
+      let r = take n.coordinators (drop 7 disks) in
+      let s = drop (7 + n.coordinators) disks in
+      let len_p : length p ≡ n.acceptors = length-take-le n.acceptors disks (omega arith) in
+      let len_q : length q ≡ 7 - n.acceptors = first_kept n disks twelve a in
+      let parts : shelved n (kept_of n disks) (lent_of n disks) ≡ p ++ q ++ r ++ s =
+      ap (λ (z : List D). z ++ take (7 - n.acceptors) (q ++ s) ++ drop n.acceptors (p ++ r) ++ drop (7 - n.acceptors) (q ++ s)) (take_at p r n.acceptors len_p)
+      ∙ ap (λ (z : List D). p ++ z ++ drop n.acceptors (p ++ r) ++ drop (7 - n.acceptors) (q ++ s)) (take_at q s (7 - n.acceptors) len_q)
+      ∙ ap (λ (z : List D). p ++ q ++ z ++ drop (7 - n.acceptors) (q ++ s)) (drop_at p r n.acceptors len_p)
+      ∙ ap (λ (z : List D). p ++ q ++ r ++ z) (drop_at q s (7 - n.acceptors) len_q) in
+      let last : r ++ s ≡ drop 7 disks = ap (λ (z : List D). r ++ z) (sym (drop-drop n.coordinators 7 disks)) ∙ take-append-drop n.coordinators (drop 7 disks) in
+      let middle : q ++ drop 7 disks ≡ drop n.acceptors disks = ap (λ (z : List D). q ++ z) (sym (drop_to n.acceptors disks a)) ∙ take-append-drop (7 - n.acceptors) (drop n.acceptors disks) in
+      parts ∙ append_assoc (p ++ q) r s ∙ ap (λ (z : List D). (p ++ q) ++ z) last ∙ append_assoc p q (drop 7 disks) ∙ ap (λ (z : List D). p ++ z) middle ∙ take-append-drop n.acceptors disks
+
+  -- what was put back in four steps
+  pub put_together : (n : Counts) (before kept lent : List D) (x y : ℕ) → before ≡ [] → length lent ≤ n.acceptors + x → length kept ≤ (7 - n.acceptors) + y
+      → (((before ++ take n.acceptors lent) ++ take (7 - n.acceptors) kept) ++ take x (drop n.acceptors lent)) ++ take y (drop (7 - n.acceptors) kept) ≡ shelved n kept lent
+  put_together n before kept lent x y none lx ly =
+      ap (λ (b : List D). (((b ++ take n.acceptors lent) ++ take (7 - n.acceptors) kept) ++ take x (drop n.acceptors lent)) ++ take y (drop (7 - n.acceptors) kept)) none
+      ∙ ap (λ (r : List D). ((take n.acceptors lent ++ take (7 - n.acceptors) kept) ++ r) ++ take y (drop (7 - n.acceptors) kept)) (take_all x (drop n.acceptors lent) (omega (arith, length-drop n.acceptors lent)))
+      ∙ ap (λ (r : List D). ((take n.acceptors lent ++ take (7 - n.acceptors) kept) ++ drop n.acceptors lent) ++ r) (take_all y (drop (7 - n.acceptors) kept) (omega (arith, length-drop (7 - n.acceptors) kept)))
+
+  pub length-shelved : (n : Counts) (kept lent : List D) → length kept + logged n ≡ 12 → length lent ≡ logged n → length (shelved n kept lent) ≡ 12
+  length-shelved n kept lent whole many =
+      let p = take n.acceptors lent in
+      let q = take (7 - n.acceptors) kept in
+      let r = drop n.acceptors lent in
+      let s = drop (7 - n.acceptors) kept in
+      let first = length-append (p ++ q ++ r) s in
+      let second = length-append (p ++ q) r in
+      let third = length-append p q in
+      let one : length p + length r ≡ length lent = sym (length-append p r) ∙ ap length (take-append-drop n.acceptors lent) in
+      let two : length q + length s ≡ length kept = sym (length-append q s) ∙ ap length (take-append-drop (7 - n.acceptors) kept) in
+      omega (arith, first, second, third, one, two)
+
+  -- ---- by their places
+
+  pub lent_at : (n : Counts) (disks : List D) (k : ℕ) → length disks ≡ 12 → n.acceptors ≤ 7 → k < logged n → slice_get (lent_of n disks) k ≡ slice_get disks (place_at n k)
+  lent_at n disks k twelve a within =
+      let p = take n.acceptors disks in
+      let r = take n.coordinators (drop 7 disks) in
+      let len_p : length p ≡ n.acceptors = length-take-le n.acceptors disks (omega arith) in
+      ⊎_elim
+      (λ lt. get-append_left p r k (omega (arith, len_p)) ∙ get-take n.acceptors disks k lt ∙ ap (slice_get disks) (sym (place_below n k lt)))
+      (λ le. ap (slice_get (p ++ r)) (let e : k ≡ n.acceptors + (k - n.acceptors) = omega arith in e)
+      ∙ get-append_right p r n.acceptors (k - n.acceptors) len_p
+      ∙ get-take n.coordinators (drop 7 disks) (k - n.acceptors) (omega arith)
+      ∙ get-drop 7 disks (k - n.acceptors) ∙ ap (slice_get disks) (sym (place_above n k le)))
+      (cases_lt k n.acceptors)
+
+  -- the four parts of all disks
+  module _ (n : Counts) (kept lent : List D) (a : n.acceptors ≤ 7) (c : n.coordinators ≤ 5) (whole : length kept + logged n ≡ 12) (many : length lent ≡ logged n) where
+    len_first : length (take n.acceptors lent) ≡ n.acceptors
+    len_first = length-take-le n.acceptors lent (omega arith)
+
+    len_second : length (take (7 - n.acceptors) kept) ≡ 7 - n.acceptors
+    len_second = length-take-le (7 - n.acceptors) kept (omega arith)
+
+    len_two : length (take n.acceptors lent ++ take (7 - n.acceptors) kept) ≡ 7
+    len_two = omega (arith, length-append (take n.acceptors lent) (take (7 - n.acceptors) kept), len_first, len_second)
+
+    len_three : length (take n.acceptors lent ++ take (7 - n.acceptors) kept ++ drop n.acceptors lent) ≡ 7 + n.coordinators
+    len_three = omega (arith, length-append (take n.acceptors lent ++ take (7 - n.acceptors) kept) (drop n.acceptors lent), length-drop n.acceptors lent, len_two)
+
+    first_part : (i : ℕ) → i < n.acceptors → slice_get (shelved n kept lent) i ≡ slice_get lent i
+    first_part i lt =
+        get-append_left (take n.acceptors lent ++ take (7 - n.acceptors) kept ++ drop n.acceptors lent) (drop (7 - n.acceptors) kept) i (omega (arith, len_three))
+        ∙ get-append_left (take n.acceptors lent ++ take (7 - n.acceptors) kept) (drop n.acceptors lent) i (omega (arith, len_two))
+        ∙ get-append_left (take n.acceptors lent) (take (7 - n.acceptors) kept) i (omega (arith, len_first))
+        ∙ get-take n.acceptors lent i lt
+
+    second_part : (i : ℕ) → n.acceptors + i < 7 → slice_get (shelved n kept lent) (n.acceptors + i) ≡ slice_get kept i
+    second_part i lt =
+        get-append_left (take n.acceptors lent ++ take (7 - n.acceptors) kept ++ drop n.acceptors lent) (drop (7 - n.acceptors) kept) (n.acceptors + i) (omega (arith, len_three))
+        ∙ get-append_left (take n.acceptors lent ++ take (7 - n.acceptors) kept) (drop n.acceptors lent) (n.acceptors + i) (omega (arith, len_two))
+        ∙ get-append_right (take n.acceptors lent) (take (7 - n.acceptors) kept) n.acceptors i len_first
+        ∙ get-take (7 - n.acceptors) kept i (omega arith)
+
+    third_part : (i : ℕ) → i < n.coordinators → slice_get (shelved n kept lent) (7 + i) ≡ slice_get lent (n.acceptors + i)
+    third_part i lt =
+        get-append_left (take n.acceptors lent ++ take (7 - n.acceptors) kept ++ drop n.acceptors lent) (drop (7 - n.acceptors) kept) (7 + i) (omega (arith, len_three))
+        ∙ get-append_right (take n.acceptors lent ++ take (7 - n.acceptors) kept) (drop n.acceptors lent) 7 i len_two
+        ∙ get-drop n.acceptors lent i
+
+    last_part : (i : ℕ) → slice_get (shelved n kept lent) (7 + n.coordinators + i) ≡ slice_get kept ((7 - n.acceptors) + i)
+    last_part i =
+        get-append_right (take n.acceptors lent ++ take (7 - n.acceptors) kept ++ drop n.acceptors lent) (drop (7 - n.acceptors) kept) (7 + n.coordinators) i len_three
+        ∙ get-drop (7 - n.acceptors) kept i
+
+    pub shelved_at : (k : ℕ) → k < logged n → slice_get (shelved n kept lent) (place_at n k) ≡ slice_get lent k
+    shelved_at k within = ⊎_elim
+        (λ lt. ap (slice_get (shelved n kept lent)) (place_below n k lt) ∙ first_part k lt)
+        (λ le. ap (slice_get (shelved n kept lent)) (place_above n k le) ∙ third_part (k - n.acceptors) (omega arith)
+        ∙ ap (slice_get lent) (let e : n.acceptors + (k - n.acceptors) ≡ k = omega arith in e))
+        (cases_lt k n.acceptors)
+
+  pub others_stay : (n : Counts) (disks lent : List D) → n.acceptors ≤ 7 → n.coordinators ≤ 5 → length disks ≡ 12 → length lent ≡ logged n → KeepsOthers n disks (shelved n (kept_of n disks) lent)
+  others_stay n disks lent a c twelve many i other =
+      let whole = length-kept n disks twelve a c in
+      let q = take (7 - n.acceptors) (drop n.acceptors disks) in
+      let s = drop (7 + n.coordinators) disks in
+      let len_q : length q ≡ 7 - n.acceptors = first_kept n disks twelve a in
+      ⊎_elim
+      (λ lt. absurd (other i (omega arith) (sym (place_below n i lt))))
+      (λ le. ⊎_elim
+      (λ lt. let e : i ≡ n.acceptors + (i - n.acceptors) = omega arith in
+      ap (slice_get (shelved n (q ++ s) lent)) e
+      ∙ second_part n (q ++ s) lent a c whole many (i - n.acceptors) (omega arith)
+      ∙ get-append_left q s (i - n.acceptors) (omega (arith, len_q))
+      ∙ get-take (7 - n.acceptors) (drop n.acceptors disks) (i - n.acceptors) (omega arith)
+      ∙ get-drop n.acceptors disks (i - n.acceptors) ∙ ap (slice_get disks) (sym e))
+      (λ up. ⊎_elim
+      (λ lt. absurd (other (n.acceptors + (i - 7)) (omega arith) (sym (place_above n (n.acceptors + (i - 7)) (omega arith) ∙ (let e : 7 + (n.acceptors + (i - 7) - n.acceptors) ≡ i = omega arith in e)))))
+      (λ past. let e : i ≡ 7 + n.coordinators + (i - (7 + n.coordinators)) = omega arith in
+      ap (slice_get (shelved n (q ++ s) lent)) e
+      ∙ last_part n (q ++ s) lent a c whole many (i - (7 + n.coordinators))
+      ∙ get-append_right q s (7 - n.acceptors) (i - (7 + n.coordinators)) len_q
+      ∙ get-drop (7 + n.coordinators) disks (i - (7 + n.coordinators)) ∙ ap (slice_get disks) (sym e))
+      (cases_lt i (7 + n.coordinators)))
+      (cases_lt i 7))
+      (cases_lt i n.acceptors)
+
+  -- the first disk, and those behind it
+  pub taken_first : (xs rest : List D) (x : D) → 0 < length xs → x ≡ get_or xs 0 x → rest ≡ drop 1 xs → xs ≡ x ∷ rest
+  taken_first [] rest x some is left = absurd (omega (arith, some))
+  taken_first (y ∷ xs) rest x some is left = cc
