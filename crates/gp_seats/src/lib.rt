@@ -1,0 +1,10 @@
+//! The start of a run on threads: a wire with all nodes of a configuration, and a job for each of them.
+#![tactic(auto)]
+
+pub mod laws;
+mod nodes;
+mod seating;
+mod seats;
+
+pub use nodes::{PROPOSERS, Role, all_nodes};
+pub use seating::{Seated, Unseated, seat_all};
