@@ -1,2 +1,4 @@
 pub mod Listing
 pub mod Sitting
+pub mod Offered
+pub mod Counted

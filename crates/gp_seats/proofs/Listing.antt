@@ -37,7 +37,7 @@ has_one n m (inr h) = absurd h
 
 -- ---- the first nodes of a role
 
-below_or_last : (i k : ℕ) → i < suc k → (i < k) ⊎ (i ≡ k)
+pub below_or_last : (i k : ℕ) → i < suc k → (i < k) ⊎ (i ≡ k)
 below_or_last zero zero l = inr refl
 below_or_last zero (suc k) l = inl (omega arith)
 below_or_last (suc i) zero l = absurd (omega arith)

@@ -1,2 +1,3 @@
 pub mod Nodes
 pub mod Seats
+pub mod Offering

@@ -60,6 +60,10 @@ logs_in (j ∷ js) = option_to_list (log_of j.cell) ++ logs_in js
 abbrev pub new_passes : WireState PaxosRules → List Node → List PassState
 new_passes wire ns = map (λ n. new_pass n wire.id wire.nodes (n ∷ [])) ns
 
--- the job is one of a node of this configuration that is up at this wire and has posted nothing, where `faults` counts the faults of a disk
+-- the job is one of a node that is up at this wire and has posted nothing, where `faults` counts the faults of a disk
+abbrev pub IsNewAt : {D : Type 0} → (D → ℕ) → WireState PaxosRules → Job (CellState D) → Type 0
+IsNewAt faults wire job = IsNew (process_of faults) (λ c w. IsAt c w) wire job
+
+-- so is this job, and its node is one of this configuration
 abbrev pub IsNewJob : {D : Type 0} → (D → ℕ) → WireState PaxosRules → Counts → Job (CellState D) → Type 0
-IsNewJob faults wire config job = IsNew (process_of faults) (λ c w. IsAt c w) wire job × (job.cell.config ≡ config)
+IsNewJob faults wire config job = IsNewAt faults wire job × (job.cell.config ≡ config)

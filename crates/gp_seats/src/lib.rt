@@ -3,8 +3,10 @@
 
 pub mod laws;
 mod nodes;
+mod offering;
 mod seating;
 mod seats;
 
 pub use nodes::{PROPOSERS, Role, all_nodes};
+pub use offering::offer_all;
 pub use seating::{Seated, Unseated, seat_all};

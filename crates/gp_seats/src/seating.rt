@@ -1,7 +1,8 @@
 //! All nodes of a configuration at a wire.
-ghost use Rattle.std.specs.Prelude.{◌≡◌, ◌≤◌, ◌+◌, ◌++◌, [], length, IfOk, IfErr, OnOk};
+ghost use Rattle.std.specs.Prelude.{◌≡◌, ◌≤◌, ◌+◌, ◌++◌, [], map, length, IfOk, IfErr, OnOk};
 ghost use Rattle.std.specs.List.{All};
 ghost use Rattle.gp_seats.specs.Nodes.{all_nodes, working_nodes, proposer_nodes};
+ghost use Rattle.gp_seats.specs.Offering.{node_in};
 ghost use Rattle.gp_seats.specs.Seats.{IsBlank, IsNewJob, new_passes, seats};
 
 use crate::nodes::{PROPOSERS, all_nodes};
@@ -77,6 +78,7 @@ pub fn seat_all<D: Disk>(
     ensures nodes { IfOk result (λ s. s.wire.nodes ≡ all_nodes config) }
     ensures jobs { IfOk result (λ s. s.jobs.items ≡ seats config (new_passes s.wire (working_nodes config)) logs.items) }
     ensures proposers { IfOk result (λ s. s.proposers.items ≡ seats config (new_passes s.wire proposer_nodes) []) }
+    ensures order { IfOk result (λ s. map node_in s.proposers.items ≡ proposer_nodes) }
     ensures new { IfOk result (λ s. All (IsNewJob D.faults s.wire config) s.jobs.items) }
     ensures new_too { IfOk result (λ s. All (IsNewJob D.faults s.wire config) s.proposers.items) }
     ensures back { IfErr result (λ u. u.logs.items ≡ logs.items) }

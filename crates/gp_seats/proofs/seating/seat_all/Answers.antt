@@ -1,7 +1,8 @@
-use Rattle.std.proofs.Common.{[], List, All, sym, subst, ap, ◌∙◌}
+use Rattle.std.proofs.Common.{map, [], List, All, sym, subst, ap, ◌∙◌}
 use Rattle.gp_work.specs.declared.job.Job.{Job}
 use Rattle.gp_cell.specs.Cells.{CellState}
 use Rattle.gp_seats.specs.Nodes.{working_nodes, proposer_nodes}
+use Rattle.gp_seats.specs.Offering.{node_in}
 use Rattle.gp_seats.specs.Seats.{CanSit, IsNewJob, new_passes, seats}
 use Rattle.gp_seats.proofs.Sitting.{working_sit, new_jobs, all_of_each}
 use Rattle.gp_seats.proofs.seating.seat_all.Goals as goal
@@ -14,6 +15,9 @@ returns-in-Ok-make_jobs-clause-new g c =
     let wire = c.in-Ok.wire in let config = c.args.config in let logs = c.args.logs.items in
     let are = c.in-Ok-make_jobs.ensures.made ∙ ap (λ ps. seats config ps logs) c.in-Ok.ensures.passes in
     subst (λ (js : List (Job (CellState g.row.D.Denot))). All (IsNewJob g.D.Disk.faults wire config) js) (sym are) (all_of_each (IsNewJob g.D.Disk.faults wire config) (seats config (new_passes wire (working_nodes config)) logs) (new_jobs g.D.Disk.faults wire config (working_nodes config) logs c.in-Ok.ensures.wire.0))
+
+pub returns-in-Ok-make_jobs-clause-order : goal.returns-in-Ok-make_jobs-clause-order
+returns-in-Ok-make_jobs-clause-order g c = ap (λ (js : List (Job (CellState g.row.D.Denot))). map node_in js) c.in-Ok.ensures.proposers
 
 pub returns-in-Ok-make_jobs-clause-new_too : goal.returns-in-Ok-make_jobs-clause-new_too
 returns-in-Ok-make_jobs-clause-new_too g c =

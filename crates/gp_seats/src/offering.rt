@@ -1,0 +1,144 @@
+//! What the proposers offer.
+ghost use Rattle.std.specs.Prelude.{◌≡◌, ◌<◌, ◌^◌, ◌++◌, ◌∷◌, [], ℕ, true, map, length, slice_index_or, IfOk, OnOk};
+ghost use Rattle.std.specs.List.{All};
+ghost use Rattle.gp_work.specs.declared.job.Job.{Job as JobOf};
+ghost use Rattle.gp_cell.specs.Cells.{CellState};
+ghost use Rattle.gp_cell.specs.Working.{process_of};
+ghost use Rattle.gp_node.specs.Phases.{IsReadyJob};
+ghost use Rattle.gp_phase.specs.Phases.{total};
+ghost use Rattle.gp_seats.specs.Nodes.{proposer_nodes};
+ghost use Rattle.gp_seats.specs.Seats.{IsNewAt};
+ghost use Rattle.gp_seats.specs.Offering.{is_proposer, own_move, moves_of, given_to, node_in, IsKnown, IsDone, HasOffered};
+
+use gp_command::{Draft, NoMemory};
+use gp_edge::{Disk, Gate};
+use gp_msg::Node;
+use gp_node::{Job, Move, Moves, PaxosRules, workers};
+use gp_offers::OfferList;
+use gp_wire::Wire;
+use gp_work::Process;
+use std::alloc::Global;
+use std::sync::Wait;
+use std::thread::Threads;
+
+fn is_proposer(node: Node, number: u32) -> bool
+    ensures { result ≡ is_proposer node number }
+{
+    match node {
+        Node::Proposer(own) => own == number,
+        Node::Coordinator(_) | Node::Acceptor(_) | Node::Learner(_) => false,
+    }
+}
+
+fn push(moves: &mut Moves, item: Move) -> Result<(), NoMemory>
+    ensures { OnOk result (moves.new ≡ moves.old ++ item ∷ []) }
+{
+    match moves.push(item) {
+        Ok(()) => Ok(()),
+        Err(refused) => {
+            drop(refused);
+            Err(NoMemory)
+        }
+    }
+}
+
+// Appends the move by which a node makes an offer, if it is its own.
+fn push_own(moves: &mut Moves, node: Node, offer: &(u32, Draft)) -> Result<(), NoMemory>
+    ensures { OnOk result (moves.new ≡ moves.old ++ own_move node offer.now) }
+{
+    if is_proposer(node, offer.0) {
+        return push(moves, Move::Offer(offer.1.copy()?));
+    }
+    Ok(())
+}
+
+// The moves by which a node makes its own offers.
+fn moves_of(alloc: Global, node: Node, offers: &[(u32, Draft)]) -> Result<Moves, NoMemory>
+    ensures { IfOk result (λ moves. moves ≡ moves_of node offers.now) }
+{
+    let mut moves = Moves::new(alloc);
+    for offer in offers {
+        push_own(&mut moves, node, offer)?;
+    }
+    Ok(moves)
+}
+
+// The job, with its own offers to make.
+fn give<D: Disk>(alloc: Global, job: Job<D>, offers: &[(u32, Draft)]) -> Result<Job<D>, NoMemory>
+    ensures { IfOk result (λ given. given ≡ given_to offers.now job) }
+{
+    let mut job = job;
+    job.first = moves_of(alloc, job.cell.node(), offers)?;
+    Ok(job)
+}
+
+// New jobs of the proposers at a wire, each with its own offers to make.
+fn give_all<D: Disk>(
+    alloc: Global,
+    wire: &Wire<PaxosRules>,
+    jobs: Vec<Job<D>>,
+    offers: &[(u32, Draft)],
+) -> Result<Vec<Job<D>>, NoMemory>
+    requires new { All (IsNewAt D.faults wire.now) jobs.items }
+    requires nodes { map node_in jobs.items ≡ proposer_nodes }
+    requires few { length offers.now < 2 ^ 32 }
+    ensures given { IfOk result (λ given. given.items ≡ map (given_to offers.now) jobs.items) }
+    ensures some { IfOk result (λ given. 0 < length given.items) }
+    ensures ready { IfOk result (λ given. All (IsReadyJob D.faults wire.now) given.items) }
+{
+    let mut left = jobs;
+    left.reverse();
+    let mut given = Vec::new(alloc);
+    while let Some(job) = left.pop() {
+        given.push(give(alloc, job, offers)?)?;
+    }
+    Ok(given)
+}
+
+// Whether the job has no fault.
+fn is_done<D: Disk>(job: &Job<D>) -> bool
+    ensures { result ≡ true → IsDone job.now }
+{
+    let _down = job.cell.is_down();
+    job.fault.is_none()
+}
+
+fn all_done<D: Disk>(jobs: &[Job<D>]) -> bool
+    ensures { result ≡ true → All IsDone jobs.now }
+{
+    for job in jobs {
+        if !is_done(job) {
+            return false;
+        }
+    }
+    true
+}
+
+/// Posts the offers in one phase of the proposers alone, each its own in their order. The jobs are new ones of the eight
+/// proposers, and they come back in order. It is refused if memory runs out, also inside a job: a proposer has no disk that
+/// could fail. The wire then may have some of the offers.
+pub fn offer_all<D: Disk + Send, W: Threads + Wait + Sync, G: Gate + Sync>(
+    rt: &W,
+    alloc: Global,
+    wire: &Wire<PaxosRules>,
+    proposers: Vec<Job<D>>,
+    offers: &OfferList,
+    gate: &G,
+) -> Result<Vec<Job<D>>, NoMemory>
+    requires new { All (IsNewAt D.faults wire.now) proposers.items }
+    requires nodes { map node_in proposers.items ≡ proposer_nodes }
+    requires few { length offers.now < 2 ^ 32 }
+    requires known { All IsKnown offers.now }
+    ensures size { IfOk result (λ js. length js.items ≡ length proposers.items) }
+    ensures offered { IfOk result (λ js. (i : ℕ) (d : JobOf (CellState D)) → i < length proposers.items
+        → HasOffered D.faults wire.now offers.now (slice_index_or proposers.items i d) (slice_index_or js.items i d)) }
+    ensures count { IfOk result (λ js. total (process_of D.faults) 0 js.items ≡ length offers.now) }
+{
+    let given = give_all(alloc, wire, proposers, offers.as_slice())?;
+    let jobs = workers(rt, alloc, wire, given, gate);
+    if all_done(&jobs) {
+        Ok(jobs)
+    } else {
+        Err(NoMemory)
+    }
+}
