@@ -182,7 +182,7 @@ working_sit D config wire logs count blank =
 -- ---- the jobs are new
 
 new_job : {D : Type 0} (faults : D → ℕ) (wire : WireState PaxosRules) (config : Counts) (n : Node) (log : Option (LogState D)) → wire.rules.config ≡ config → IsNewJob faults wire config (seat config (new_pass n wire.id wire.nodes (n ∷ [])) log)
-new_job faults wire config n log e = (record { fault = refl; own = record { own = refl; config = sym e; holds = inl refl }; up = refl; nothing = refl; first = refl; cursor = refl; risen = refl }, refl)
+new_job faults wire config n log e = (record { fault = refl; own = record { own = refl; all = refl; config = sym e; holds = inl refl }; up = refl; nothing = refl; first = refl; cursor = refl; risen = refl }, refl)
 
 pub new_jobs : {D : Type 0} (faults : D → ℕ) (wire : WireState PaxosRules) (config : Counts) (ns : List Node) (logs : List (LogState D)) → wire.rules.config ≡ config → Each (IsNewJob faults wire config) (seats config (new_passes wire ns) logs)
 new_jobs faults wire config [] logs e = tt
