@@ -1,6 +1,7 @@
--- What the node of a job posts first.
-use Rattle.std.proofs.Common.{◌≡◌, ◌⊎◌, inl, inr, ℕ, zero, suc, ◌<◌, false, List, [], ◌∷◌, ◌++◌, length, set, get_or, refl, sym, ap, ◌∙◌, subst, arith, None, append_assoc, get_or-set_same, get_or-set_other}
+-- What the node of a job is to post first, and what it posts first.
+use Rattle.std.proofs.Common.{◌≡◌, ◌⊎◌, inl, inr, ℕ, zero, suc, ◌<◌, Bool, false, List, [], ◌∷◌, ◌++◌, length, set, get_or, refl, sym, ap, ◌∙◌, subst, arith, None, append_assoc, get_or-set_same, get_or-set_other}
 use Rattle.std.specs.List.{All}
+use Rattle.std.specs.Option.{option_to_list}
 use mathlib.Core.Logic.{dite}
 use native.Mathlib.Decide.{ℕ_discrete}
 use Rattle.gp_msg.specs.declared.event.Event.{Event}
@@ -8,10 +9,12 @@ use Rattle.gp_rules.specs.Own.{own_events}
 use Rattle.gp_work.specs.declared.job.Job.{Job}
 use Rattle.gp_work.specs.Doing.{ProcessState, Posted}
 use Rattle.gp_work.specs.Jobs.{Done, HasWorked}
+use Rattle.gp_round.specs.declared.round.Round.{Round}
+use Rattle.gp_phase.specs.declared.caller.Call.{Call}
 use Rattle.gp_phase.specs.Deeds.{begins, begin_moves}
-use Rattle.gp_phase.specs.Phases.{Answers, Opens}
+use Rattle.gp_phase.specs.Phases.{Answers, Opens, Asked, IsNew, IsToOpen, HasAnswered, only_at, rounds}
 use Rattle.gp_phase.proofs.Deeds.{done_made}
-use Rattle.gp_phase.proofs.Phasing.{done_of, was_false, Looks}
+use Rattle.gp_phase.proofs.Phasing.{done_of, was_false, only_here, only_else, Looks}
 
 -- a node posted some events, and then more
 posted_then : (p q r : ProcessState) (es fs : List Event) → Posted p q es → Posted q r fs → Posted p r (es ++ fs)
@@ -78,3 +81,51 @@ module _ {N P : Type 0} (state : P → ProcessState) (is_of : P → N → Type 0
               none l = omega (arith, l)
             defaults (x ∷ xs) zero d e l = refl
             defaults (x ∷ xs) (suc n) d e l = defaults xs n d e (omega (arith, l))
+
+    -- ---- the first call
+
+    new_opens : (rs : List Round) (j y : Job P) → IsNew state is_of net j → Looks state is_of too_great net answers at j y → y.first ≡ begin_moves rs → IsToOpen state is_of net rs y
+    new_opens rs j y n w first = record {
+      fault = w.fault ∙ n.fault;
+      own = w.own;
+      up = w.up;
+      nothing = w.posts ∙ ap (λ (es : List Event). es ++ []) n.nothing;
+      first = first;
+      cursor = w.cursor ∙ n.cursor;
+      risen = w.risen ∙ n.risen;
+    }
+
+    still_opens : (rs : List Round) (j : Job P) → rs ≡ [] → IsNew state is_of net j → IsToOpen state is_of net rs j
+    still_opens rs j none n = record {
+      fault = n.fault;
+      own = n.own;
+      up = n.up;
+      nothing = n.nothing;
+      first = n.first ∙ ap begin_moves (sym none);
+      cursor = n.cursor;
+      risen = n.risen;
+    }
+
+    -- each node has posted nothing, and one of them is to begin the round that was called, if one was
+    pub first_asked : (js : List (Job P)) (called after : List Call) (y e : Job P) (left : Bool) → called ≡ [] → All (IsNew state is_of net) js → at < length js → Looks state is_of too_great net answers at (get_or js at e) y
+        → Asked state (answers (state (get_or js at e).cell).config (state (get_or js at e).cell).node) called after (get_or js at e) y left
+        → (i : ℕ) (d : Job P) → i < length js → IsToOpen state is_of net (only_at at i (rounds after)) (get_or (set js at y) i d)
+    first_asked js called after y e left none new there w a i d l = dite (ℕ_discrete i at)
+        (λ here. subst (IsToOpen state is_of net (only_at at i (rounds after))) (sym (ap (λ n. get_or (set js at y) n d) here ∙ get_or-set_same js at y d there))
+        (subst (λ rs. IsToOpen state is_of net rs y) (sym (only_here at i (rounds after) here)) (new_opens (rounds after) (get_or js at e) y (new at e there) w (a.first ∙ ap (λ cs. begin_moves (rounds cs)) (sym after_is)))))
+        (λ other. subst (IsToOpen state is_of net (only_at at i (rounds after))) (sym (get_or-set_other js at i y d other))
+        (still_opens (only_at at i (rounds after)) (get_or js i d) (only_else at i (rounds after) other) (new i d l)))
+      where
+        after_is : after ≡ option_to_list a.answer
+        after_is = a.called ∙ ap (λ cs. cs ++ option_to_list a.answer) none
+
+    -- the answer of the caller
+    pub first_answer : (js : List (Job P)) (called after : List Call) (y e d : Job P) (left : Bool) → called ≡ [] → at < length js → Looks state is_of too_great net answers at (get_or js at e) y
+        → Asked state (answers (state (get_or js at e).cell).config (state (get_or js at e).cell).node) called after (get_or js at e) y left → HasAnswered state answers after (get_or (set js at y) at d)
+    first_answer js called after y e d left none there w a = subst (HasAnswered state answers after) (sym (get_or-set_same js at y d there)) (record {
+      answer = a.answer;
+      called_is = a.called ∙ ap (λ cs. cs ++ option_to_list a.answer) none;
+      may = subst (λ n. answers (state y.cell).config n [] (state y.cell).list a.answer) (sym w.goes.node)
+          (subst (λ c. answers c (state (get_or js at e).cell).node [] (state y.cell).list a.answer) (sym w.goes.config)
+          (subst (λ cs. answers (state (get_or js at e).cell).config (state (get_or js at e).cell).node cs (state y.cell).list a.answer) none a.may));
+    })

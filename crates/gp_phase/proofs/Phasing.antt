@@ -39,10 +39,10 @@ done_of too_great p f first cursor q g behind fault none e = subst (Ends too_gre
 -- ---- a place of its own
 
 module _ {A : Type 0} where
-  only_here : (at i : ℕ) (xs : List A) → i ≡ at → only_at at i xs ≡ xs
+  pub only_here : (at i : ℕ) (xs : List A) → i ≡ at → only_at at i xs ≡ xs
   only_here at i xs e = elim (eqb_tells i at) [ inl t ↦ ap (λ b. cond b xs []) t.0 | inr t ↦ absurd (t.1 e) ]
 
-  only_else : (at i : ℕ) (xs : List A) → i ≢ at → only_at at i xs ≡ []
+  pub only_else : (at i : ℕ) (xs : List A) → i ≢ at → only_at at i xs ≡ []
   only_else at i xs n = elim (eqb_tells i at) [ inl t ↦ absurd (n t.1) | inr t ↦ ap (λ b. cond b xs []) t.0 ]
 
   pub only_none : (at i : ℕ) → only_at {A = A} at i [] ≡ []

@@ -32,7 +32,8 @@ own_closed log p b h =
 
 -- ---- all nodes together
 
-counted : List Node → List Record → ℕ
+-- how many records of these nodes there are
+pub counted : List Node → List Record → ℕ
 counted [] rs = 0
 counted (n ∷ ns) rs = length (own n rs) + counted ns rs
 
@@ -77,9 +78,14 @@ unfolding counted
 counted_none [] = refl
 counted_none (n ∷ ns) = let h = counted_none ns in omega arith
 
-counted_all : (ns : List Node) (log : List Post) → IsDistinct ns → Each (λ e. Has e.item.node ns) log → counted ns (items log) ≡ length (items log)
+-- if each record is of one of them, all are
+pub counted_all : (ns : List Node) (rs : List Record) → IsDistinct ns → Each (λ r. Has r.node ns) rs → counted ns rs ≡ length rs
 counted_all ns [] d o = counted_none ns
-counted_all ns (e ∷ es) d o = counted_cons ns e.item (items es) ∙ (let h = one_hit ns e.item.node d o.0 in let t = counted_all ns es d o.1 in omega arith)
+counted_all ns (r ∷ rs) d o = counted_cons ns r rs ∙ (let h = one_hit ns r.node d o.0 in let t = counted_all ns rs d o.1 in omega arith)
+
+each_item : (ns : List Node) (log : List Post) → Each (λ e. Has e.item.node ns) log → Each (λ r. Has r.node ns) (items log)
+each_item ns [] o = tt
+each_item ns (e ∷ es) o = (o.0, each_item ns es o.1)
 
 counted_passes : (log : List Post) (ps : List PassState) → AllBegin log ps → Each (λ p. Has p.node p.holds) ps → counted (map node_of ps) (items log) ≡ posted_all ps
 unfolding counted
@@ -87,7 +93,7 @@ counted_passes log [] b h = refl
 counted_passes log (p ∷ ps) b h = λ i. ap length (own_closed log p b.0 h.0) i + counted_passes log ps b.1 h.1 i
 
 pub closed_has : (log : List Post) (ps : List PassState) → AreAll log ps → length (items log) ≡ posted_all ps
-closed_has log ps a = sym (counted_all (map node_of ps) log a.distinct a.ours) ∙ counted_passes log ps a.begin a.hold
+closed_has log ps a = sym (counted_all (map node_of ps) (items log) a.distinct (each_item (map node_of ps) log a.ours)) ∙ counted_passes log ps a.begin a.hold
 
 -- ---- the list of one pass
 

@@ -103,6 +103,22 @@ pub record IsNew {N P : Type 0} (state : P → ProcessState) (is_of : P → N �
   pub cursor : j.cursor ≡ 0
   pub risen : j.risen ≡ false
 
+-- a job of a node that is up, has posted nothing, and is to begin these rounds before all else
+pub record IsToOpen {N P : Type 0} (state : P → ProcessState) (is_of : P → N → Type 0) (net : N) (rounds : List Round) (j : Job P) : Type 0 where
+  pub fault : j.fault ≡ None
+  pub own : is_of j.cell net
+  pub up : (state j.cell).up ≡ true
+  pub nothing : own_events (state j.cell).node (state j.cell).list ≡ []
+  pub first : j.first ≡ begin_moves rounds
+  pub cursor : j.cursor ≡ 0
+  pub risen : j.risen ≡ false
+
+-- the first answer of a caller, for what the node of a job has seen
+pub record HasAnswered {P : Type 0} (state : P → ProcessState) (answers : Answers) (called : List Call) (j : Job P) : Type 0 where
+  pub answer : Option Call
+  pub called_is : called ≡ option_to_list answer
+  pub may : answers (state j.cell).config (state j.cell).node [] (state j.cell).list answer
+
 -- how many records all posted together, if the nodes without a job posted so many
 abbrev pub total : {P : Type 0} → (P → ProcessState) → ℕ → List (Job P) → ℕ
 total state others [] = others

@@ -2,7 +2,7 @@
 ghost use Rattle.std.specs.Prelude.{◌≡◌, ◌<◌, ℕ, [], length, slice_index_or, OnOk};
 ghost use Rattle.std.specs.List.{All};
 ghost use Rattle.gp_work.specs.declared.job.Job.{Job};
-ghost use Rattle.gp_phase.specs.Phases.{IsNew, AreReady, Carried};
+ghost use Rattle.gp_phase.specs.Phases.{rounds, only_at, IsNew, IsToOpen, HasAnswered, AreReady, Carried};
 
 use crate::caller::Caller;
 use crate::phases::call_round;
@@ -28,6 +28,8 @@ pub fn call_first<N, P: Process<N>, C: Caller<N, P>, W: Wait>(
     ensures size { length jobs.new.items ≡ length jobs.old.items }
     ensures carried { (i : ℕ) (d : Job P) → i < length jobs.old.items → Carried P.state P.is_of P.too_great net.now (slice_index_or jobs.old.items i d) (slice_index_or jobs.new.items i d) }
     ensures ready { OnOk result (AreReady P.state P.is_of net.now C.answers at (C.called caller.new) jobs.new.items) }
+    ensures opening { OnOk result ((i : ℕ) (d : Job P) → i < length jobs.old.items → IsToOpen P.state P.is_of net.now (only_at at i (rounds (C.called caller.new))) (slice_index_or jobs.new.items i d)) }
+    ensures answered { OnOk result ((d : Job P) → HasAnswered P.state C.answers (C.called caller.new) (slice_index_or jobs.new.items at d)) }
     ensures node { (d : Job P) → (P.state (slice_index_or jobs.new.items at d).cell).node ≡ C.node caller.new }
     ensures config { (d : Job P) → (P.state (slice_index_or jobs.new.items at d).cell).config ≡ C.config caller.new }
     ensures knows { (d : Job P) → C.knows caller.new (P.state (slice_index_or jobs.new.items at d).cell).list }
