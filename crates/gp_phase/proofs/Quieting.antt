@@ -33,7 +33,7 @@ own_closed log p b h =
 -- ---- all nodes together
 
 -- how many records of these nodes there are
-pub counted : List Node → List Record → ℕ
+unfoldable pub counted : List Node → List Record → ℕ
 counted [] rs = 0
 counted (n ∷ ns) rs = length (own n rs) + counted ns rs
 
