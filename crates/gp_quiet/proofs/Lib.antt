@@ -1,0 +1,4 @@
+pub mod Indexing
+pub mod Holding
+pub mod Offering
+pub mod Ending
