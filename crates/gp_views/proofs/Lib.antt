@@ -1,0 +1,4 @@
+pub mod Begun
+pub mod Commits
+pub mod Runs
+pub mod Keeping

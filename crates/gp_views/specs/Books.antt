@@ -1,0 +1,35 @@
+-- The book of a feed: each list that was committed, in order.
+use Rattle.std.specs.Prelude.{◌≡◌, ℕ, true, List, [], ◌∷◌, ◌++◌, length, Option, Some, None}
+use mathlib.Core.List.{IsPrefix}
+use Rattle.std.specs.declared.snapshot.Snapshot.{Snapshot}
+use Rattle.logbook.specs.Pages.{Cell, Step, View, Book, Named}
+use Rattle.gp_command.specs.declared.command.Command.{Command}
+use Rattle.gp_views.specs.Lists.{Extends}
+
+-- the last list, or the empty one where there is none
+abbrev pub last_of : List (List Command) → List Command
+last_of [] = []
+last_of (cs ∷ []) = cs
+last_of (cs ∷ ds ∷ more) = last_of (ds ∷ more)
+
+-- each list extends those before it: the last one of each beginning extends that of each shorter beginning
+abbrev pub IsNested : List (List Command) → Type 0
+IsNested log = (xs ys : List (List Command)) → IsPrefix xs ys → IsPrefix ys log → Extends (last_of ys) (last_of xs)
+
+-- the first word counts the lists, of which each extends those before it; the second word is not used
+pub record IsKept (cells : List Cell) (log : List (List Command)) : Type 0 where
+  pub words : cells ≡ (length log, true) ∷ (0, true) ∷ []
+  pub nested : IsNested log
+
+-- the word that counts the lists of a book
+abbrev pub count_of : Book → Named
+count_of b = record { tracked = true; key = 0; book = b }
+
+-- where the number was the one that was looked for, the list was added to all that was seen
+abbrev pub Adds : Step (List Command) → View (List Command) (Unit {0}) → ℕ → View (List Command) (Unit {0}) → Type 0
+Adds s v found w = found ≡ s.old → w.0 ≡ v.0 ++ s.ask ∷ []
+
+-- what was run, or the other list where that is not given
+abbrev pub ran_or : Option (Snapshot (List Command)) → List Command → List Command
+ran_or None cs = cs
+ran_or (Some s) cs = s.value

@@ -1,0 +1,192 @@
+//! The book of a feed: each list that it commits, of which each extends those before it. The lists exist in proofs
+//! alone. What lies in memory is how many there are.
+ghost use Rattle.std.specs.Prelude.{◌≡◌, [], false, IsTrue, IfOk, IfSome};
+ghost use Rattle.std.specs.Arc.{arc_value};
+ghost use Rattle.gp_views.specs.Books.{count_of};
+ghost use Rattle.gp_views.specs.Lists.{Extends};
+
+use gp_command::{Command, NoMemory};
+use gp_index::History;
+use logbook::{Gain, Plain, Play, Rule, Seen, Start, Word};
+use std::alloc::Global;
+use std::marker::Model;
+use std::snapshot::Snapshot;
+use std::sync::Arc;
+
+/// An entry of a book is a list of commands. No value of it is made: a clause reads an array as a list, of any
+/// length.
+pub type List = [Command; 0];
+
+/// The rule of a book.
+pub struct Nested;
+
+impl Rule<List, ()> for Nested {
+    ghost use Rattle.std.specs.Prelude.{[]};
+    ghost use base.Fml.{ftrue};
+    ghost use Rattle.gp_views.specs.Books.{IsKept};
+
+    ghost holds = { λ cells log. IsKept cells log };
+
+    ghost first = { [] };
+
+    ghost hinted = { λ n log. Unit {0} };
+
+    ghost shows = { λ log. [] };
+
+    ghost keeps = { λ names log. ftrue };
+
+    ghost moves = { λ ask before after answer. Unit {0} };
+}
+
+// Callers trade nothing.
+struct Nothing;
+
+impl Gain<List, ()> for Nothing {
+    ghost use base.Fml.{ftrue};
+
+    ghost after = { λ names about answer. ftrue };
+}
+
+// A step that adds a list.
+struct Add;
+
+impl Play<List, ()> for Add {
+    ghost use Rattle.gp_views.specs.Books.{Adds};
+
+    ghost then = { Adds };
+}
+
+// What the step adds: the batch's list.
+impl Plain<Batch, List, ()> for Add {
+    ghost use Rattle.std.specs.Prelude.{None};
+
+    ghost ask = { λ batch. batch.list };
+
+    ghost state = { λ batch. None };
+}
+
+/// How many lists the book has, which threads share.
+pub type Count = Word<List, (), Nested>;
+
+/// A list that was committed, and how many there were then. Contracts see it as its feed and the list.
+#[derive(Drop)]
+pub struct Mark {
+    seen: Seen<List, (), Nested>,
+    lists: u64,
+}
+
+impl Model for Mark {
+    ghost use Rattle.std.specs.Prelude.{◌≡◌, length};
+    ghost use Rattle.gp_views.specs.Books.{last_of};
+    ghost use Rattle.gp_views.specs.Ends.{Published};
+
+    ghost Value = { Published };
+
+    ghost view = { λ m. record { feed = m.seen.book; list = last_of m.seen.log } };
+
+    ghost invariant = { λ m. m.lists ≡ length m.seen.log };
+}
+
+impl Mark {
+    pub fn copy(&self) -> Mark
+        ensures { result ≡ self.now }
+    {
+        Mark {
+            seen: self.seen.again(),
+            lists: self.lists,
+        }
+    }
+
+    /// Whether it was committed no later than the other. Of two lists of one feed the later extends the earlier.
+    pub fn is_no_later(&self, other: &Mark) -> bool
+        requires { other.now.feed ≡ self.now.feed }
+        ensures no_later { IsTrue result → Extends other.now.list self.now.list }
+        ensures later { result ≡ false → Extends self.now.list other.now.list }
+    {
+        let mut both = self.seen.again();
+        both.learn(&other.seen);
+        self.lists <= other.lists
+    }
+}
+
+/// A list that may be committed behind the mark that it was made at. Contracts see it as its feed and the list.
+#[derive(Drop)]
+pub struct Batch {
+    count: Arc<Count, Global>,
+    seen: Seen<List, (), Nested>,
+    lists: u64,
+    // what a replica ran, or nothing where the list is the last one again
+    ran: Option<Snapshot<History>>,
+}
+
+impl Model for Batch {
+    ghost use Rattle.std.specs.Prelude.{◌≡◌, length};
+    ghost use Rattle.std.specs.Arc.{arc_value};
+    ghost use Rattle.gp_views.specs.Books.{count_of, last_of, ran_or};
+    ghost use Rattle.gp_views.specs.Ends.{Published};
+    ghost use Rattle.gp_views.specs.Lists.{Extends};
+
+    ghost Value = { Published };
+
+    ghost view = { λ b. record { feed = b.seen.book; list = ran_or b.ran (last_of b.seen.log) } };
+
+    ghost invariant = { λ b. (arc_value b.count ≡ count_of b.seen.book) × (b.lists ≡ length b.seen.log)
+        × Extends (ran_or b.ran (last_of b.seen.log)) (last_of b.seen.log) };
+}
+
+impl Batch {
+    /// The list of the mark again.
+    pub fn again(count: &Arc<Count, Global>, mark: &Mark) -> Result<Batch, NoMemory>
+        requires { arc_value count.now ≡ count_of mark.now.feed }
+        ensures { IfOk result (λ b. b ≡ mark.now) }
+    {
+        Ok(Batch {
+            count: Arc::try_clone(count)?,
+            seen: mark.seen.again(),
+            lists: mark.lists,
+            ran: None,
+        })
+    }
+
+    /// What a replica ran, which extends the list of the mark.
+    pub fn of(count: &Arc<Count, Global>, mark: &Mark, ran: &History) -> Result<Batch, NoMemory>
+        requires count { arc_value count.now ≡ count_of mark.now.feed }
+        requires more { Extends ran.now mark.now.list }
+        ensures { IfOk result (λ b. b ≡ record { feed = mark.now.feed; list = ran.now }) }
+    {
+        Ok(Batch {
+            count: Arc::try_clone(count)?,
+            seen: mark.seen.again(),
+            lists: mark.lists,
+            ran: Some(Snapshot::of(ran)),
+        })
+    }
+
+    /// Commits the list, and gives its mark. It gives none where another list was committed behind that mark.
+    pub fn commit(&self) -> Option<Mark>
+        ensures { IfSome result (λ m. m ≡ self.now) }
+    {
+        let lists = self.lists.checked_add(1)?;
+        let mut seen = self.seen.again();
+        let mut offer = seen.plain::<Nothing, Batch, Add>(self);
+        let mut pen = seen.no_pen();
+        let found = self
+            .count
+            .compare_exchange::<Add, Nothing>(self.lists, lists, &mut seen, &mut offer, &mut pen);
+        if found == self.lists {
+            Some(Mark { seen, lists })
+        } else {
+            None
+        }
+    }
+}
+
+/// A new book with no list: the word that counts them, and a mark of the empty list.
+pub fn open(alloc: Global) -> Result<(Arc<Count, Global>, Mark), NoMemory>
+    ensures count { IfOk result (λ t. arc_value t.0 ≡ count_of t.1.feed) }
+    ensures empty { IfOk result (λ t. t.1.list ≡ []) }
+{
+    let (seen, mut first, _second) = Seen::open(Start::alone(), 0, 0);
+    let count = Arc::new(alloc, Word::tracked(0, &mut first))?;
+    Ok((count, Mark { seen, lists: 0 }))
+}

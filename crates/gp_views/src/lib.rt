@@ -1,0 +1,14 @@
+//! Local reads of a key store that never wait: one feed publishes what a replica ran, and readers read it with no
+//! lock.
+#![tactic(auto)]
+
+mod book;
+mod feed;
+mod image;
+mod reader;
+mod sight;
+mod told;
+
+pub use feed::Feed;
+pub use reader::{Reader, Unread};
+pub use told::Told;

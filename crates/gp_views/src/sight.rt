@@ -1,0 +1,58 @@
+//! What the two copies are shared under: the rule that `left_right` keeps, and what its steps tell.
+ghost use Rattle.gp_views.specs.Sights.{Keeps, Finds, joined};
+
+use crate::book::Mark;
+use crate::image::{Change, Image};
+use atomic_table::{Join, Split};
+use crossbeam_utils::rule::{Outcome, Protocol};
+use left_right::reader;
+use left_right::writer::Writer;
+
+/// The image has run the list that it stands for. What a seat knows is the feed, or nothing; of the mark
+/// only that counts, and no value of it is made.
+pub struct Whole;
+
+impl Protocol<Image, Option<Mark>> for Whole {
+    ghost use Rattle.std.specs.Prelude.{None};
+
+    ghost holds = { Keeps };
+
+    ghost first = { None };
+}
+
+/// A read.
+pub struct Finding;
+
+impl Outcome<Image, Option<Mark>> for Finding {
+    ghost then = { λ v x y w. Finds v x w };
+}
+
+/// A publish.
+pub struct Showing;
+
+impl Outcome<Image, Option<Mark>> for Showing {
+    ghost use Rattle.std.specs.Prelude.{◌≡◌, Some};
+
+    ghost then = { λ v x y w. w ≡ Some y.goal.value };
+}
+
+/// A seat that is told of the feed.
+pub struct Telling;
+
+impl Split<Option<Mark>> for Telling {
+    ghost left = { λ v. v };
+
+    ghost right = { λ v. v };
+}
+
+impl Join<Option<Mark>> for Telling {
+    ghost use Rattle.std.specs.Prelude.{None};
+
+    ghost both = { joined };
+
+    ghost spent = { None };
+}
+
+pub type ReaderEnd = reader::Reader<Image, Option<Mark>, Whole>;
+
+pub type FeedEnd = Writer<Image, Change, Option<Mark>, Whole>;
