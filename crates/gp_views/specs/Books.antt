@@ -1,7 +1,6 @@
 -- The book of a feed: each list that was committed, in order.
-use Rattle.std.specs.Prelude.{◌≡◌, ℕ, true, List, [], ◌∷◌, ◌++◌, length, Option, Some, None}
+use Rattle.std.specs.Prelude.{◌≡◌, ℕ, true, List, [], ◌∷◌, ◌++◌, length}
 use mathlib.Core.List.{IsPrefix}
-use Rattle.std.specs.declared.snapshot.Snapshot.{Snapshot}
 use Rattle.logbook.specs.Pages.{Cell, Step, View, Book, Named}
 use Rattle.gp_command.specs.declared.command.Command.{Command}
 use Rattle.gp_views.specs.Lists.{Extends}
@@ -28,8 +27,3 @@ count_of b = record { tracked = true; key = 0; book = b }
 -- where the number was the one that was looked for, the list was added to all that was seen
 abbrev pub Adds : Step (List Command) → View (List Command) (Unit {0}) → ℕ → View (List Command) (Unit {0}) → Type 0
 Adds s v found w = found ≡ s.old → w.0 ≡ v.0 ++ s.ask ∷ []
-
--- what was run, or the other list where that is not given
-abbrev pub ran_or : Option (Snapshot (List Command)) → List Command → List Command
-ran_or None cs = cs
-ran_or (Some s) cs = s.value

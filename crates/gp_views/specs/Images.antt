@@ -10,7 +10,7 @@ use Rattle.gp_views.specs.declared.image.Change.TheVariants.{Restart, Run, Reach
 
 -- what both copies have in common
 abbrev pub shown_of : Image → Shown
-shown_of x = record { store = x.store; count = x.count; goal = x.goal.value }
+shown_of x = record { store = x.store; count = x.count; goal = x.goal }
 
 abbrev pub changed : Shown → Change → Shown
 changed s Restart = record s { store = store_rules.opening; count = 0 }

@@ -20,13 +20,13 @@ known (Some p) = Some p.feed
 -- the image has run its list, and each seat knows its feed or nothing
 pub record Keeps (x : Image) (sights : List (Option Published)) : Type 0 where
   pub whole : IsWhole (shown_of x)
-  pub each : (seat : ℕ) (v : Option Published) → get_elem? sights seat ≡ some v → Knows x.goal.value.feed v
+  pub each : (seat : ℕ) (v : Option Published) → get_elem? sights seat ≡ some v → Knows x.goal.feed v
 
 -- a read finds an image that is whole, of the feed that is known
 pub record Finds (v : Option Published) (x : Image) (w : Option Published) : Type 0 where
   pub same : w ≡ v
   pub whole : IsWhole (shown_of x)
-  pub feed : Knows x.goal.value.feed v
+  pub feed : Knows x.goal.feed v
 
 -- the longer of two: the second only where it is not known
 abbrev pub joined : Option Published → Option Published → Option Published

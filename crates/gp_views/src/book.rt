@@ -7,10 +7,9 @@ ghost use Rattle.gp_views.specs.Lists.{Extends};
 
 use gp_command::{Command, NoMemory};
 use gp_index::History;
-use logbook::{Gain, Plain, Play, Rule, Seen, Start, Word};
+use logbook::{Gain, Opening, Plain, Play, Rule, Seen, Start, Word};
 use std::alloc::Global;
 use std::marker::Model;
-use std::snapshot::Snapshot;
 use std::sync::Arc;
 
 /// An entry of a book is a list of commands. No value of it is made: a clause reads an array as a list, of any
@@ -109,6 +108,66 @@ impl Mark {
     }
 }
 
+// A rule that says nothing.
+struct Anything;
+
+impl Rule<List, ()> for Anything {
+    ghost use Rattle.std.specs.Prelude.{[]};
+    ghost use base.Fml.{ftrue};
+
+    ghost holds = { λ cells log. Unit {0} };
+
+    ghost first = { [] };
+
+    ghost hinted = { λ n log. Unit {0} };
+
+    ghost shows = { λ log. [] };
+
+    ghost keeps = { λ names log. ftrue };
+
+    ghost moves = { λ ask before after answer. Unit {0} };
+}
+
+// A book that begins with what a replica ran.
+impl Opening<History, List> for Anything {
+    ghost use Rattle.std.specs.Prelude.{[], ◌∷◌};
+
+    ghost log = { λ count ran. ran ∷ [] };
+}
+
+// What a replica ran, which only clauses read: the one list of a book of its own. It has no bytes.
+#[derive(Drop)]
+struct Ran {
+    list: Seen<List, (), Anything>,
+}
+
+impl Model for Ran {
+    ghost use Rattle.std.specs.Prelude.{List};
+    ghost use Rattle.gp_command.specs.declared.command.Command.{Command};
+    ghost use Rattle.gp_views.specs.Books.{last_of};
+
+    ghost Value = { List Command };
+
+    ghost view = { λ r. last_of r.list.log };
+}
+
+impl Ran {
+    fn of(ran: &History) -> Ran
+        ensures { result ≡ ran.now }
+    {
+        let (list, _pens) = Seen::open_row::<History, Anything>(ran, Start::alone(), 0);
+        Ran { list }
+    }
+
+    fn again(&self) -> Ran
+        ensures { result ≡ self.now }
+    {
+        Ran {
+            list: self.list.again(),
+        }
+    }
+}
+
 /// A list that may be committed behind the mark that it was made at. Contracts see it as its feed and the list.
 #[derive(Drop)]
 pub struct Batch {
@@ -116,22 +175,22 @@ pub struct Batch {
     seen: Seen<List, (), Nested>,
     lists: u64,
     // what a replica ran, or nothing where the list is the last one again
-    ran: Option<Snapshot<History>>,
+    ran: Option<Ran>,
 }
 
 impl Model for Batch {
-    ghost use Rattle.std.specs.Prelude.{◌≡◌, length};
+    ghost use Rattle.std.specs.Prelude.{◌≡◌, length, unwrap_or};
     ghost use Rattle.std.specs.Arc.{arc_value};
-    ghost use Rattle.gp_views.specs.Books.{count_of, last_of, ran_or};
+    ghost use Rattle.gp_views.specs.Books.{count_of, last_of};
     ghost use Rattle.gp_views.specs.Ends.{Published};
     ghost use Rattle.gp_views.specs.Lists.{Extends};
 
     ghost Value = { Published };
 
-    ghost view = { λ b. record { feed = b.seen.book; list = ran_or b.ran (last_of b.seen.log) } };
+    ghost view = { λ b. record { feed = b.seen.book; list = unwrap_or b.ran (last_of b.seen.log) } };
 
     ghost invariant = { λ b. (arc_value b.count ≡ count_of b.seen.book) × (b.lists ≡ length b.seen.log)
-        × Extends (ran_or b.ran (last_of b.seen.log)) (last_of b.seen.log) };
+        × Extends (unwrap_or b.ran (last_of b.seen.log)) (last_of b.seen.log) };
 }
 
 impl Batch {
@@ -158,7 +217,7 @@ impl Batch {
             count: Arc::try_clone(count)?,
             seen: mark.seen.again(),
             lists: mark.lists,
-            ran: Some(Snapshot::of(ran)),
+            ran: Some(Ran::of(ran)),
         })
     }
 
@@ -178,6 +237,43 @@ impl Batch {
         } else {
             None
         }
+    }
+}
+
+/// The feed and the list of a batch, which only clauses read. It has no bytes.
+#[derive(Drop)]
+pub struct Goal {
+    seen: Seen<List, (), Nested>,
+    ran: Option<Ran>,
+}
+
+impl Model for Goal {
+    ghost use Rattle.std.specs.Prelude.{unwrap_or};
+    ghost use Rattle.gp_views.specs.Books.{last_of};
+    ghost use Rattle.gp_views.specs.Ends.{Published};
+
+    ghost Value = { Published };
+
+    ghost view = { λ g. record { feed = g.seen.book; list = unwrap_or g.ran (last_of g.seen.log) } };
+}
+
+impl Goal {
+    pub fn of(batch: &Batch) -> Goal
+        ensures { result ≡ batch.now }
+    {
+        Goal {
+            seen: batch.seen.again(),
+            ran: again(&batch.ran),
+        }
+    }
+}
+
+fn again(ran: &Option<Ran>) -> Option<Ran>
+    ensures { result ≡ ran.now }
+{
+    match ran {
+        Some(ran) => Some(ran.again()),
+        None => None,
     }
 }
 

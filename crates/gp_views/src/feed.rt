@@ -45,11 +45,11 @@ impl Model for Feed {
 
     ghost use Rattle.gp_views.specs.Images.{IsWhole, shown_of};
 
-    ghost view = { λ f. f.end.desk.shown.value.goal.value };
+    ghost view = { λ f. f.end.desk.shown.value.goal };
 
     ghost invariant = { λ f. IsWhole (shown_of f.end.desk.shown.value)
-        × (arc_value f.count ≡ count_of f.end.desk.shown.value.goal.value.feed)
-        × ForSome f.mark (λ m. m ≡ f.end.desk.shown.value.goal.value)
+        × (arc_value f.count ≡ count_of f.end.desk.shown.value.goal.feed)
+        × ForSome f.mark (λ m. m ≡ f.end.desk.shown.value.goal)
         × (f.stale ≡ false → drop f.end.behind f.end.log.items ≡ []) };
 }
 
@@ -163,7 +163,7 @@ impl Feed {
 }
 
 fn mark_of(image: &Image) -> Option<Mark>
-    ensures { IfSome result (λ m. m ≡ image.now.goal.value) }
+    ensures { IfSome result (λ m. m ≡ image.now.goal) }
 {
     match &image.mark {
         Some(mark) => Some(mark.copy()),
@@ -183,7 +183,7 @@ fn first_end<R: Wait>(
     requires count { arc_value count.now ≡ count_of mark.now.feed }
     requires empty { mark.now.list ≡ [] }
     ensures image { IfOk result (λ end. IsWhole (shown_of end.desk.shown.value)
-        × (end.desk.shown.value.goal.value ≡ mark.now)) }
+        × (end.desk.shown.value.goal ≡ mark.now)) }
     ensures none_left { IfOk result (λ end. drop end.behind end.log.items ≡ []) }
     ensures sight { IfOk result (λ end. known (view end.desk.place) ≡ Some mark.now.feed) }
 {
@@ -244,9 +244,9 @@ fn append(
 ) -> Result<(), NoMemory>
     requires fresh { stale ≡ false → drop end.old.behind end.old.log.items ≡ [] }
     requires whole { IsWhole (shown_of end.old.desk.shown.value) }
-    requires more { Extends ran.now end.old.desk.shown.value.goal.value.list
-        × (before ≡ length end.old.desk.shown.value.goal.value.list) }
-    requires batch { batch ≡ record { feed = end.old.desk.shown.value.goal.value.feed; list = ran.now } }
+    requires more { Extends ran.now end.old.desk.shown.value.goal.list
+        × (before ≡ length end.old.desk.shown.value.goal.list) }
+    requires batch { batch ≡ record { feed = end.old.desk.shown.value.goal.feed; list = ran.now } }
     ensures desk { end.new.desk ≡ end.old.desk }
     ensures follows { OnOk result (MayFollow (shown_of end.old.desk.shown.value)
         (drop end.new.behind end.new.log.items)) }
@@ -260,10 +260,10 @@ fn append(
 // Appends the commands alone. Where changes were left behind it begins anew.
 fn run_rest(end: &mut FeedEnd, stale: bool, ran: &History, before: usize) -> Result<(), NoMemory>
     requires fresh { stale ≡ false → drop end.old.behind end.old.log.items ≡ [] }
-    requires more { Extends ran.now end.old.desk.shown.value.goal.value.list
-        × (before ≡ length end.old.desk.shown.value.goal.value.list) }
+    requires more { Extends ran.now end.old.desk.shown.value.goal.list
+        × (before ≡ length end.old.desk.shown.value.goal.list) }
     ensures desk { end.new.desk ≡ end.old.desk }
-    ensures listed { OnOk result (listed end.old.desk.shown.value.goal.value.list
+    ensures listed { OnOk result (listed end.old.desk.shown.value.goal.list
         (drop end.new.behind end.new.log.items) ≡ ran.now) }
 {
     if stale {
@@ -303,7 +303,7 @@ fn show<R: Wait>(end: FeedEnd, rt: &R) -> (FeedEnd, Result<(), AllocError>)
     ensures shown { OnOk result.1 (shown_of result.0.desk.shown.value
         ≡ fold changed (shown_of end.desk.shown.value) (drop end.behind end.log.items)) }
     ensures none_left { OnOk result.1 (drop result.0.behind result.0.log.items ≡ []) }
-    ensures sight { OnOk result.1 (view result.0.desk.place ≡ Some result.0.desk.shown.value.goal.value) }
+    ensures sight { OnOk result.1 (view result.0.desk.place ≡ Some result.0.desk.shown.value.goal) }
     ensures unchanged { OnErr result.1 (result.0.desk.shown.value ≡ end.desk.shown.value) }
 {
     end.publish_as::<Showing, R>(rt)

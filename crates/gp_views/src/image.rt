@@ -3,13 +3,12 @@ ghost use Rattle.std.specs.Prelude.{◌≡◌, ◌+◌, IfOk, OnOk, OnErr};
 ghost use Rattle.std.specs.Option.{ForSome};
 ghost use Rattle.gp_store.specs.Effects.{after_command, store_rules};
 
-use crate::book::{Batch, Mark};
+use crate::book::{Batch, Goal, Mark};
 use gp_command::{Command, NoMemory};
 use gp_replica::Machine;
 use gp_store::KeyStore;
 use left_right::Absorb;
 use std::alloc::{AllocError, Global};
-use std::snapshot::Snapshot;
 
 /// What both copies have in common: a store, how many commands it has run, and the list that it stands for.
 /// No value of it is made.
@@ -25,10 +24,10 @@ pub struct Shown {
 pub struct Image {
     pub store: KeyStore,
     pub count: u64,
-    pub goal: Snapshot<Batch>,
+    pub goal: Goal,
     pub mark: Option<Mark>,
     alloc: Global,
-    ghost marked: { ForSome mark (λ m. m ≡ goal.value) },
+    ghost marked: { ForSome mark (λ m. m ≡ goal) },
 }
 
 /// What is done to an image.
@@ -54,7 +53,7 @@ impl Image {
         Ok(Image {
             store: KeyStore::opening(alloc)?,
             count: 0,
-            goal: Snapshot::of(batch),
+            goal: Goal::of(batch),
             mark: Some(mark.copy()),
             alloc,
         })
@@ -88,7 +87,7 @@ impl Image {
         requires { ForSome mark (λ m. m ≡ batch.now) }
         ensures { shown_of self.new ≡ record (shown_of self.old) { goal = batch.now } }
     {
-        self.goal = Snapshot::of(batch);
+        self.goal = Goal::of(batch);
         self.mark = mark;
     }
 }

@@ -33,7 +33,7 @@ pub struct Showing;
 impl Outcome<Image, Option<Mark>> for Showing {
     ghost use Rattle.std.specs.Prelude.{◌≡◌, Some};
 
-    ghost then = { λ v x y w. w ≡ Some y.goal.value };
+    ghost then = { λ v x y w. w ≡ Some y.goal };
 }
 
 /// A seat that is told of the feed.

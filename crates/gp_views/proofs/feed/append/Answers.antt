@@ -15,5 +15,5 @@ returns-clause-follows c =
     let changes : List Change = drop run.behind run.log.items in
     let all : List Change = drop new.behind new.log.items in
     let is : Published = c.args.batch in
-    on_ok_weaker c.put.result (λ (e : all ≡ changes ++ Reach is ∷ []). may_follow (shown_of shown) shown.goal.value.list is changes all c.requires.whole
+    on_ok_weaker c.put.result (λ (e : all ≡ changes ++ Reach is ∷ []). may_follow (shown_of shown) shown.goal.list is changes all c.requires.whole
     (ap (λ (p : Published). p.feed) c.requires.batch) (c.in_ok-run_rest.ensures.listed ∙ sym (ap (λ (p : Published). p.list) c.requires.batch)) e) c.put.ensures.appended

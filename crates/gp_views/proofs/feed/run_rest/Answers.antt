@@ -15,7 +15,7 @@ returns-in_ok-put-clause-listed c =
     let before : List Change = drop old.behind old.log.items in
     let between : List Change = drop put.behind put.log.items in
     let after : List Change = drop new.behind new.log.items in
-    on_ok_weaker c.run_from.result (λ (is : after ≡ between ++ map Run ran). listed_anew ran old.desk.shown.value.goal.value.list before between after c.in_ok-put.ensures.appended is) c.run_from.ensures.appended
+    on_ok_weaker c.run_from.result (λ (is : after ≡ between ++ map Run ran). listed_anew ran old.desk.shown.value.goal.list before between after c.in_ok-put.ensures.appended is) c.run_from.ensures.appended
 
 pub returns-else-stale-clause-listed : goal.returns-else-stale-clause-listed
 returns-else-stale-clause-listed c =
@@ -24,5 +24,5 @@ returns-else-stale-clause-listed c =
     let ran : List Command = c.args.ran.now in
     let before : List Change = drop old.behind old.log.items in
     let after : List Change = drop new.behind new.log.items in
-    on_ok_weaker c.run_from-else-stale.result (λ (is : after ≡ before ++ map Run (drop c.args.before ran)). listed_rest ran old.desk.shown.value.goal.value.list c.args.before before after c.requires.more.0 c.requires.more.1 (c.requires.fresh c.if-stale.false) is)
+    on_ok_weaker c.run_from-else-stale.result (λ (is : after ≡ before ++ map Run (drop c.args.before ran)). listed_rest ran old.desk.shown.value.goal.list c.args.before before after c.requires.more.0 c.requires.more.1 (c.requires.fresh c.if-stale.false) is)
     c.run_from-else-stale.ensures.appended
