@@ -1,0 +1,14 @@
+use Rattle.std.proofs.Common.{◌≡◌, List, ◌++◌, length, take, drop, ap, sym, ◌∙◌}
+use Rattle.std.proofs.lemmas.List.{take-append-drop}
+use Rattle.gp_command.specs.declared.command.Command.{Command}
+use Rattle.gp_views.specs.Lists.{Extends}
+use Rattle.gp_views_tests.proofs.histories.catch_up.Goals as goal
+
+goes_on : (before after : List Command) → take (length before) after ≡ before → Extends after before
+goes_on before after start = (drop (length before) after, sym (take-append-drop (length before) after) ∙ ap (λ (z : List Command). z ++ drop (length before) after) start)
+
+pub returns-in_err-catch_up : goal.returns-in_err-catch_up
+returns-in_err-catch_up g c = goes_on c.args.replica.now c.catch_up.new.self c.catch_up.ensures.order.start
+
+pub returns : goal.returns
+returns g c = goes_on c.args.replica.now c.catch_up.new.self c.catch_up.ensures.order.start
