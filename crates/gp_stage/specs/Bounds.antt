@@ -1,0 +1,16 @@
+-- Runs that can be settled.
+use Rattle.std.specs.Prelude.{◌≤◌, ◌+◌, ◌^◌, List, length}
+use Rattle.gp_round.specs.Counts.{Counts}
+use Rattle.gp_round.specs.Ranges.{AreInRange}
+use Rattle.gp_msg.specs.Messages.{Entry}
+use Rattle.gp_run.specs.Messages.{messages}
+use Rattle.gp_run.specs.Legal.{Legal}
+use Rattle.gp_run.specs.TopCount.{top_count}
+use Rattle.gp_driver.specs.Settling.{checkpoints, settle}
+
+-- the run is legal, and what settling asks of its rounds and its length holds
+pub record CanSettle (config : Counts) (es : List Entry) : Type 0 where
+  pub range : AreInRange config.acceptors config.coordinators config.learners
+  pub legal : Legal config es
+  pub rounds : top_count config es + checkpoints (messages es) ≤ 999999
+  pub room : length (settle config es) ≤ 2 ^ 31

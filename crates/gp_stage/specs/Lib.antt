@@ -1,0 +1,6 @@
+pub mod Held
+pub mod Gathered
+pub mod Kept
+pub mod Played
+pub mod Tops
+pub mod Bounds

@@ -1,0 +1,13 @@
+//! The cells of a wire as a stage, so that a driver can settle what their threads left.
+#![tactic(auto)]
+
+mod cells;
+mod finding;
+mod gathering;
+mod looking;
+mod playing;
+mod settling;
+mod tops;
+
+pub use cells::{CellStage, Unstaged};
+pub use settling::{MOST_ENTRIES, MOST_ROUNDS, settle_cells};

@@ -1,0 +1,58 @@
+//! Settling the run of cells.
+ghost use Rattle.std.specs.Prelude.{IsTrue, OnOk};
+ghost use Rattle.gp_run.specs.Runs.{entries_in};
+ghost use Rattle.gp_driver.specs.Settling.{settle};
+ghost use Rattle.gp_driver.specs.Stages.{HasDriven};
+ghost use Rattle.gp_driver.specs.Settled.{Settles};
+ghost use Rattle.gp_stage.specs.Held.{AreUp, stage_of, whole_list};
+ghost use Rattle.gp_stage.specs.Bounds.{CanSettle};
+
+use crate::cells::CellStage;
+use gp_driver::{StageFault, settle};
+use gp_edge::{Disk, Gate};
+use std::sync::Wait;
+
+/// A run is settled if the greatest count of a round in it and the number of its messages are together at most this.
+pub const MOST_ROUNDS: u64 = 999_999;
+
+/// A run is settled if the bound of the number of entries of the settled run is at most this.
+pub const MOST_ENTRIES: u64 = 2_147_483_648;
+
+impl<'a, D: Disk, G: Gate> CellStage<'a, D, G> {
+    // Whether the run is within the bounds of settling. It takes no memory.
+    fn can_settle(&self) -> bool
+        ensures { IsTrue result → CanSettle self.now.config (entries_in (whole_list self.now)) }
+    {
+        let _counts = (
+            self.config.acceptors(),
+            self.config.coordinators(),
+            self.config.learners(),
+        );
+        let messages = self.kinds.len() as u64;
+        let entries = self.cells[self.holder].seen();
+        messages <= MOST_ROUNDS
+            && entries <= MOST_ENTRIES
+            && self.top as u64 + messages <= MOST_ROUNDS
+            && entries + 71 * messages + 50 <= MOST_ENTRIES
+    }
+}
+
+/// Settles the run of cells that are all up: every learner then holds every command that was offered. The answer is the
+/// number of events that this took, and the first fault of a step ends it.
+///
+/// Out of memory is also the answer if the run has too many rounds and messages for `MOST_ROUNDS`, or if the settled run might
+/// be longer than `MOST_ENTRIES`.
+pub fn settle_cells<D: Disk, G: Gate, W: Wait>(
+    rt: &W,
+    stage: &mut CellStage<'_, D, G>,
+) -> Result<u64, StageFault>
+    requires { AreUp stage.old.cells }
+    ensures driven { HasDriven (stage_of D.faults stage.old) (stage_of D.faults stage.new)
+        (settle stage.old.config (entries_in (whole_list stage.old))) result }
+    ensures brings { OnOk result (Settles stage.old.config (entries_in (whole_list stage.old))) }
+{
+    if !stage.can_settle() {
+        return Err(StageFault::NoMemory);
+    }
+    settle(rt, stage)
+}
