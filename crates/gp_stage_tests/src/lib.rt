@@ -1,0 +1,6 @@
+//! Tests of the stage over cells.
+#![tactic(auto)]
+
+mod scene;
+#[cfg(test)]
+mod settled;
