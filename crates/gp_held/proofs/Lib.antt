@@ -1,0 +1,4 @@
+pub mod Drafts
+pub mod Sent
+pub mod Scripts
+pub mod Holding

@@ -1,0 +1,4 @@
+//! When every learner holds every command that a script offers.
+#![tactic(auto)]
+
+pub mod laws;
