@@ -35,3 +35,4 @@ pub mod SettleCode
 pub mod DrivingCode
 pub mod Lengths
 pub mod Worlds
+pub mod Going

@@ -1,6 +1,9 @@
 -- What a stage is, and what a driver does to it.
-use Rattle.std.specs.Prelude.{◌≡◌, ◌≤◌, ◌<◌, ◌+◌, ◌-◌, ◌^◌, ◌⊎◌, ℕ, Bool, true, false, List, length, Result, Ok, Err}
+use Rattle.std.specs.Prelude.{◌≡◌, ◌≢◌, ◌≤◌, ◌<◌, ◌+◌, ◌-◌, ◌^◌, ◌⊎◌, ℕ, Bool, true, false, List, length, Result, Ok, Err}
+use Rattle.std.specs.List.{AllZip}
 use Rattle.gp_round.specs.Counts.{Counts}
+use Rattle.gp_msg.specs.declared.node.Node.{Node}
+use Rattle.gp_msg.specs.declared.node.Node.TheVariants.{Proposer}
 use Rattle.gp_msg.specs.declared.event.Event.{Event}
 use Rattle.gp_msg.specs.declared.event.Event.TheVariants.{Offer, Begin, Take, Fall}
 use Rattle.gp_msg.specs.Messages.{Entry}
@@ -8,13 +11,50 @@ use Rattle.gp_run.specs.Legal.{fits}
 use Rattle.gp_driver.specs.declared.stage.StageFault.{StageFault}
 use Rattle.gp_driver.specs.declared.stage.StageFault.TheVariants.{NoMemory, Disk, Full}
 
--- what contracts see of a stage: its configuration, the run of its nodes with the newest entry first, how often a disk failed or a log was full, whether a step can be made, and which two numbers, the size of a log and the need of an entry, are too great for an event
+-- one node of a stage: which it is, how often its disk failed, and its events in the run, the oldest first
+pub record StageNode : Type 0 where
+  pub node : Node
+  pub faults : ℕ
+  pub events : List Event
+
+-- what contracts see of a stage: its configuration, the run of its nodes with the newest entry first, the nodes that have disks, how often a disk failed or a log was full, whether a step can be made, and which two numbers, the size of a log and the need of an entry, are too great for an event
 pub record StageState : Type 1 where
   pub config : Counts
   pub run : List Entry
+  pub nodes : List StageNode
   pub faults : ℕ
   pub is_ready : Type 0
   pub is_too_great : Event → ℕ → ℕ → Type 0
+
+-- ---- nodes
+
+-- every node
+abbrev pub Anyone : Node → Type 0
+Anyone n = Unit {0}
+
+-- no node
+abbrev pub Nobody : Node → Type 0
+Nobody n = ⊥
+
+-- every node but this one
+abbrev pub AllBut : Node → Node → Type 0
+AllBut node n = n ≢ node
+
+-- the node is a proposer
+abbrev pub IsProposer : Node → Type 0
+IsProposer n = (p : ℕ) × (n ≡ Proposer p)
+
+-- the same node later: its disk failed no less often, and if it is idle it has the same events
+pub record NodeGoes (idle : Node → Type 0) (old new : StageNode) : Type 0 where
+  pub same_node : new.node ≡ old.node
+  pub later : old.faults ≤ new.faults
+  pub rests : idle old.node → new.events ≡ old.events
+
+-- the same nodes later, in the same order
+pub record NodesGo (idle : Node → Type 0) (old new : List StageNode) : Type 0 where
+  pub each : AllZip (NodeGoes idle) old new
+
+-- ---- faults
 
 -- the event is a node's fall
 abbrev pub is_fall : Event → Bool
@@ -39,6 +79,8 @@ abbrev pub HasCause : ℕ → ℕ → (ℕ → ℕ → Type 0) → StageFault �
 HasCause before now is_too_great NoMemory = Unit {0}
 HasCause before now is_too_great Disk = Rose before now
 HasCause before now is_too_great (Full size need) = Rose before now × is_too_great size need
+
+-- ---- what a driver did
 
 -- the run is the one that was meant, the number is that of the entries which were added, and the next step can be made; or the fault has a cause
 abbrev pub Outcome : List Entry → List Entry → List Entry → Type 0 → (StageFault → Type 0) → Result ℕ StageFault → Type 0

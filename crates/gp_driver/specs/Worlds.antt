@@ -1,7 +1,8 @@
 -- A world as a stage.
+use Rattle.std.specs.Prelude.{[]}
 use Rattle.gp_world.specs.State.{WorldState, entries_of}
 use Rattle.gp_driver.specs.Stages.{StageState}
 
--- a world is always ready, no disk of it fails, and no log is full
+-- a world is always ready, and no log is full. Its nodes have no disks, so none is listed
 abbrev pub stage_of : WorldState → StageState
-stage_of w = record { config = w.config; run = entries_of w; faults = 0; is_ready = Unit {0}; is_too_great = λ event size need. ⊥ }
+stage_of w = record { config = w.config; run = entries_of w; nodes = []; faults = 0; is_ready = Unit {0}; is_too_great = λ event size need. ⊥ }

@@ -4,7 +4,7 @@ ghost use Rattle.gp_msg.specs.declared.event.Event.TheVariants.{Begin};
 ghost use Rattle.gp_run.specs.Runs.{entry_after};
 ghost use Rattle.gp_driver.specs.Driving.{first_round, opened, driven, all_driven, drive_multi};
 ghost use Rattle.gp_driver.specs.Driven.{AreNoCheckpoints, DrivesMulti};
-ghost use Rattle.gp_driver.specs.Stages.{HasDriven};
+ghost use Rattle.gp_driver.specs.Stages.{HasDriven, IsProposer, Nobody, NodesGo};
 
 use crate::stage::{Stage, StageFault, config_of};
 use crate::sweep::{Role, make, sweep};
@@ -18,8 +18,9 @@ fn begin_first<S: Stage, W: Wait>(rt: &W, stage: &mut S) -> Result<u64, StageFau
     requires ready { (S.state stage.old).is_ready }
     requires two { 2 ≤ (S.state stage.old).config.coordinators }
     requires room { length (S.state stage.old).run < 2 ^ 31 }
-    ensures { HasDriven (S.state stage.old) (S.state stage.new)
+    ensures driven { HasDriven (S.state stage.old) (S.state stage.new)
         (entry_after (S.state stage.old).config (S.state stage.old).run (Begin 0 first_round) ∷ (S.state stage.old).run) result }
+    ensures nodes { NodesGo IsProposer (S.state stage.old).nodes (S.state stage.new).nodes }
 {
     let round = Round {
         count: 1,
@@ -43,8 +44,9 @@ fn lead_first<S: Stage, W: Wait>(rt: &W, stage: &mut S, config: &Config) -> Resu
     requires two { 2 ≤ (S.state stage.old).config.coordinators }
     requires nothing { (S.state stage.old).run ≡ [] }
     requires room { length (opened (S.state stage.old).config) ≤ 2 ^ 31 }
-    ensures { HasDriven (S.state stage.old) (S.state stage.new)
+    ensures driven { HasDriven (S.state stage.old) (S.state stage.new)
         (opened (S.state stage.old).config) result }
+    ensures nodes { NodesGo IsProposer (S.state stage.old).nodes (S.state stage.new).nodes }
 {
     let begun = begin_first(rt, stage)?;
     let acceptors = config.acceptors();
@@ -68,8 +70,9 @@ fn drive_one<S: Stage, W: Wait>(
     requires config { config.now ≡ (S.state stage.old).config }
     requires two { 2 ≤ (S.state stage.old).config.coordinators }
     requires room { length (driven (S.state stage.old).config draft (S.state stage.old).run) ≤ 2 ^ 31 }
-    ensures { HasDriven (S.state stage.old) (S.state stage.new)
+    ensures driven { HasDriven (S.state stage.old) (S.state stage.new)
         (driven (S.state stage.old).config draft (S.state stage.old).run) result }
+    ensures nodes { NodesGo Nobody (S.state stage.old).nodes (S.state stage.new).nodes }
 {
     let start = stage.messages();
     let offered = make(rt, stage, Event::Offer { proposer: 0, draft })?;
@@ -104,8 +107,9 @@ fn drive_each<S: Stage, W: Wait>(
     requires config { config.now ≡ (S.state stage.old).config }
     requires two { 2 ≤ (S.state stage.old).config.coordinators }
     requires room { length (all_driven (S.state stage.old).config drafts.items (S.state stage.old).run) ≤ 2 ^ 31 }
-    ensures { HasDriven (S.state stage.old) (S.state stage.new)
+    ensures driven { HasDriven (S.state stage.old) (S.state stage.new)
         (all_driven (S.state stage.old).config drafts.items (S.state stage.old).run) result }
+    ensures nodes { NodesGo Nobody (S.state stage.old).nodes (S.state stage.new).nodes }
 {
     let mut events: u64 = 0;
     for draft in drafts {
@@ -136,6 +140,7 @@ pub fn drive_multi<S: Stage, W: Wait>(
     requires room { length (drive_multi (S.state stage.old).config drafts.items) ≤ 2 ^ 31 }
     ensures driven { HasDriven (S.state stage.old) (S.state stage.new)
         (drive_multi (S.state stage.old).config drafts.items) result }
+    ensures nodes { NodesGo Nobody (S.state stage.old).nodes (S.state stage.new).nodes }
     ensures brings { DrivesMulti (S.state stage.old).config drafts.items }
 {
     let config = config_of(stage);

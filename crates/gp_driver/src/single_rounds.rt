@@ -9,7 +9,7 @@ ghost use Rattle.gp_driver.specs.Sweeps.{places, swept};
 ghost use Rattle.gp_driver.specs.Roles.{node_of};
 ghost use Rattle.gp_driver.specs.declared.sweep.Role.TheVariants as Role;
 ghost use Rattle.gp_driver.specs.Settling.{closings, closed, pass, passes, CanPass, settle, checkpoints};
-ghost use Rattle.gp_driver.specs.Stages.{HasDriven};
+ghost use Rattle.gp_driver.specs.Stages.{HasDriven, IsProposer, NodesGo};
 ghost use Rattle.gp_driver.specs.Settled.{Settles};
 
 use crate::stage::{Stage, StageFault, config_of};
@@ -30,8 +30,9 @@ fn close<S: Stage, W: Wait>(
     requires lead { 0 < (S.state stage.old).config.coordinators }
     requires sent { k < length (messages (S.state stage.old).run) }
     requires room { length (closed (S.state stage.old).config k (S.state stage.old).run) ≤ 2 ^ 31 }
-    ensures { HasDriven (S.state stage.old) (S.state stage.new)
+    ensures driven { HasDriven (S.state stage.old) (S.state stage.new)
         (closed (S.state stage.old).config k (S.state stage.old).run) result }
+    ensures nodes { NodesGo IsProposer (S.state stage.old).nodes (S.state stage.new).nodes }
 {
     let leader = show(rt, stage, Role::Coordinator, 1, k)?;
     let voters = show(rt, stage, Role::Acceptor, config.acceptors(), k)?;
@@ -45,8 +46,9 @@ fn pass_once<S: Stage, W: Wait>(rt: &W, stage: &mut S, config: &Config) -> Resul
     requires lead { 0 < (S.state stage.old).config.coordinators }
     requires round { top_count (S.state stage.old).config (S.state stage.old).run < 1000000 }
     requires room { length (pass (S.state stage.old).config (S.state stage.old).run) ≤ 2 ^ 31 }
-    ensures { HasDriven (S.state stage.old) (S.state stage.new)
+    ensures driven { HasDriven (S.state stage.old) (S.state stage.new)
         (pass (S.state stage.old).config (S.state stage.old).run) result }
+    ensures nodes { NodesGo IsProposer (S.state stage.old).nodes (S.state stage.new).nodes }
 {
     let start = stage.messages();
     let round = Round {
@@ -83,8 +85,9 @@ fn spread<S: Stage, W: Wait>(
     requires lead { 0 < (S.state stage.old).config.coordinators }
     requires sent { k < length (messages (S.state stage.old).run) }
     requires room { length (closings (S.state stage.old).config (k ∷ []) (S.state stage.old).run) ≤ 2 ^ 31 }
-    ensures { HasDriven (S.state stage.old) (S.state stage.new)
+    ensures driven { HasDriven (S.state stage.old) (S.state stage.new)
         (closings (S.state stage.old).config (k ∷ []) (S.state stage.old).run) result }
+    ensures nodes { NodesGo IsProposer (S.state stage.old).nodes (S.state stage.new).nodes }
 {
     let closers = close(rt, stage, config, k)?;
     let learners = show(rt, stage, Role::Learner, config.learners(), k)?;
@@ -98,8 +101,9 @@ fn take_finals<S: Stage, W: Wait>(rt: &W, stage: &mut S, config: &Config) -> Res
     requires lead { 0 < (S.state stage.old).config.coordinators }
     requires room { length (closings (S.state stage.old).config (places Kind.Final 0 (messages (S.state stage.old).run)) (S.state stage.old).run)
         ≤ 2 ^ 31 }
-    ensures { HasDriven (S.state stage.old) (S.state stage.new)
+    ensures driven { HasDriven (S.state stage.old) (S.state stage.new)
         (closings (S.state stage.old).config (places Kind.Final 0 (messages (S.state stage.old).run)) (S.state stage.old).run) result }
+    ensures nodes { NodesGo IsProposer (S.state stage.old).nodes (S.state stage.new).nodes }
 {
     let end = stage.messages();
     let mut taken: u64 = 0;
@@ -123,8 +127,9 @@ fn make_passes<S: Stage, W: Wait>(
     requires lead { 0 < (S.state stage.old).config.coordinators }
     requires can { CanPass (S.state stage.old).config limit (S.state stage.old).run }
     requires room { length (passes (S.state stage.old).config limit (S.state stage.old).run) ≤ 2 ^ 31 }
-    ensures { HasDriven (S.state stage.old) (S.state stage.new)
+    ensures driven { HasDriven (S.state stage.old) (S.state stage.new)
         (passes (S.state stage.old).config limit (S.state stage.old).run) result }
+    ensures nodes { NodesGo IsProposer (S.state stage.old).nodes (S.state stage.new).nodes }
 {
     let mut events: u64 = 0;
     for _pass in 0..limit {
@@ -147,7 +152,8 @@ fn make_passes<S: Stage, W: Wait>(
 /// pass follows. Nodes take messages one node after another, in the order of their numbers.
 ///
 /// Out of memory (`NoMemory`) may come at any step. A disk's fault and a full log come only if the stage's count
-/// of faults rose, and a full log comes with the numbers of one event that fits the run as it is then.
+/// of faults rose, and a full log comes with the numbers of one event that fits the run as it is then. Whatever the
+/// answer is, no proposer has an event in it.
 pub fn settle<S: Stage, W: Wait>(rt: &W, stage: &mut S) -> Result<u64, StageFault>
     requires ready { (S.state stage.old).is_ready }
     requires legal { Legal (S.state stage.old).config (S.state stage.old).run }
@@ -156,6 +162,7 @@ pub fn settle<S: Stage, W: Wait>(rt: &W, stage: &mut S) -> Result<u64, StageFaul
     requires room { length (settle (S.state stage.old).config (S.state stage.old).run) ≤ 2 ^ 31 }
     ensures driven { HasDriven (S.state stage.old) (S.state stage.new)
         (settle (S.state stage.old).config (S.state stage.old).run) result }
+    ensures nodes { NodesGo IsProposer (S.state stage.old).nodes (S.state stage.new).nodes }
     ensures brings { Settles (S.state stage.old).config (S.state stage.old).run }
 {
     let config = config_of(stage);

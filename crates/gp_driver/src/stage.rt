@@ -4,10 +4,11 @@ ghost use Rattle.std.specs.Option.{option_map};
 ghost use Rattle.gp_round.specs.Ranges.{AreInRange};
 ghost use Rattle.gp_run.specs.Messages.{messages};
 ghost use Rattle.gp_run.specs.Legal.{fits};
+ghost use Rattle.gp_run.specs.Nodes.{node_of};
 ghost use Rattle.gp_run.specs.Runs.{entry_after};
 ghost use Rattle.gp_run.specs.TopCount.{top_count};
 ghost use Rattle.gp_driver.specs.Kinds.{kind_of};
-ghost use Rattle.gp_driver.specs.Stages.{is_fall, HasCause};
+ghost use Rattle.gp_driver.specs.Stages.{is_fall, AllBut, Anyone, HasCause, NodesGo};
 
 use gp_msg::{Event, MsgKind};
 use gp_round::Config;
@@ -26,7 +27,8 @@ pub enum StageFault {
 
 /// All nodes of a configuration, with the run that they made, where a driver makes one step after
 /// another. A step may fail, and a stage counts how often a disk failed or a log was full. The count
-/// stays at its last value once it is there.
+/// stays at its last value once it is there. The nodes that have disks keep their order, and the count of
+/// faults of each disk never falls.
 pub trait Stage {
     ghost use Rattle.gp_driver.specs.Stages.{StageState};
 
@@ -44,19 +46,20 @@ pub trait Stage {
     fn messages(&self) -> u64
         ensures { result ≡ length (messages (state self.now).run) };
 
-    /// The kind of message k, from 0, if so many were sent. It takes no memory. The run stays, and so does
-    /// that a step can be made.
+    /// The kind of message k, from 0, if so many were sent. It takes no memory. The run stays, and so do the events
+    /// of each node, and that a step can be made.
     fn kind<W: Wait>(&mut self, rt: &W, k: u64) -> Option<MsgKind>
         ensures kind { result ≡ option_map kind_of (slice_get (messages (state self.old).run) k) }
         ensures config { (state self.new).config ≡ (state self.old).config }
         ensures run { (state self.new).run ≡ (state self.old).run }
         ensures later { (state self.old).faults ≤ (state self.new).faults }
+        ensures nodes { NodesGo Anyone (state self.old).nodes (state self.new).nodes }
         ensures ready { (state self.old).is_ready → (state self.new).is_ready };
 
-    /// An event that fits happens: one entry is added, and the answer is the number of messages after it.
-    /// After a refusal the run is as before, and perhaps no further step can be made. A disk's fault and a
-    /// full log come only where the count of faults rose, and a full log tells numbers that are too great
-    /// for the event.
+    /// An event that fits happens: one entry is added, and the answer is the number of messages after it. All nodes
+    /// but that of the event keep their events. After a refusal the run is as before, each node keeps its events, and
+    /// perhaps no further step can be made. A disk's fault and a full log come only where the count of faults rose, and
+    /// a full log tells numbers that are too great for the event.
     fn step<W: Wait>(&mut self, rt: &W, event: Event) -> Result<u64, StageFault>
         requires ready { (state self.old).is_ready }
         requires room { length (state self.old).run < 2 ^ 31 }
@@ -69,6 +72,8 @@ pub trait Stage {
         ensures unchanged { OnErr result ((state self.new).run ≡ (state self.old).run) }
         ensures config { (state self.new).config ≡ (state self.old).config }
         ensures later { (state self.old).faults ≤ (state self.new).faults }
+        ensures nodes { NodesGo (AllBut (node_of event)) (state self.old).nodes (state self.new).nodes }
+        ensures idle { OnErr result (NodesGo Anyone (state self.old).nodes (state self.new).nodes) }
         ensures cause { IfErr result (HasCause (state self.old).faults (state self.new).faults
             ((state self.new).is_too_great event)) };
 }

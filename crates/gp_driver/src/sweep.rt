@@ -2,11 +2,12 @@
 ghost use Rattle.std.specs.Prelude.{◌≡◌, ◌<◌, ◌≤◌, ◌^◌, ◌∷◌, [], ℕ, true, false, length, slice_get};
 ghost use Rattle.gp_run.specs.Legal.{fits};
 ghost use Rattle.gp_run.specs.Nodes.{is_present};
+ghost use Rattle.gp_run.specs.Nodes as run_nodes;
 ghost use Rattle.gp_run.specs.Messages.{messages};
 ghost use Rattle.gp_run.specs.Runs.{entry_after};
 ghost use Rattle.gp_driver.specs.Sweeps.{is_there, places, took, swept, sweep, first_place};
 ghost use Rattle.gp_driver.specs.Roles.{node_of};
-ghost use Rattle.gp_driver.specs.Stages.{is_fall, HasDriven};
+ghost use Rattle.gp_driver.specs.Stages.{is_fall, AllBut, Anyone, HasDriven, IsProposer, NodesGo};
 
 use crate::stage::{Stage, StageFault};
 use gp_msg::{Event, MsgKind, Node};
@@ -18,6 +19,7 @@ pub fn is_kind<S: Stage, W: Wait>(rt: &W, stage: &mut S, kind: MsgKind, k: u64) 
     ensures config { (S.state stage.new).config ≡ (S.state stage.old).config }
     ensures run { (S.state stage.new).run ≡ (S.state stage.old).run }
     ensures later { (S.state stage.old).faults ≤ (S.state stage.new).faults }
+    ensures nodes { NodesGo Anyone (S.state stage.old).nodes (S.state stage.new).nodes }
     ensures ready { (S.state stage.old).is_ready → (S.state stage.new).is_ready }
 {
     match stage.kind(rt, k) {
@@ -40,8 +42,9 @@ pub fn take_all<S: Stage, W: Wait>(
     requires order { start ≤ end }
     requires within { end ≤ length (messages (S.state stage.old).run) }
     requires room { length (took (S.state stage.old).config node kind start end (S.state stage.old).run) ≤ 2 ^ 31 }
-    ensures { HasDriven (S.state stage.old) (S.state stage.new)
+    ensures driven { HasDriven (S.state stage.old) (S.state stage.new)
         (took (S.state stage.old).config node kind start end (S.state stage.old).run) result }
+    ensures nodes { NodesGo (AllBut node) (S.state stage.old).nodes (S.state stage.new).nodes }
 {
     let mut taken: u64 = 0;
     for k in start..end {
@@ -91,8 +94,9 @@ pub fn sweep<S: Stage, W: Wait>(
     requires order { start ≤ length (messages (S.state stage.old).run) }
     requires room { length (sweep (S.state stage.old).config (node_of role) count kind start (S.state stage.old).run)
         ≤ 2 ^ 31 }
-    ensures { HasDriven (S.state stage.old) (S.state stage.new)
+    ensures driven { HasDriven (S.state stage.old) (S.state stage.new)
         (sweep (S.state stage.old).config (node_of role) count kind start (S.state stage.old).run) result }
+    ensures nodes { NodesGo IsProposer (S.state stage.old).nodes (S.state stage.new).nodes }
 {
     let end = stage.messages();
     let mut taken: u64 = 0;
@@ -108,8 +112,9 @@ pub fn make<S: Stage, W: Wait>(rt: &W, stage: &mut S, event: Event) -> Result<u6
     requires room { length (S.state stage.old).run < 2 ^ 31 }
     requires no_fall { is_fall event ≡ false }
     requires fits { fits (S.state stage.old).config (S.state stage.old).run event ≡ true }
-    ensures { HasDriven (S.state stage.old) (S.state stage.new)
+    ensures driven { HasDriven (S.state stage.old) (S.state stage.new)
         (entry_after (S.state stage.old).config (S.state stage.old).run event ∷ (S.state stage.old).run) result }
+    ensures nodes { NodesGo (AllBut (run_nodes.node_of event)) (S.state stage.old).nodes (S.state stage.new).nodes }
 {
     match stage.step(rt, event) {
         Ok(_) => Ok(1),
@@ -130,8 +135,9 @@ pub fn show<S: Stage, W: Wait>(
     requires sent { k < length (messages (S.state stage.old).run) }
     requires room { length (swept (S.state stage.old).config (node_of role) count (k ∷ []) (S.state stage.old).run)
         ≤ 2 ^ 31 }
-    ensures { HasDriven (S.state stage.old) (S.state stage.new)
+    ensures driven { HasDriven (S.state stage.old) (S.state stage.new)
         (swept (S.state stage.old).config (node_of role) count (k ∷ []) (S.state stage.old).run) result }
+    ensures nodes { NodesGo IsProposer (S.state stage.old).nodes (S.state stage.new).nodes }
 {
     let mut taken: u64 = 0;
     for i in 0..count {
@@ -152,6 +158,7 @@ pub fn first_since<S: Stage, W: Wait>(
     ensures config { (S.state stage.new).config ≡ (S.state stage.old).config }
     ensures run { (S.state stage.new).run ≡ (S.state stage.old).run }
     ensures later { (S.state stage.old).faults ≤ (S.state stage.new).faults }
+    ensures nodes { NodesGo Anyone (S.state stage.old).nodes (S.state stage.new).nodes }
     ensures ready { (S.state stage.old).is_ready → (S.state stage.new).is_ready }
 {
     let end = stage.messages();

@@ -15,7 +15,7 @@ use Rattle.gp_rules.specs.declared.rules.PaxosRules.{PaxosRules}
 use Rattle.gp_cell.specs.Cells.{CellState, IsSameBut}
 use Rattle.gp_node.specs.Endings.{AreAllCells}
 use Rattle.gp_stage.specs.Held.{AreAllNodes, AreCellsOf, seen_by}
-use Rattle.gp_stage.specs.Gathered.{AreGathered, AreSameBut, BeginsWith, HasLooked}
+use Rattle.gp_stage.specs.Gathered.{AreBehind, AreGathered, AreSameBut, HasLooked}
 use Rattle.gp_stage.specs.Kept.{IsKept}
 use Rattle.gp_stage.specs.Tops.{AreTrue, top_of_cells}
 use Rattle.gp_stage.proofs.Taking.{same_length}
@@ -57,8 +57,8 @@ module _ {D : Type 0} (wire : WireState PaxosRules) (config : Counts) (old lent 
       pub all_refilled : AreAllCells wire (slice_set (refilled len mid old) 0 looked)
       all_refilled = subst (λ l. AreAllCells wire (slice_set l 0 looked)) (sym refill) (all_back wire config old mid (length mid) gathered refl nodes cells config_is one at looked but turn)
 
-      pub lists_refilled : (i : ℕ) (c : CellState D) → slice_get old i ≡ Some c → BeginsWith (seen_by (slice_get (slice_set (refilled len mid old) 0 looked) 0)) (records c.pass)
-      lists_refilled i c e = subst (λ l. BeginsWith (seen_by (slice_get (slice_set l 0 looked) 0)) (records c.pass)) (sym refill) (lists_now wire config old mid (length mid) gathered refl nodes cells config_is one at looked but turn i c e)
+      pub lists_refilled : AreBehind old (seen_by (slice_get (slice_set (refilled len mid old) 0 looked) 0))
+      lists_refilled = subst (λ l. AreBehind old (seen_by (slice_get (slice_set l 0 looked) 0))) (sym refill) (lists_now wire config old mid (length mid) gathered refl nodes cells config_is one at looked but turn)
 
       pub kept_refilled : Each (λ e. Has e.item.node looked.pass.all) looked.pass.seen → (kinds : List MsgKind) (sent cells_top top : ℕ) → kinds ≡ map kind_of (messages_in (records looked.pass))
           → sent ≡ top_of_messages (map message_of (messages_in (records looked.pass))) → cells_top ≡ top_of_cells (slice_set (refilled len mid old) 0 looked) → AreTrue (slice_set (refilled len mid old) 0 looked)

@@ -17,7 +17,7 @@ use Rattle.gp_rules.specs.declared.rules.PaxosRules.{PaxosRules}
 use Rattle.gp_cell.specs.Cells.{CellState, IsSameBut}
 use Rattle.gp_node.specs.Endings.{AreAllCells}
 use Rattle.gp_stage.specs.Held.{AreAllNodes, AreCellsOf, AreUp, seen_by}
-use Rattle.gp_stage.specs.Gathered.{AreGathered, AreSameBut, BeginsWith, HasLooked, IsPlaced, rest_of}
+use Rattle.gp_stage.specs.Gathered.{AreBehind, AreGathered, AreSameBut, HasLooked, IsBehind, IsPlaced, rest_of}
 use Rattle.gp_stage.specs.Kept.{AreHeld, IsKept}
 use Rattle.gp_stage.specs.Tops.{AreTrue, top_of_cells}
 use Rattle.gp_stage.proofs.Places.{same_at, within, set_here, set_other, image_at}
@@ -118,7 +118,7 @@ module _ {D : Type 0} (wire : WireState PaxosRules) (config : Counts) (old mid :
     pub whole_now : seen_by (slice_get (slice_set mid 0 looked) 0) ≡ records looked.pass
     whole_now = ap seen_by here
 
-    -- the whole list begins with what each cell had seen
-    pub lists_now : (i : ℕ) (c : CellState D) → slice_get old i ≡ Some c → BeginsWith (seen_by (slice_get (slice_set mid 0 looked) 0)) (records c.pass)
-    lists_now i c e = let b = g.lists i c (let l = within old i c e in let s = same_length old mid g.same in omega (arith, l, long, s)) e in
-        (b.0, whole_now ∙ seen_same wire config old mid (slice_set mid 0 looked) n g all_met looked here others but_first turn_first ∙ b.1)
+    -- the whole list begins with what each cell had seen, with no more records of its node
+    pub lists_now : AreBehind old (seen_by (slice_get (slice_set mid 0 looked) 0))
+    lists_now i c e = subst (IsBehind c.node (records c.pass)) (sym (whole_now ∙ seen_same wire config old mid (slice_set mid 0 looked) n g all_met looked here others but_first turn_first))
+        (g.lists i c (let l = within old i c e in let s = same_length old mid g.same in omega (arith, l, long, s)) e)

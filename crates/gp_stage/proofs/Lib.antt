@@ -17,6 +17,7 @@ pub mod Sending
 pub mod Stepping
 pub mod Knowing
 pub mod Learning
+pub mod Nodes
 pub mod Performing
 pub mod Founding
 pub mod Steps

@@ -21,20 +21,13 @@ use Rattle.gp_cell.specs.Cells.{CellState, OwnLawful}
 use Rattle.gp_cell.specs.Working.{IsAt}
 use Rattle.gp_cell.proofs.Lawfully.{lawful_more}
 use Rattle.gp_stage.specs.Held.{with_pass}
-use Rattle.gp_stage.specs.Gathered.{HasMet, IsBehind, IsPlaced, IsGathered, AreGathered, AreSameBut, BeginsWith, rest_of}
-use Rattle.gp_stage.proofs.Places.{same_at, same_list}
+use Rattle.gp_stage.specs.Gathered.{HasMet, IsBehind, IsPlaced, IsGathered, AreGathered, AreSameBut, rest_of}
+use Rattle.gp_stage.proofs.Places.{same_at, same_list, image_at}
 
 -- what a list that begins with what a pass has seen has of a node that the pass holds was lawful, if it was in that pass's list
 pub lawful_begun : (config : Counts) (n : Node) (p : PassState) (list : List Post) → Begins list (old_of p) → Has n p.holds → OwnLawful config n (records p) → OwnLawful config n (items list)
 lawful_begun config n p list b h lawful = subst (OwnLawful config n) (sym (ap items b.split ∙ map-append record_of p.seen b.rest))
     (lawful_more config n (records p) (items b.rest) lawful (own_foreign n p.holds b.rest h b.foreign))
-
--- a list that begins with what a pass has seen
-begun : (p : PassState) (list : List Post) (b : Begins list (old_of p)) → items list ≡ records p ++ items b.rest
-begun p list b = ap items b.split ∙ map-append record_of p.seen b.rest
-
-begins_on : (start list all : List Record) → BeginsWith list start → BeginsWith all list → BeginsWith all start
-begins_on start list all a b = (a.0 ++ b.0, b.1 ∙ ap (λ l. l ++ b.0) a.1 ∙ append_assoc start a.0 b.0)
 
 pub behind_itself : (n : Node) (rs : List Record) → IsBehind n rs rs
 behind_itself n rs = record { more = []; split = sym (append-nil rs); others = refl }
@@ -123,13 +116,17 @@ module _ {D : Type 0} (wire : WireState PaxosRules) where
         (other_met m.one m.two m.second h lawful))
         (λ n'. still m.one c m.two m.first (old_met i c (omega (arith, l, n')) (sym (m.others i n n') ∙ e))))
 
-    new_lists : (i : ℕ) (c : CellState D) → i < suc k → slice_get old i ≡ Some c → BeginsWith (records (met m.one.pass m.two.pass)) (records c.pass)
+    -- the first cell's pass holds the nodes of the cells that it met before
+    held_before : (i : ℕ) (c : CellState D) → i < k → slice_get old i ≡ Some c → Has c.node m.one.pass.holds
+    held_before i c l e = let b = image_at rest_of old mid i c (sym g.same) e in subst (λ n. Has n m.one.pass.holds) (ap (λ (r : _). r.1) b.2) (old_met i b.0 l b.1).holds
+
+    new_lists : (i : ℕ) (c : CellState D) → i < suc k → slice_get old i ≡ Some c → IsBehind c.node (records c.pass) (records (met m.one.pass m.two.pass))
     new_lists i c l e = dite (ℕ_discrete i k)
         (λ at. let same : m.two ≡ c = same_at mid k m.two c m.two_is (g.later k (omega arith) ∙ subst (λ j. slice_get old j ≡ Some c) at e) in
-        subst (λ (x : CellState D). BeginsWith (records (met m.one.pass m.two.pass)) (records x.pass)) same (items m.second.rest, begun m.two.pass (met m.one.pass m.two.pass).seen m.second))
-        (λ n. let b = g.lists i c (omega (arith, l, n)) e in
-        begins_on (records c.pass) (records m.one.pass) (records (met m.one.pass m.two.pass)) (subst (λ (f : CellState D). BeginsWith (records f.pass) (records c.pass)) first_one b)
-        (items m.first.rest, begun m.one.pass (met m.one.pass m.two.pass).seen m.first))
+        subst (λ (x : CellState D). IsBehind x.node (records x.pass) (records (met m.one.pass m.two.pass))) same
+        (behind_begun m.two.node (records m.two.pass) m.two.pass (met m.one.pass m.two.pass).seen m.second h (behind_itself m.two.node (records m.two.pass))))
+        (λ n. behind_begun c.node (records c.pass) m.one.pass (met m.one.pass m.two.pass).seen m.first (held_before i c (omega (arith, l, n)) e)
+        (subst (λ (f : CellState D). IsBehind c.node (records c.pass) (records f.pass)) first_one (g.lists i c (omega (arith, l, n)) e)))
 
     pub gathered_more : AreGathered wire old new (suc k)
     gathered_more = record {
@@ -149,7 +146,7 @@ module _ {D : Type 0} (wire : WireState PaxosRules) where
     first_is = at;
     placed = λ i x l e. subst (IsPlaced wire) (only i x l e) placed;
     met = λ i x l e. subst (IsGathered wire.rules.config c) (only i x l e) (record { holds = h; behind = behind_itself c.node (records c.pass); lawful = lawful });
-    lists = λ i x l e. subst (λ (y : CellState D). BeginsWith (records c.pass) (records y.pass)) (only i x l e) ([], sym (append-nil (records c.pass)));
+    lists = λ i x l e. subst (λ (y : CellState D). IsBehind y.node (records y.pass) (records c.pass)) (only i x l e) (behind_itself c.node (records c.pass));
     same = refl;
     later = λ i l. refl;
   }

@@ -165,7 +165,7 @@ module _ (config : Counts) (n : Node) (p q : PassState) (e : Event) (x : PostsOn
   pub item_node : node_of e ≡ n → x.item.node ≡ n
   item_node is = x.lawful.own_node ∙ ap node_of x.event_is ∙ is
 
-own_other : (n : Node) (x : Record) → n ≢ x.node → own n (x ∷ []) ≡ []
+pub own_other : (n : Node) (x : Record) → n ≢ x.node → own n (x ∷ []) ≡ []
 own_other n x other = elim (same_tells n x.node) [ inl t ↦ absurd (other t.1) | inr t ↦ ap (λ b. cond b (x ∷ []) []) t.0 ]
 
 module _ {D : Type 0} (wire : WireState PaxosRules) (config : Counts) (cells new : List (CellState D)) (at : ℕ) (h : AreHeld wire config cells at) (after : CellState D) (here : slice_get new at ≡ Some after)

@@ -6,11 +6,12 @@ use Rattle.gp_round.specs.Counts.{Counts}
 use Rattle.gp_msg.specs.declared.node.Node.{Node}
 use Rattle.gp_msg.specs.declared.message.MsgKind.{MsgKind}
 use Rattle.gp_msg.specs.declared.event.Event.{Event}
+use Rattle.gp_msg.specs.declared.record.Record.{Record}
 use Rattle.gp_msg.specs.Reads.{kind_of}
 use Rattle.gp_run.specs.Messages.{messages}
 use Rattle.gp_run.specs.Runs.{entries_in, entry_after}
 use Rattle.gp_run.specs.TopCount.{top_count, top_of_messages}
-use Rattle.gp_driver.specs.Stages.{HasCause}
+use Rattle.gp_driver.specs.Stages.{AllBut, HasCause, NodesGo}
 use Rattle.gp_driver.specs.declared.stage.StageFault.{StageFault}
 use Rattle.gp_wire.specs.Known.{WireState}
 use Rattle.gp_wire.specs.Messages.{messages_in}
@@ -20,7 +21,7 @@ use Rattle.gp_work.specs.declared.faults.StepFault.TheVariants.{Full}
 use Rattle.gp_work.specs.Moves.{event_of}
 use Rattle.gp_rules.specs.declared.rules.PaxosRules.{PaxosRules}
 use Rattle.gp_cell.specs.Cells.{CellState}
-use Rattle.gp_stage.specs.Held.{HeldCells, AreUp, IsTooGreatIn, capped, disk_faults, seen_by}
+use Rattle.gp_stage.specs.Held.{HeldCells, AreUp, IsTooGreatIn, capped, disk_faults, seen_by, stage_node}
 use Rattle.gp_stage.specs.Gathered.{AreSameBut}
 use Rattle.gp_stage.specs.Kept.{AreHeld, IsKept}
 use Rattle.gp_stage.specs.Played.{HasPlayed, KnewBefore, stage_fault}
@@ -28,6 +29,7 @@ use Rattle.gp_stage.proofs.Places.{same_at, within}
 use Rattle.gp_stage.proofs.Taking.{same_length}
 use Rattle.gp_stage.proofs.Faulting.{capped_grows, both_at_most}
 use Rattle.gp_stage.proofs.Founding.{lent_back, up_still}
+use Rattle.gp_stage.proofs.Nodes.{nodes_same, posted_goes, refused_goes}
 use Rattle.gp_stage.proofs.Performing.{up_played, list_posted, count_posted, list_refused, knew, kept_refused, sum_grows, fault_caused, kept_again, sum_still}
 
 module _ {D : Type 0} (faults : D → ℕ) (wire : WireState PaxosRules) (config : Counts) (items lent played : List (CellState D)) (value : lent ≡ items) (len : ℕ) (long : len ≡ length items) (holder at : ℕ) (mv : Move) where
@@ -87,6 +89,14 @@ module _ {D : Type 0} (faults : D → ℕ) (wire : WireState PaxosRules) (config
         told_entry event x x_is e is = ap entries_in list_now ∙ list_posted faults wire items played holder at mv n p event (event_before (Ok n) p event x x_is e)
             ∙ ap (λ k. entry_after k (entries_in (seen_by (slice_get items holder))) event ∷ entries_in (seen_by (slice_get items holder))) (sym is)
 
+        -- the other nodes have the events that they had
+        pub told_nodes : (x : CellState D) → slice_get items at ≡ Some x → (node : Node) → x.node ≡ node
+            → NodesGo (AllBut node) (map (stage_node faults (seen_by (slice_get items holder))) items) (map (stage_node faults (seen_by (slice_get (take len (kept ++ last)) at))) (take len (kept ++ last)))
+        told_nodes x x_is node is =
+            subst (λ (q : List Record × List (CellState D)). NodesGo (AllBut node) (map (stage_node faults (seen_by (slice_get items holder))) items) (map (stage_node faults q.0) q.1)) (λ i. (sym list_now i, sym kept_back i))
+            (subst (NodesGo (AllBut node) (map (stage_node faults (seen_by (slice_get items holder))) items)) (sym (nodes_same faults (seen_by (slice_get played at)) again kept same ∙ ap (map (stage_node faults (seen_by (slice_get played at)))) back))
+            (posted_goes faults wire items played holder at mv n p node (ap (λ (c : CellState D). c.node) (same_at items at p.before x p.before_is x_is) ∙ is)))
+
         pub told_count : n ≡ length (messages (entries_in (seen_by (slice_get (take len (kept ++ last)) at))))
         told_count = count_posted faults wire items played holder at mv n p ∙ ap (λ rs. length (messages (entries_in rs))) (sym list_now)
 
@@ -101,6 +111,10 @@ module _ {D : Type 0} (faults : D → ℕ) (wire : WireState PaxosRules) (config
 
     pub fault_list : seen_by (slice_get (take len (played ++ rest)) at) ≡ seen_by (slice_get items holder)
     fault_list = ap (λ l. seen_by (slice_get l at)) (played_back (Err f) given rest) ∙ list_refused faults wire items played holder at mv f q
+
+    pub fault_nodes : (idle : Node → Type 0) → NodesGo idle (map (stage_node faults (seen_by (slice_get items holder))) items) (map (stage_node faults (seen_by (slice_get (take len (played ++ rest)) at))) (take len (played ++ rest)))
+    fault_nodes idle = subst (λ cells. NodesGo idle (map (stage_node faults (seen_by (slice_get items holder))) items) (map (stage_node faults (seen_by (slice_get cells at))) cells)) (sym (played_back (Err f) given rest))
+        (refused_goes faults wire items played holder at mv f q idle)
 
     pub fault_later : (fulls more : ℕ) → (fulls ≤ more) ⊎ (2 ^ 64 - 1 ≤ more) → capped (disk_faults faults items + fulls) ≤ capped (disk_faults faults (take len (played ++ rest)) + more)
     fault_later fulls more l = capped_grows (disk_faults faults items + fulls) (disk_faults faults (take len (played ++ rest)) + more) (

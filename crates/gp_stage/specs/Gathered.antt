@@ -58,20 +58,16 @@ AreSameBut old new = map rest_of new ≡ map rest_of old
 abbrev pub HasLooked : PassState → PassState → Type 0
 HasLooked p q = q ≡ record { node = p.node; wire = p.wire; all = p.all; holds = p.holds; seen = p.seen; turn = q.turn }
 
--- a list begins with another one
-abbrev pub BeginsWith : List Record → List Record → Type 0
-BeginsWith list start = (more : List Record) × (list ≡ start ++ more)
+-- a list begins with what each of the cells has seen, and what follows is not of the cell's node
+abbrev pub AreBehind : {D : Type 0} → List (CellState D) → List Record → Type 0
+AreBehind {D} cells list = (i : ℕ) (c : CellState D) → slice_get cells i ≡ Some c → IsBehind c.node (records c.pass) list
 
--- a list begins with what each of the cells has seen
-abbrev pub BeginsWithEach : {D : Type 0} → List Record → List (CellState D) → Type 0
-BeginsWithEach {D} list cells = (i : ℕ) (c : CellState D) → slice_get cells i ≡ Some c → BeginsWith list (records c.pass)
-
--- the first cell has met the cells before place k, and its list begins with what each of them had seen
+-- the first cell has met the cells before place k, and its list begins with what each of them had seen, with no more records of the cell's node
 pub record AreGathered {D : Type 0} (wire : WireState PaxosRules) (old new : List (CellState D)) (k : ℕ) : Type 0 where
   pub first : CellState D
   pub first_is : slice_get new 0 ≡ Some first
   pub placed : (i : ℕ) (c : CellState D) → i < k → slice_get new i ≡ Some c → IsPlaced wire c
   pub met : (i : ℕ) (c : CellState D) → i < k → slice_get new i ≡ Some c → IsGathered wire.rules.config first c
-  pub lists : (i : ℕ) (c : CellState D) → i < k → slice_get old i ≡ Some c → BeginsWith (records first.pass) (records c.pass)
+  pub lists : (i : ℕ) (c : CellState D) → i < k → slice_get old i ≡ Some c → IsBehind c.node (records c.pass) (records first.pass)
   pub same : AreSameBut old new
   pub later : (i : ℕ) → k ≤ i → slice_get new i ≡ slice_get old i

@@ -1,5 +1,5 @@
 -- The cells of a wire where the pass of one of them holds all nodes.
-use Rattle.std.specs.Prelude.{◌≡◌, ◌-◌, ◌+◌, ◌^◌, ℕ, true, if◌then◌else◌, nat_lt, List, [], ◌∷◌, slice_get, Option, Some, None, refl}
+use Rattle.std.specs.Prelude.{◌≡◌, ◌-◌, ◌+◌, ◌^◌, ℕ, true, if◌then◌else◌, nat_lt, List, [], ◌∷◌, map, slice_get, Option, Some, None, refl}
 use Rattle.std.specs.Coded.{Coded, code_by, coded×, coded_ℕ, coded_list}
 use Rattle.atomic_table.specs.Seated.{TableId, table_id_coded}
 use Rattle.gp_round.specs.Counts.{Counts}
@@ -12,12 +12,13 @@ use Rattle.gp_run.specs.Nodes.{is_present}
 use Rattle.gp_run.specs.Runs.{entries_in}
 use Rattle.gp_wire.specs.Lists.{Has}
 use Rattle.gp_wire.specs.Known.{WireState, PassState, records}
+use Rattle.gp_rules.specs.Own.{own_events}
 use Rattle.gp_rules.specs.declared.rules.PaxosRules.{PaxosRules}
 use Rattle.gp_cell.specs.Cells.{CellState, cell_of}
 use Rattle.gp_cell.specs.Codes.{cell_code}
 use Rattle.gp_cell.specs.Refusals.{IsTooGreat, faults_of}
 use Rattle.gp_cell.specs.Working.{IsAt}
-use Rattle.gp_driver.specs.Stages.{StageState}
+use Rattle.gp_driver.specs.Stages.{StageNode, StageState}
 
 -- the configuration, the wire and its nodes, the cells, the place of the one whose pass holds all nodes, and how often a log was full
 pub record HeldCells (D : Type 0) : Type 0 where
@@ -76,6 +77,10 @@ abbrev pub disk_faults : {D : Type 0} → (D → ℕ) → List (CellState D) →
 disk_faults faults [] = 0
 disk_faults faults (c ∷ cs) = faults_of faults c.log + disk_faults faults cs
 
+-- a cell as a node of the stage: how often its disk failed, and its events in a list
+abbrev pub stage_node : {D : Type 0} → (D → ℕ) → List Record → CellState D → StageNode
+stage_node faults list c = record { node = c.node; faults = faults_of faults c.log; events = own_events c.node list }
+
 -- a count that stays at its last value
 abbrev pub capped : ℕ → ℕ
 capped n = if nat_lt n (2 ^ 64 - 1) then n else 2 ^ 64 - 1
@@ -89,11 +94,12 @@ pub record IsTooGreatIn {D : Type 0} (h : HeldCells D) (event : Event) (size nee
   pub whole : records pass ≡ whole_list h
   pub great : IsTooGreat (with_pass cell pass) event size need
 
--- the cells as a stage: it is ready if all cells are up, and it counts how often a disk failed or a log was full
+-- the cells as a stage: each cell is one of its nodes, in their order, it is ready if all cells are up, and it counts how often a disk failed or a log was full
 abbrev pub stage_of : {D : Type 0} → (D → ℕ) → HeldCells D → StageState
 stage_of faults h = record {
   config = h.config;
   run = entries_in (whole_list h);
+  nodes = map (stage_node faults (whole_list h)) h.cells;
   faults = capped (disk_faults faults h.cells + h.fulls);
   is_ready = AreUp h.cells;
   is_too_great = λ event size need. IsTooGreatIn h event size need;

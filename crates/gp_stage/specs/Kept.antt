@@ -14,7 +14,7 @@ use Rattle.gp_wire.specs.Messages.{messages_in}
 use Rattle.gp_rules.specs.declared.rules.PaxosRules.{PaxosRules}
 use Rattle.gp_cell.specs.Cells.{CellState}
 use Rattle.gp_stage.specs.Held.{AreAllNodes, AreCellsOf, seen_by}
-use Rattle.gp_stage.specs.Gathered.{IsPlaced, IsBehind}
+use Rattle.gp_stage.specs.Gathered.{AreBehind, IsPlaced}
 
 -- there is one cell for each node of this wire. The pass of one holds all nodes; its list begins with what each cell has seen, with no more records of the cell's node, and is a legal run
 pub record AreHeld {D : Type 0} (wire : WireState PaxosRules) (config : Counts) (cells : List (CellState D)) (holder : ℕ) : Type 0 where
@@ -25,7 +25,7 @@ pub record AreHeld {D : Type 0} (wire : WireState PaxosRules) (config : Counts) 
   pub lead : CellState D
   pub lead_is : slice_get cells holder ≡ Some lead
   pub holds : (n : Node) → Has n wire.nodes → Has n lead.pass.holds
-  pub behind : (i : ℕ) (c : CellState D) → slice_get cells i ≡ Some c → IsBehind c.node (records c.pass) (records lead.pass)
+  pub behind : AreBehind cells (records lead.pass)
   pub legal : Legal config (entries_in (records lead.pass))
 
 -- and the kinds of all messages are known, and the greatest count of a round in them, and in messages and nodes

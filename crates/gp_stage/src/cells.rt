@@ -8,7 +8,7 @@ ghost use Rattle.gp_rules.specs.Lawful.{paxos_legal};
 ghost use Rattle.gp_cell.specs.Cells.{pass_of};
 ghost use Rattle.gp_node.specs.Endings.{AreAllCells};
 ghost use Rattle.gp_stage.specs.Held.{AreAllNodes, AreCellsOf, AreReady, AreUp, whole_list};
-ghost use Rattle.gp_stage.specs.Gathered.{AreSameBut, BeginsWithEach};
+ghost use Rattle.gp_stage.specs.Gathered.{AreBehind, AreSameBut};
 
 use crate::gathering::gather;
 use crate::looking::look_at_all;
@@ -65,7 +65,8 @@ pub struct Unstaged<D: Disk> {
 
 impl<'a, D: Disk, G: Gate> CellStage<'a, D, G> {
     /// The stage over the cells of all nodes of a wire, which are those of the configuration. The first cell meets all others
-    /// and looks at every message once. The list of the wire is then a legal run, which begins with what each cell had seen.
+    /// and looks at every message once. The list of the wire is then a legal run, which begins with what each cell had seen, and
+    /// what follows is of other nodes.
     pub fn new<W: Wait>(
         alloc: Global,
         rt: &W,
@@ -83,7 +84,7 @@ impl<'a, D: Disk, G: Gate> CellStage<'a, D, G> {
         ensures cells { IfOk result (λ s. AreSameBut cells.items s.cells) }
         ensures up { IfOk result (λ s. AreUp s.cells) }
         ensures legal { IfOk result (λ s. Legal config (entries_in (whole_list s))) }
-        ensures lists { IfOk result (λ s. BeginsWithEach (whole_list s) cells.items) }
+        ensures lists { IfOk result (λ s. AreBehind cells.items (whole_list s)) }
         ensures back { IfErr result (λ u. (u.wire ≡ wire)
             × AreSameBut cells.items u.cells.items × AreAllCells wire u.cells.items) }
     {

@@ -2,7 +2,7 @@
 ghost use Rattle.std.specs.Prelude.{IsTrue, OnOk};
 ghost use Rattle.gp_run.specs.Runs.{entries_in};
 ghost use Rattle.gp_driver.specs.Settling.{settle};
-ghost use Rattle.gp_driver.specs.Stages.{HasDriven};
+ghost use Rattle.gp_driver.specs.Stages.{HasDriven, IsProposer, NodesGo};
 ghost use Rattle.gp_driver.specs.Settled.{Settles};
 ghost use Rattle.gp_stage.specs.Held.{AreUp, stage_of, whole_list};
 ghost use Rattle.gp_stage.specs.Bounds.{CanSettle};
@@ -42,6 +42,9 @@ impl<'a, D: Disk, G: Gate> CellStage<'a, D, G> {
 ///
 /// Out of memory is also the answer if the run has too many rounds and messages for `MOST_ROUNDS`, or if the settled run might
 /// be longer than `MOST_ENTRIES`.
+///
+/// Whatever the answer is, the cells keep their order, the count of faults of each disk has not fallen, and no proposer has
+/// an event in it.
 pub fn settle_cells<D: Disk, G: Gate, W: Wait>(
     rt: &W,
     stage: &mut CellStage<'_, D, G>,
@@ -49,6 +52,7 @@ pub fn settle_cells<D: Disk, G: Gate, W: Wait>(
     requires { AreUp stage.old.cells }
     ensures driven { HasDriven (stage_of D.faults stage.old) (stage_of D.faults stage.new)
         (settle stage.old.config (entries_in (whole_list stage.old))) result }
+    ensures nodes { NodesGo IsProposer (stage_of D.faults stage.old).nodes (stage_of D.faults stage.new).nodes }
     ensures brings { OnOk result (Settles stage.old.config (entries_in (whole_list stage.old))) }
 {
     if !stage.can_settle() {

@@ -1,20 +1,35 @@
 -- One turn of the loop drives one draft.
-use Rattle.std.proofs.Common.{length, ap, arith}
-use Rattle.gp_driver.proofs.DrivingCode.{one_room}
+use Rattle.std.proofs.Common.{length, ap, arith, rules}
+use Rattle.gp_driver.proofs.DrivingCode.{one_room, one_on}
+use Rattle.gp_driver.proofs.Going.{nodes_still, nodes_on}
 use Rattle.gp_driver.proofs.multi_round.drive_each.Goals as goal
 
 pub drive_one-requires-clause-room : goal.drive_one-requires-clause-room
 drive_one-requires-clause-room g c =
-    let a = one_room _ _ _ _ _ _ _ _ _ _ _ _ c.loop-draft.invariant c.in-Some.ensures.steps.0 in
+    let a = one_room _ _ _ _ _ _ _ _ _ _ _ _ c.loop-draft.invariant.known c.in-Some.ensures.steps.0 in
     let r = c.requires.room in
     omega (arith, a, r)
 
 pub overflow_add-events : goal.overflow_add-events
 overflow_add-events g c =
-    let a = one_room _ _ _ _ _ _ _ _ _ _ _ _ c.loop-draft.invariant c.in-Some.ensures.steps.0 in
+    let a = one_room _ _ _ _ _ _ _ _ _ _ _ _ c.loop-draft.invariant.known c.in-Some.ensures.steps.0 in
     let r = c.requires.room in
-    let o = c.in_ok-events.ensures.outcome in
+    let o = c.in_ok-events.ensures.driven.outcome in
     let b = ap length o.0 in
     let d = o.1 in
-    let n = c.loop-draft.invariant.entries in
+    let n = c.loop-draft.invariant.known.entries in
     record { fits = omega (arith, a, b, d, n, r) }
+
+pub loop-draft-init : goal.loop-draft-init
+loop-draft-init g c = record { known = search rules; nodes = nodes_still _ _ }
+
+pub returns-in_err-events-clause-nodes : goal.returns-in_err-events-clause-nodes
+returns-in_err-events-clause-nodes g c = nodes_on _ _ _ _ c.loop-draft.invariant.nodes c.in_err-events.ensures.nodes
+
+pub loop-draft-preserved : goal.loop-draft-preserved
+loop-draft-preserved g c =
+    let o = c.in_ok-events.ensures.driven in
+    record {
+      known = one_on _ _ _ _ _ _ _ _ _ _ _ _ c.loop-draft.invariant.known c.in-Some.ensures.steps.0 _ _ _ _ _ o.same_config o.outcome.0 o.outcome.1 o.later o.outcome.2;
+      nodes = nodes_on _ _ _ _ c.loop-draft.invariant.nodes c.in_ok-events.ensures.nodes;
+    }

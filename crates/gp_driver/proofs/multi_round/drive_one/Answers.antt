@@ -5,6 +5,7 @@ use Rattle.gp_msg.specs.declared.message.MsgKind.TheVariants as Kind
 use Rattle.gp_run.specs.Messages.{messages}
 use Rattle.gp_driver.proofs.PassingCode.{same_sweep}
 use Rattle.gp_driver.proofs.DrivingCode.{offered_room, pushed_room, voted_room, voted_order}
+use Rattle.gp_driver.proofs.Going.{nodes_on, none_idle}
 use Rattle.gp_driver.proofs.multi_round.drive_one.Goals as goal
 
 pub make-requires-clause-room : goal.make-requires-clause-room
@@ -14,7 +15,7 @@ pub sweep-requires-clause-room : goal.sweep-requires-clause-room
 sweep-requires-clause-room g c =
     let config = (g.S.Stage.state c.args.stage.now).config in
     let es = (g.S.Stage.state c.args.stage.now).run in
-    let t = ap length (same_sweep _ config Coordinator 2 2 Kind.Propose _ (length (messages es)) _ _ c.in_ok-offered.ensures.same_config refl c.messages-start.ensures c.in_ok-offered.ensures.outcome.0) in
+    let t = ap length (same_sweep _ config Coordinator 2 2 Kind.Propose _ (length (messages es)) _ _ c.in_ok-offered.ensures.driven.same_config refl c.messages-start.ensures c.in_ok-offered.ensures.driven.outcome.0) in
     let a = pushed_room config c.args.draft es in
     let r = c.requires.room in
     omega (arith, t, a, r)
@@ -23,9 +24,9 @@ pub sweep-requires-2-clause-room : goal.sweep-requires-2-clause-room
 sweep-requires-2-clause-room g c =
     let config = (g.S.Stage.state c.args.stage.now).config in
     let es = (g.S.Stage.state c.args.stage.now).run in
-    let c1 = c.in_ok-offered.ensures.same_config in
-    let c2 = c.in_ok-pushed.ensures.same_config ∙ c1 in
-    let at2 = c.in_ok-pushed.ensures.outcome.0 ∙ same_sweep _ config Coordinator 2 2 Kind.Propose _ (length (messages es)) _ _ c1 refl c.messages-start.ensures c.in_ok-offered.ensures.outcome.0 in
+    let c1 = c.in_ok-offered.ensures.driven.same_config in
+    let c2 = c.in_ok-pushed.ensures.driven.same_config ∙ c1 in
+    let at2 = c.in_ok-pushed.ensures.driven.outcome.0 ∙ same_sweep _ config Coordinator 2 2 Kind.Propose _ (length (messages es)) _ _ c1 refl c.messages-start.ensures c.in_ok-offered.ensures.driven.outcome.0 in
     let n = c.acceptors.ensures.value ∙ ap (λ k. k.acceptors) c.requires.config in
     let t = ap length (same_sweep _ config Acceptor _ config.acceptors Kind.P2a _ (length (messages es)) _ _ c2 n c.messages-start.ensures at2) in
     let a = voted_room config c.args.draft es in
@@ -36,12 +37,27 @@ pub sweep-requires-3-clause-order : goal.sweep-requires-3-clause-order
 sweep-requires-3-clause-order g c =
     let config = (g.S.Stage.state c.args.stage.now).config in
     let es = (g.S.Stage.state c.args.stage.now).run in
-    let c1 = c.in_ok-offered.ensures.same_config in
-    let c2 = c.in_ok-pushed.ensures.same_config ∙ c1 in
-    let at2 = c.in_ok-pushed.ensures.outcome.0 ∙ same_sweep _ config Coordinator 2 2 Kind.Propose _ (length (messages es)) _ _ c1 refl c.messages-start.ensures c.in_ok-offered.ensures.outcome.0 in
+    let c1 = c.in_ok-offered.ensures.driven.same_config in
+    let c2 = c.in_ok-pushed.ensures.driven.same_config ∙ c1 in
+    let at2 = c.in_ok-pushed.ensures.driven.outcome.0 ∙ same_sweep _ config Coordinator 2 2 Kind.Propose _ (length (messages es)) _ _ c1 refl c.messages-start.ensures c.in_ok-offered.ensures.driven.outcome.0 in
     let n = c.acceptors.ensures.value ∙ ap (λ k. k.acceptors) c.requires.config in
-    let at3 = c.in_ok-voted.ensures.outcome.0 ∙ same_sweep _ config Acceptor _ config.acceptors Kind.P2a _ (length (messages es)) _ _ c2 n c.messages-start.ensures at2 in
+    let at3 = c.in_ok-voted.ensures.driven.outcome.0 ∙ same_sweep _ config Acceptor _ config.acceptors Kind.P2a _ (length (messages es)) _ _ c2 n c.messages-start.ensures at2 in
     let t = ap (λ zs. length (messages zs)) at3 in
     let a = voted_order config c.args.draft es in
     let b = c.messages-start.ensures in
     omega (arith, t, a, b)
+
+pub returns-in_err-offered-clause-nodes : goal.returns-in_err-offered-clause-nodes
+returns-in_err-offered-clause-nodes g c = none_idle _ _ _ c.in_err-offered.ensures.nodes
+
+pub returns-in_err-pushed-clause-nodes : goal.returns-in_err-pushed-clause-nodes
+returns-in_err-pushed-clause-nodes g c = nodes_on _ _ _ _ (none_idle _ _ _ c.in_ok-offered.ensures.nodes) (none_idle _ _ _ c.in_err-pushed.ensures.nodes)
+
+pub returns-in_err-voted-clause-nodes : goal.returns-in_err-voted-clause-nodes
+returns-in_err-voted-clause-nodes g c = nodes_on _ _ _ _ (nodes_on _ _ _ _ (none_idle _ _ _ c.in_ok-offered.ensures.nodes) (none_idle _ _ _ c.in_ok-pushed.ensures.nodes)) (none_idle _ _ _ c.in_err-voted.ensures.nodes)
+
+pub returns-in_err-heard-clause-nodes : goal.returns-in_err-heard-clause-nodes
+returns-in_err-heard-clause-nodes g c = nodes_on _ _ _ _ (nodes_on _ _ _ _ (nodes_on _ _ _ _ (none_idle _ _ _ c.in_ok-offered.ensures.nodes) (none_idle _ _ _ c.in_ok-pushed.ensures.nodes)) (none_idle _ _ _ c.in_ok-voted.ensures.nodes)) (none_idle _ _ _ c.in_err-heard.ensures.nodes)
+
+pub returns-clause-nodes : goal.returns-clause-nodes
+returns-clause-nodes g c = nodes_on _ _ _ _ (nodes_on _ _ _ _ (nodes_on _ _ _ _ (none_idle _ _ _ c.in_ok-offered.ensures.nodes) (none_idle _ _ _ c.in_ok-pushed.ensures.nodes)) (none_idle _ _ _ c.in_ok-voted.ensures.nodes)) (none_idle _ _ _ c.in_ok-heard.ensures.nodes)

@@ -4,16 +4,17 @@ use Rattle.gp_msg.specs.declared.node.Node.TheVariants.{Coordinator, Acceptor}
 use Rattle.gp_msg.specs.declared.message.MsgKind.TheVariants as Kind
 use Rattle.gp_driver.proofs.PassingCode.{same_sweep}
 use Rattle.gp_driver.proofs.DrivingCode.{opened_room3, opened_room4, opened_room5, first_begun}
+use Rattle.gp_driver.proofs.Going.{nodes_on}
 use Rattle.gp_driver.proofs.multi_round.lead_first.Goals as goal
 
 pub sweep-requires-2-clause-room : goal.sweep-requires-2-clause-room
 sweep-requires-2-clause-room g c =
     let config = (g.S.Stage.state c.args.stage.now).config in
     let n = c.acceptors-acceptors.ensures.value ∙ ap (λ k. k.acceptors) c.requires.config in
-    let c1 = c.in_ok-begun.ensures.same_config in
-    let at1 = c.in_ok-begun.ensures.outcome.0 ∙ first_begun _ config _ refl c.requires.nothing in
-    let c2 = c.in_ok-led.ensures.same_config ∙ c1 in
-    let at2 = c.in_ok-led.ensures.outcome.0 ∙ same_sweep _ config Coordinator 2 2 Kind.P1a 0 0 _ _ c1 refl refl at1 in
+    let c1 = c.in_ok-begun.ensures.driven.same_config in
+    let at1 = c.in_ok-begun.ensures.driven.outcome.0 ∙ first_begun _ config _ refl c.requires.nothing in
+    let c2 = c.in_ok-led.ensures.driven.same_config ∙ c1 in
+    let at2 = c.in_ok-led.ensures.driven.outcome.0 ∙ same_sweep _ config Coordinator 2 2 Kind.P1a 0 0 _ _ c1 refl refl at1 in
     let t = ap length (same_sweep _ config Acceptor _ config.acceptors Kind.P1a 0 0 _ _ c2 n refl at2) in
     let a = opened_room3 config in
     let r = c.requires.room in
@@ -23,12 +24,12 @@ pub sweep-requires-3-clause-room : goal.sweep-requires-3-clause-room
 sweep-requires-3-clause-room g c =
     let config = (g.S.Stage.state c.args.stage.now).config in
     let n = c.acceptors-acceptors.ensures.value ∙ ap (λ k. k.acceptors) c.requires.config in
-    let c1 = c.in_ok-begun.ensures.same_config in
-    let at1 = c.in_ok-begun.ensures.outcome.0 ∙ first_begun _ config _ refl c.requires.nothing in
-    let c2 = c.in_ok-led.ensures.same_config ∙ c1 in
-    let at2 = c.in_ok-led.ensures.outcome.0 ∙ same_sweep _ config Coordinator 2 2 Kind.P1a 0 0 _ _ c1 refl refl at1 in
-    let c3 = c.in_ok-asked.ensures.same_config ∙ c2 in
-    let at3 = c.in_ok-asked.ensures.outcome.0 ∙ same_sweep _ config Acceptor _ config.acceptors Kind.P1a 0 0 _ _ c2 n refl at2 in
+    let c1 = c.in_ok-begun.ensures.driven.same_config in
+    let at1 = c.in_ok-begun.ensures.driven.outcome.0 ∙ first_begun _ config _ refl c.requires.nothing in
+    let c2 = c.in_ok-led.ensures.driven.same_config ∙ c1 in
+    let at2 = c.in_ok-led.ensures.driven.outcome.0 ∙ same_sweep _ config Coordinator 2 2 Kind.P1a 0 0 _ _ c1 refl refl at1 in
+    let c3 = c.in_ok-asked.ensures.driven.same_config ∙ c2 in
+    let at3 = c.in_ok-asked.ensures.driven.outcome.0 ∙ same_sweep _ config Acceptor _ config.acceptors Kind.P1a 0 0 _ _ c2 n refl at2 in
     let t = ap length (same_sweep _ config Coordinator 2 2 Kind.P1b 0 0 _ _ c3 refl refl at3) in
     let a = opened_room4 config in
     let r = c.requires.room in
@@ -38,15 +39,33 @@ pub sweep-requires-4-clause-room : goal.sweep-requires-4-clause-room
 sweep-requires-4-clause-room g c =
     let config = (g.S.Stage.state c.args.stage.now).config in
     let n = c.acceptors-acceptors.ensures.value ∙ ap (λ k. k.acceptors) c.requires.config in
-    let c1 = c.in_ok-begun.ensures.same_config in
-    let at1 = c.in_ok-begun.ensures.outcome.0 ∙ first_begun _ config _ refl c.requires.nothing in
-    let c2 = c.in_ok-led.ensures.same_config ∙ c1 in
-    let at2 = c.in_ok-led.ensures.outcome.0 ∙ same_sweep _ config Coordinator 2 2 Kind.P1a 0 0 _ _ c1 refl refl at1 in
-    let c3 = c.in_ok-asked.ensures.same_config ∙ c2 in
-    let at3 = c.in_ok-asked.ensures.outcome.0 ∙ same_sweep _ config Acceptor _ config.acceptors Kind.P1a 0 0 _ _ c2 n refl at2 in
-    let c4 = c.in_ok-answered.ensures.same_config ∙ c3 in
-    let at4 = c.in_ok-answered.ensures.outcome.0 ∙ same_sweep _ config Coordinator 2 2 Kind.P1b 0 0 _ _ c3 refl refl at3 in
+    let c1 = c.in_ok-begun.ensures.driven.same_config in
+    let at1 = c.in_ok-begun.ensures.driven.outcome.0 ∙ first_begun _ config _ refl c.requires.nothing in
+    let c2 = c.in_ok-led.ensures.driven.same_config ∙ c1 in
+    let at2 = c.in_ok-led.ensures.driven.outcome.0 ∙ same_sweep _ config Coordinator 2 2 Kind.P1a 0 0 _ _ c1 refl refl at1 in
+    let c3 = c.in_ok-asked.ensures.driven.same_config ∙ c2 in
+    let at3 = c.in_ok-asked.ensures.driven.outcome.0 ∙ same_sweep _ config Acceptor _ config.acceptors Kind.P1a 0 0 _ _ c2 n refl at2 in
+    let c4 = c.in_ok-answered.ensures.driven.same_config ∙ c3 in
+    let at4 = c.in_ok-answered.ensures.driven.outcome.0 ∙ same_sweep _ config Coordinator 2 2 Kind.P1b 0 0 _ _ c3 refl refl at3 in
     let t = ap length (same_sweep _ config Acceptor _ config.acceptors Kind.P2a 0 0 _ _ c4 n refl at4) in
     let a = opened_room5 config in
     let r = c.requires.room in
     omega (arith, t, a, r)
+
+pub returns-in_err-led-clause-nodes : goal.returns-in_err-led-clause-nodes
+returns-in_err-led-clause-nodes g c = nodes_on _ _ _ _ c.in_ok-begun.ensures.nodes c.in_err-led.ensures.nodes
+
+pub returns-in_err-asked-clause-nodes : goal.returns-in_err-asked-clause-nodes
+returns-in_err-asked-clause-nodes g c = nodes_on _ _ _ _ (nodes_on _ _ _ _ c.in_ok-begun.ensures.nodes c.in_ok-led.ensures.nodes) c.in_err-asked.ensures.nodes
+
+pub returns-in_err-answered-clause-nodes : goal.returns-in_err-answered-clause-nodes
+returns-in_err-answered-clause-nodes g c = nodes_on _ _ _ _ (nodes_on _ _ _ _ (nodes_on _ _ _ _ c.in_ok-begun.ensures.nodes c.in_ok-led.ensures.nodes) c.in_ok-asked.ensures.nodes) c.in_err-answered.ensures.nodes
+
+pub returns-in_err-voted-clause-nodes : goal.returns-in_err-voted-clause-nodes
+returns-in_err-voted-clause-nodes g c = nodes_on _ _ _ _ (nodes_on _ _ _ _ (nodes_on _ _ _ _ (nodes_on _ _ _ _ c.in_ok-begun.ensures.nodes c.in_ok-led.ensures.nodes) c.in_ok-asked.ensures.nodes) c.in_ok-answered.ensures.nodes) c.in_err-voted.ensures.nodes
+
+pub returns-in_err-heard-clause-nodes : goal.returns-in_err-heard-clause-nodes
+returns-in_err-heard-clause-nodes g c = nodes_on _ _ _ _ (nodes_on _ _ _ _ (nodes_on _ _ _ _ (nodes_on _ _ _ _ (nodes_on _ _ _ _ c.in_ok-begun.ensures.nodes c.in_ok-led.ensures.nodes) c.in_ok-asked.ensures.nodes) c.in_ok-answered.ensures.nodes) c.in_ok-voted.ensures.nodes) c.in_err-heard.ensures.nodes
+
+pub returns-clause-nodes : goal.returns-clause-nodes
+returns-clause-nodes g c = nodes_on _ _ _ _ (nodes_on _ _ _ _ (nodes_on _ _ _ _ (nodes_on _ _ _ _ (nodes_on _ _ _ _ c.in_ok-begun.ensures.nodes c.in_ok-led.ensures.nodes) c.in_ok-asked.ensures.nodes) c.in_ok-answered.ensures.nodes) c.in_ok-voted.ensures.nodes) c.in_ok-heard.ensures.nodes

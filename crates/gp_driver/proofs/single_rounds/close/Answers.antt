@@ -4,6 +4,7 @@ use Rattle.gp_msg.specs.declared.node.Node.TheVariants.{Coordinator, Acceptor}
 use Rattle.gp_driver.specs.Sweeps.{swept}
 use Rattle.gp_driver.proofs.Driving.{swept_grows}
 use Rattle.gp_driver.proofs.PassingCode.{one_coordinator}
+use Rattle.gp_driver.proofs.Going.{nodes_on}
 use Rattle.gp_driver.proofs.single_rounds.close.Goals as goal
 
 pub show-requires-clause-present : goal.show-requires-clause-present
@@ -14,3 +15,9 @@ show-requires-clause-room g c =
     let a = swept_grows (g.S.Stage.state c.args.stage.now).config Acceptor 0 (g.S.Stage.state c.args.stage.now).config.acceptors (c.args.k ∷ []) (swept (g.S.Stage.state c.args.stage.now).config Coordinator 1 (c.args.k ∷ []) (g.S.Stage.state c.args.stage.now).run) (omega arith) in
     let r = c.requires.room in
     omega (arith, a, r)
+
+pub returns-in_err-voters-clause-nodes : goal.returns-in_err-voters-clause-nodes
+returns-in_err-voters-clause-nodes g c = nodes_on _ _ _ _ c.in_ok-leader.ensures.nodes c.in_err-voters.ensures.nodes
+
+pub returns-clause-nodes : goal.returns-clause-nodes
+returns-clause-nodes g c = nodes_on _ _ _ _ c.in_ok-leader.ensures.nodes c.in_ok-voters.ensures.nodes

@@ -4,6 +4,7 @@ use Rattle.gp_msg.specs.declared.node.Node.TheVariants.{Coordinator, Acceptor}
 use Rattle.gp_msg.specs.declared.message.MsgKind.TheVariants as Kind
 use Rattle.gp_run.specs.Messages.{messages}
 use Rattle.gp_driver.proofs.PassingCode.{same_sweep, has_begun, may_begin, room1, room2, room3, room4, order2, order3, order4}
+use Rattle.gp_driver.proofs.Going.{nodes_on, coordinator_goes}
 use Rattle.gp_driver.proofs.single_rounds.pass_once.Goals as goal
 
 pub make-requires-clause-room : goal.make-requires-clause-room
@@ -16,9 +17,9 @@ pub sweep-requires-clause-room : goal.sweep-requires-clause-room
 sweep-requires-clause-room g c =
     let config = (g.S.Stage.state c.args.stage.now).config in
     let es = (g.S.Stage.state c.args.stage.now).run in
-    let at1 = c.in_ok-begun.ensures.outcome.0 ∙ has_begun config es c.top_count.result c.top_count.ensures in
+    let at1 = c.in_ok-begun.ensures.driven.outcome.0 ∙ has_begun config es c.top_count.result c.top_count.ensures in
     let n = c.acceptors-acceptors.ensures.value ∙ ap (λ k. k.acceptors) c.requires.config in
-    let t = ap length (same_sweep _ config Acceptor _ config.acceptors Kind.P1a _ (length (messages es)) _ _ c.in_ok-begun.ensures.same_config n c.messages-start.ensures at1) in
+    let t = ap length (same_sweep _ config Acceptor _ config.acceptors Kind.P1a _ (length (messages es)) _ _ c.in_ok-begun.ensures.driven.same_config n c.messages-start.ensures at1) in
     let a = room2 config es in
     let r = c.requires.room in
     omega (arith, t, a, r)
@@ -27,10 +28,10 @@ pub sweep-requires-2-clause-order : goal.sweep-requires-2-clause-order
 sweep-requires-2-clause-order g c =
     let config = (g.S.Stage.state c.args.stage.now).config in
     let es = (g.S.Stage.state c.args.stage.now).run in
-    let at1 = c.in_ok-begun.ensures.outcome.0 ∙ has_begun config es c.top_count.result c.top_count.ensures in
+    let at1 = c.in_ok-begun.ensures.driven.outcome.0 ∙ has_begun config es c.top_count.result c.top_count.ensures in
     let n = c.acceptors-acceptors.ensures.value ∙ ap (λ k. k.acceptors) c.requires.config in
-    let c2 = c.in_ok-asked.ensures.same_config ∙ c.in_ok-begun.ensures.same_config in
-    let at2 = c.in_ok-asked.ensures.outcome.0 ∙ same_sweep _ config Acceptor _ config.acceptors Kind.P1a _ (length (messages es)) _ _ c.in_ok-begun.ensures.same_config n c.messages-start.ensures at1 in
+    let c2 = c.in_ok-asked.ensures.driven.same_config ∙ c.in_ok-begun.ensures.driven.same_config in
+    let at2 = c.in_ok-asked.ensures.driven.outcome.0 ∙ same_sweep _ config Acceptor _ config.acceptors Kind.P1a _ (length (messages es)) _ _ c.in_ok-begun.ensures.driven.same_config n c.messages-start.ensures at1 in
     let t = ap (λ zs. length (messages zs)) at2 in
     let a = order2 config es in
     let b = c.messages-start.ensures in
@@ -40,10 +41,10 @@ pub sweep-requires-2-clause-room : goal.sweep-requires-2-clause-room
 sweep-requires-2-clause-room g c =
     let config = (g.S.Stage.state c.args.stage.now).config in
     let es = (g.S.Stage.state c.args.stage.now).run in
-    let at1 = c.in_ok-begun.ensures.outcome.0 ∙ has_begun config es c.top_count.result c.top_count.ensures in
+    let at1 = c.in_ok-begun.ensures.driven.outcome.0 ∙ has_begun config es c.top_count.result c.top_count.ensures in
     let n = c.acceptors-acceptors.ensures.value ∙ ap (λ k. k.acceptors) c.requires.config in
-    let c2 = c.in_ok-asked.ensures.same_config ∙ c.in_ok-begun.ensures.same_config in
-    let at2 = c.in_ok-asked.ensures.outcome.0 ∙ same_sweep _ config Acceptor _ config.acceptors Kind.P1a _ (length (messages es)) _ _ c.in_ok-begun.ensures.same_config n c.messages-start.ensures at1 in
+    let c2 = c.in_ok-asked.ensures.driven.same_config ∙ c.in_ok-begun.ensures.driven.same_config in
+    let at2 = c.in_ok-asked.ensures.driven.outcome.0 ∙ same_sweep _ config Acceptor _ config.acceptors Kind.P1a _ (length (messages es)) _ _ c.in_ok-begun.ensures.driven.same_config n c.messages-start.ensures at1 in
     let t = ap length (same_sweep _ config Coordinator 1 1 Kind.P1b _ (length (messages es)) _ _ c2 refl c.messages-start.ensures at2) in
     let a = room3 config es in
     let r = c.requires.room in
@@ -53,12 +54,12 @@ pub sweep-requires-3-clause-order : goal.sweep-requires-3-clause-order
 sweep-requires-3-clause-order g c =
     let config = (g.S.Stage.state c.args.stage.now).config in
     let es = (g.S.Stage.state c.args.stage.now).run in
-    let at1 = c.in_ok-begun.ensures.outcome.0 ∙ has_begun config es c.top_count.result c.top_count.ensures in
+    let at1 = c.in_ok-begun.ensures.driven.outcome.0 ∙ has_begun config es c.top_count.result c.top_count.ensures in
     let n = c.acceptors-acceptors.ensures.value ∙ ap (λ k. k.acceptors) c.requires.config in
-    let c2 = c.in_ok-asked.ensures.same_config ∙ c.in_ok-begun.ensures.same_config in
-    let at2 = c.in_ok-asked.ensures.outcome.0 ∙ same_sweep _ config Acceptor _ config.acceptors Kind.P1a _ (length (messages es)) _ _ c.in_ok-begun.ensures.same_config n c.messages-start.ensures at1 in
-    let c3 = c.in_ok-answered.ensures.same_config ∙ c2 in
-    let at3 = c.in_ok-answered.ensures.outcome.0 ∙ same_sweep _ config Coordinator 1 1 Kind.P1b _ (length (messages es)) _ _ c2 refl c.messages-start.ensures at2 in
+    let c2 = c.in_ok-asked.ensures.driven.same_config ∙ c.in_ok-begun.ensures.driven.same_config in
+    let at2 = c.in_ok-asked.ensures.driven.outcome.0 ∙ same_sweep _ config Acceptor _ config.acceptors Kind.P1a _ (length (messages es)) _ _ c.in_ok-begun.ensures.driven.same_config n c.messages-start.ensures at1 in
+    let c3 = c.in_ok-answered.ensures.driven.same_config ∙ c2 in
+    let at3 = c.in_ok-answered.ensures.driven.outcome.0 ∙ same_sweep _ config Coordinator 1 1 Kind.P1b _ (length (messages es)) _ _ c2 refl c.messages-start.ensures at2 in
     let t = ap (λ zs. length (messages zs)) at3 in
     let a = order3 config es in
     let b = c.messages-start.ensures in
@@ -68,12 +69,12 @@ pub sweep-requires-3-clause-room : goal.sweep-requires-3-clause-room
 sweep-requires-3-clause-room g c =
     let config = (g.S.Stage.state c.args.stage.now).config in
     let es = (g.S.Stage.state c.args.stage.now).run in
-    let at1 = c.in_ok-begun.ensures.outcome.0 ∙ has_begun config es c.top_count.result c.top_count.ensures in
+    let at1 = c.in_ok-begun.ensures.driven.outcome.0 ∙ has_begun config es c.top_count.result c.top_count.ensures in
     let n = c.acceptors-acceptors.ensures.value ∙ ap (λ k. k.acceptors) c.requires.config in
-    let c2 = c.in_ok-asked.ensures.same_config ∙ c.in_ok-begun.ensures.same_config in
-    let at2 = c.in_ok-asked.ensures.outcome.0 ∙ same_sweep _ config Acceptor _ config.acceptors Kind.P1a _ (length (messages es)) _ _ c.in_ok-begun.ensures.same_config n c.messages-start.ensures at1 in
-    let c3 = c.in_ok-answered.ensures.same_config ∙ c2 in
-    let at3 = c.in_ok-answered.ensures.outcome.0 ∙ same_sweep _ config Coordinator 1 1 Kind.P1b _ (length (messages es)) _ _ c2 refl c.messages-start.ensures at2 in
+    let c2 = c.in_ok-asked.ensures.driven.same_config ∙ c.in_ok-begun.ensures.driven.same_config in
+    let at2 = c.in_ok-asked.ensures.driven.outcome.0 ∙ same_sweep _ config Acceptor _ config.acceptors Kind.P1a _ (length (messages es)) _ _ c.in_ok-begun.ensures.driven.same_config n c.messages-start.ensures at1 in
+    let c3 = c.in_ok-answered.ensures.driven.same_config ∙ c2 in
+    let at3 = c.in_ok-answered.ensures.driven.outcome.0 ∙ same_sweep _ config Coordinator 1 1 Kind.P1b _ (length (messages es)) _ _ c2 refl c.messages-start.ensures at2 in
     let t = ap length (same_sweep _ config Acceptor _ config.acceptors Kind.P2a _ (length (messages es)) _ _ c3 n c.messages-start.ensures at3) in
     let a = room4 config es in
     let r = c.requires.room in
@@ -83,14 +84,32 @@ pub sweep-requires-4-clause-order : goal.sweep-requires-4-clause-order
 sweep-requires-4-clause-order g c =
     let config = (g.S.Stage.state c.args.stage.now).config in
     let es = (g.S.Stage.state c.args.stage.now).run in
-    let at1 = c.in_ok-begun.ensures.outcome.0 ∙ has_begun config es c.top_count.result c.top_count.ensures in
+    let at1 = c.in_ok-begun.ensures.driven.outcome.0 ∙ has_begun config es c.top_count.result c.top_count.ensures in
     let n = c.acceptors-acceptors.ensures.value ∙ ap (λ k. k.acceptors) c.requires.config in
-    let c2 = c.in_ok-asked.ensures.same_config ∙ c.in_ok-begun.ensures.same_config in
-    let at2 = c.in_ok-asked.ensures.outcome.0 ∙ same_sweep _ config Acceptor _ config.acceptors Kind.P1a _ (length (messages es)) _ _ c.in_ok-begun.ensures.same_config n c.messages-start.ensures at1 in
-    let c3 = c.in_ok-answered.ensures.same_config ∙ c2 in
-    let at3 = c.in_ok-answered.ensures.outcome.0 ∙ same_sweep _ config Coordinator 1 1 Kind.P1b _ (length (messages es)) _ _ c2 refl c.messages-start.ensures at2 in
-    let at4 = c.in_ok-voted.ensures.outcome.0 ∙ same_sweep _ config Acceptor _ config.acceptors Kind.P2a _ (length (messages es)) _ _ c3 n c.messages-start.ensures at3 in
+    let c2 = c.in_ok-asked.ensures.driven.same_config ∙ c.in_ok-begun.ensures.driven.same_config in
+    let at2 = c.in_ok-asked.ensures.driven.outcome.0 ∙ same_sweep _ config Acceptor _ config.acceptors Kind.P1a _ (length (messages es)) _ _ c.in_ok-begun.ensures.driven.same_config n c.messages-start.ensures at1 in
+    let c3 = c.in_ok-answered.ensures.driven.same_config ∙ c2 in
+    let at3 = c.in_ok-answered.ensures.driven.outcome.0 ∙ same_sweep _ config Coordinator 1 1 Kind.P1b _ (length (messages es)) _ _ c2 refl c.messages-start.ensures at2 in
+    let at4 = c.in_ok-voted.ensures.driven.outcome.0 ∙ same_sweep _ config Acceptor _ config.acceptors Kind.P2a _ (length (messages es)) _ _ c3 n c.messages-start.ensures at3 in
     let t = ap (λ zs. length (messages zs)) at4 in
     let a = order4 config es in
     let b = c.messages-start.ensures in
     omega (arith, t, a, b)
+
+pub returns-in_err-begun-clause-nodes : goal.returns-in_err-begun-clause-nodes
+returns-in_err-begun-clause-nodes g c = coordinator_goes 0 _ _ c.in_err-begun.ensures.nodes
+
+pub returns-in_err-asked-clause-nodes : goal.returns-in_err-asked-clause-nodes
+returns-in_err-asked-clause-nodes g c = nodes_on _ _ _ _ (coordinator_goes 0 _ _ c.in_ok-begun.ensures.nodes) c.in_err-asked.ensures.nodes
+
+pub returns-in_err-answered-clause-nodes : goal.returns-in_err-answered-clause-nodes
+returns-in_err-answered-clause-nodes g c = nodes_on _ _ _ _ (nodes_on _ _ _ _ (coordinator_goes 0 _ _ c.in_ok-begun.ensures.nodes) c.in_ok-asked.ensures.nodes) c.in_err-answered.ensures.nodes
+
+pub returns-in_err-voted-clause-nodes : goal.returns-in_err-voted-clause-nodes
+returns-in_err-voted-clause-nodes g c = nodes_on _ _ _ _ (nodes_on _ _ _ _ (nodes_on _ _ _ _ (coordinator_goes 0 _ _ c.in_ok-begun.ensures.nodes) c.in_ok-asked.ensures.nodes) c.in_ok-answered.ensures.nodes) c.in_err-voted.ensures.nodes
+
+pub returns-in_err-heard-clause-nodes : goal.returns-in_err-heard-clause-nodes
+returns-in_err-heard-clause-nodes g c = nodes_on _ _ _ _ (nodes_on _ _ _ _ (nodes_on _ _ _ _ (nodes_on _ _ _ _ (coordinator_goes 0 _ _ c.in_ok-begun.ensures.nodes) c.in_ok-asked.ensures.nodes) c.in_ok-answered.ensures.nodes) c.in_ok-voted.ensures.nodes) c.in_err-heard.ensures.nodes
+
+pub returns-clause-nodes : goal.returns-clause-nodes
+returns-clause-nodes g c = nodes_on _ _ _ _ (nodes_on _ _ _ _ (nodes_on _ _ _ _ (nodes_on _ _ _ _ (coordinator_goes 0 _ _ c.in_ok-begun.ensures.nodes) c.in_ok-asked.ensures.nodes) c.in_ok-answered.ensures.nodes) c.in_ok-voted.ensures.nodes) c.in_ok-heard.ensures.nodes

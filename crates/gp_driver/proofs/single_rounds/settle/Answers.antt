@@ -1,6 +1,7 @@
 -- The steps, one after another, lead to the settled run.
 use Rattle.std.proofs.Common.{length, ap, ◌∙◌, arith}
 use Rattle.gp_driver.proofs.SettleCode.{brings, finals_fit, prepared_fits, sweep_fits, proposals_fit, can_begin, passes_settle, steps_fit, range_of}
+use Rattle.gp_driver.proofs.Going.{nodes_on}
 use Rattle.gp_driver.proofs.single_rounds.settle.Goals as goal
 
 pub take_finals-requires-clause-room : goal.take_finals-requires-clause-room
@@ -12,7 +13,7 @@ take_finals-requires-clause-room g c =
 
 pub sweep-requires-clause-room : goal.sweep-requires-clause-room
 sweep-requires-clause-room g c =
-    let x = c.in_ok-finals.ensures in
+    let x = c.in_ok-finals.ensures.driven in
     let a = sweep_fits (g.S.Stage.state c.args.stage.now).config (g.S.Stage.state c.args.stage.now).run _ _ x.same_config x.outcome.0 in
     let r = c.requires.room in
     omega (arith, a, r)
@@ -20,8 +21,8 @@ sweep-requires-clause-room g c =
 pub overflow_add-proposals : goal.overflow_add-proposals
 overflow_add-proposals g c =
     let b = brings (g.S.Stage.state c.args.stage.now).config (range_of _ _ c.config_of-config.ensures.same c.config_of-config.ensures.range) (g.S.Stage.state c.args.stage.now).run c.requires.legal c.requires.rounds in
-    let x = c.in_ok-finals.ensures in
-    let y = c.in_ok-proposals.ensures in
+    let x = c.in_ok-finals.ensures.driven in
+    let y = c.in_ok-proposals.ensures.driven in
     let a = proposals_fit _ (range_of _ _ c.config_of-config.ensures.same c.config_of-config.ensures.range) (g.S.Stage.state c.args.stage.now).run c.requires.legal b _ _ _ _ _ _ x.same_config x.outcome.0 x.outcome.1 y.same_config y.outcome.0 y.outcome.1 in
     let r = c.requires.room in
     record { fits = omega (arith, a, r) }
@@ -29,15 +30,15 @@ overflow_add-proposals g c =
 pub make_passes-requires-clause-can : goal.make_passes-requires-clause-can
 make_passes-requires-clause-can g c =
     let b = brings (g.S.Stage.state c.args.stage.now).config (range_of _ _ c.config_of-config.ensures.same c.config_of-config.ensures.range) (g.S.Stage.state c.args.stage.now).run c.requires.legal c.requires.rounds in
-    let x = c.in_ok-finals.ensures in
-    let y = c.in_ok-proposals.ensures in
+    let x = c.in_ok-finals.ensures.driven in
+    let y = c.in_ok-proposals.ensures.driven in
     can_begin _ (range_of _ _ c.config_of-config.ensures.same c.config_of-config.ensures.range) (g.S.Stage.state c.args.stage.now).run c.requires.legal b _ _ _ _ _ _ x.same_config x.outcome.0 x.outcome.1 y.same_config y.outcome.0 y.outcome.1
 
 pub make_passes-requires-clause-room : goal.make_passes-requires-clause-room
 make_passes-requires-clause-room g c =
     let b = brings (g.S.Stage.state c.args.stage.now).config (range_of _ _ c.config_of-config.ensures.same c.config_of-config.ensures.range) (g.S.Stage.state c.args.stage.now).run c.requires.legal c.requires.rounds in
-    let x = c.in_ok-finals.ensures in
-    let y = c.in_ok-proposals.ensures in
+    let x = c.in_ok-finals.ensures.driven in
+    let y = c.in_ok-proposals.ensures.driven in
     let a = ap length (passes_settle _ (range_of _ _ c.config_of-config.ensures.same c.config_of-config.ensures.range) (g.S.Stage.state c.args.stage.now).run c.requires.legal b _ _ _ _ _ _ x.same_config x.outcome.0 x.outcome.1 y.same_config y.outcome.0 y.outcome.1) in
     let r = c.requires.room in
     omega (arith, a, r)
@@ -45,9 +46,9 @@ make_passes-requires-clause-room g c =
 pub overflow_add-result : goal.overflow_add-result
 overflow_add-result g c =
     let b = brings (g.S.Stage.state c.args.stage.now).config (range_of _ _ c.config_of-config.ensures.same c.config_of-config.ensures.range) (g.S.Stage.state c.args.stage.now).run c.requires.legal c.requires.rounds in
-    let x = c.in_ok-finals.ensures in
-    let y = c.in_ok-proposals.ensures in
-    let z = c.in_ok-passes.ensures in
+    let x = c.in_ok-finals.ensures.driven in
+    let y = c.in_ok-proposals.ensures.driven in
+    let z = c.in_ok-passes.ensures.driven in
     let a = steps_fit _ (range_of _ _ c.config_of-config.ensures.same c.config_of-config.ensures.range) (g.S.Stage.state c.args.stage.now).run c.requires.legal b _ _ _ _ _ _ x.same_config x.outcome.0 x.outcome.1 y.same_config y.outcome.0 y.outcome.1 _ _ z.outcome.0 z.outcome.1 in
     let r = c.requires.room in
     record { fits = omega (arith, a, r) }
@@ -55,9 +56,9 @@ overflow_add-result g c =
 pub overflow_add-result-2 : goal.overflow_add-result-2
 overflow_add-result-2 g c =
     let b = brings (g.S.Stage.state c.args.stage.now).config (range_of _ _ c.config_of-config.ensures.same c.config_of-config.ensures.range) (g.S.Stage.state c.args.stage.now).run c.requires.legal c.requires.rounds in
-    let x = c.in_ok-finals.ensures in
-    let y = c.in_ok-proposals.ensures in
-    let z = c.in_ok-passes.ensures in
+    let x = c.in_ok-finals.ensures.driven in
+    let y = c.in_ok-proposals.ensures.driven in
+    let z = c.in_ok-passes.ensures.driven in
     let a = steps_fit _ (range_of _ _ c.config_of-config.ensures.same c.config_of-config.ensures.range) (g.S.Stage.state c.args.stage.now).run c.requires.legal b _ _ _ _ _ _ x.same_config x.outcome.0 x.outcome.1 y.same_config y.outcome.0 y.outcome.1 _ _ z.outcome.0 z.outcome.1 in
     let r = c.requires.room in
     record { fits = omega (arith, a, r) }
@@ -66,9 +67,9 @@ pub returns-clause-driven : goal.returns-clause-driven
 returns-clause-driven g c =
     let range = range_of _ _ c.config_of-config.ensures.same c.config_of-config.ensures.range in
     let b = brings (g.S.Stage.state c.args.stage.now).config range (g.S.Stage.state c.args.stage.now).run c.requires.legal c.requires.rounds in
-    let x = c.in_ok-finals.ensures in
-    let y = c.in_ok-proposals.ensures in
-    let z = c.in_ok-passes.ensures in
+    let x = c.in_ok-finals.ensures.driven in
+    let y = c.in_ok-proposals.ensures.driven in
+    let z = c.in_ok-passes.ensures.driven in
     let l1 = x.later in
     let l2 = y.later in
     let l3 = z.later in
@@ -96,3 +97,12 @@ returns-in_err-passes-clause-brings g c = brings (g.S.Stage.state c.args.stage.n
 
 pub returns-clause-brings : goal.returns-clause-brings
 returns-clause-brings g c = brings (g.S.Stage.state c.args.stage.now).config (range_of _ _ c.config_of-config.ensures.same c.config_of-config.ensures.range) (g.S.Stage.state c.args.stage.now).run c.requires.legal c.requires.rounds
+
+pub returns-in_err-proposals-clause-nodes : goal.returns-in_err-proposals-clause-nodes
+returns-in_err-proposals-clause-nodes g c = nodes_on _ _ _ _ c.in_ok-finals.ensures.nodes c.in_err-proposals.ensures.nodes
+
+pub returns-in_err-passes-clause-nodes : goal.returns-in_err-passes-clause-nodes
+returns-in_err-passes-clause-nodes g c = nodes_on _ _ _ _ (nodes_on _ _ _ _ c.in_ok-finals.ensures.nodes c.in_ok-proposals.ensures.nodes) c.in_err-passes.ensures.nodes
+
+pub returns-clause-nodes : goal.returns-clause-nodes
+returns-clause-nodes g c = nodes_on _ _ _ _ (nodes_on _ _ _ _ c.in_ok-finals.ensures.nodes c.in_ok-proposals.ensures.nodes) c.in_ok-passes.ensures.nodes

@@ -2,6 +2,7 @@
 use Rattle.std.proofs.Common.{length, ap, arith}
 use Rattle.gp_run.specs.Messages.{messages}
 use Rattle.gp_driver.proofs.SettlingCode.{spread_grows, closed_more}
+use Rattle.gp_driver.proofs.Going.{nodes_on}
 use Rattle.gp_driver.proofs.single_rounds.spread.Goals as goal
 
 pub close-requires-clause-room : goal.close-requires-clause-room
@@ -9,7 +10,13 @@ close-requires-clause-room g c = let a = spread_grows (g.S.Stage.state c.args.st
 
 pub show-requires-clause-sent : goal.show-requires-clause-sent
 show-requires-clause-sent g c =
-    let e = ap (λ zs. length (messages zs)) c.in_ok-closers.ensures.outcome.0 in
+    let e = ap (λ zs. length (messages zs)) c.in_ok-closers.ensures.driven.outcome.0 in
     let m = closed_more (g.S.Stage.state c.args.stage.now).config c.args.k (g.S.Stage.state c.args.stage.now).run in
     let s = c.requires.sent in
     omega (arith, e, m, s)
+
+pub returns-in_err-learners-clause-nodes : goal.returns-in_err-learners-clause-nodes
+returns-in_err-learners-clause-nodes g c = nodes_on _ _ _ _ c.in_ok-closers.ensures.nodes c.in_err-learners.ensures.nodes
+
+pub returns-clause-nodes : goal.returns-clause-nodes
+returns-clause-nodes g c = nodes_on _ _ _ _ c.in_ok-closers.ensures.nodes c.in_ok-learners.ensures.nodes

@@ -1,31 +1,41 @@
 -- One node more takes it.
-use Rattle.std.proofs.Common.{suc, [], ◌∷◌, length, ap, arith}
+use Rattle.std.proofs.Common.{suc, [], ◌∷◌, length, ap, arith, rules}
 use Rattle.gp_driver.specs.Roles.{node_of}
 use Rattle.gp_driver.proofs.Driving.{swept_grows, showing_fits, showing_on, sweeping_next}
+use Rattle.gp_driver.proofs.Going.{nodes_on, role_goes, nodes_still}
 use Rattle.gp_driver.proofs.sweep.show.Goals as goal
 
 pub make-requires-clause-room : goal.make-requires-clause-room
 make-requires-clause-room g c =
-    let t = ap length (showing_on _ _ _ _ _ _ _ _ _ _ _ c.loop-i.invariant c.node-node.result c.node-node.ensures) in
+    let t = ap length (showing_on _ _ _ _ _ _ _ _ _ _ _ c.loop-i.invariant.known c.node-node.result c.node-node.ensures) in
     let s = swept_grows (g.S.Stage.state c.args.stage.now).config (node_of c.args.role) (suc c.loop-i.i) c.args.count (c.args.k ∷ []) (g.S.Stage.state c.args.stage.now).run (let l = c.loop-i-test.true in omega (arith, l)) in
     let r = c.requires.room in
     omega (arith, t, s, r)
 
 pub make-requires-clause-fits : goal.make-requires-clause-fits
-make-requires-clause-fits g c = showing_fits _ _ _ _ _ _ _ _ _ _ _ c.loop-i.invariant c.node-node.result c.node-node.ensures (c.requires.present c.loop-i.i c.loop-i-test.true) c.requires.sent
+make-requires-clause-fits g c = showing_fits _ _ _ _ _ _ _ _ _ _ _ c.loop-i.invariant.known c.node-node.result c.node-node.ensures (c.requires.present c.loop-i.i c.loop-i-test.true) c.requires.sent
 
 pub loop-i-preserved : goal.loop-i-preserved
 loop-i-preserved g c =
-    let o = c.in_ok-taken.ensures.outcome in
-    sweeping_next _ _ _ _ _ _ _ _ _ _ _ c.loop-i.invariant _ _ _ _ _ _ c.in_ok-taken.ensures.same_config c.in_ok-taken.ensures.later o.0 (showing_on _ _ _ _ _ _ _ _ _ _ _ c.loop-i.invariant c.node-node.result c.node-node.ensures) o.1 o.2
+    let o = c.in_ok-taken.ensures.driven.outcome in
+    record {
+      known = sweeping_next _ _ _ _ _ _ _ _ _ _ _ c.loop-i.invariant.known _ _ _ _ _ _ c.in_ok-taken.ensures.driven.same_config c.in_ok-taken.ensures.driven.later o.0 (showing_on _ _ _ _ _ _ _ _ _ _ _ c.loop-i.invariant.known c.node-node.result c.node-node.ensures) o.1 o.2;
+      nodes = nodes_on _ _ _ _ c.loop-i.invariant.nodes (role_goes c.args.role c.loop-i.i _ c.node-node.ensures _ _ c.in_ok-taken.ensures.nodes);
+    }
 
 pub overflow_add-taken : goal.overflow_add-taken
 overflow_add-taken g c =
-    let t = ap length (showing_on _ _ _ _ _ _ _ _ _ _ _ c.loop-i.invariant c.node-node.result c.node-node.ensures) in
+    let t = ap length (showing_on _ _ _ _ _ _ _ _ _ _ _ c.loop-i.invariant.known c.node-node.result c.node-node.ensures) in
     let s = swept_grows (g.S.Stage.state c.args.stage.now).config (node_of c.args.role) (suc c.loop-i.i) c.args.count (c.args.k ∷ []) (g.S.Stage.state c.args.stage.now).run (let l = c.loop-i-test.true in omega (arith, l)) in
     let r = c.requires.room in
-    let o = c.in_ok-taken.ensures.outcome in
+    let o = c.in_ok-taken.ensures.driven.outcome in
     let a = ap length o.0 in
-    let n = c.loop-i.invariant.entries in
+    let n = c.loop-i.invariant.known.entries in
     let b = o.1 in
     record { fits = omega (arith, t, s, r, a, n, b) }
+
+pub loop-i-init : goal.loop-i-init
+loop-i-init g c = record { known = search rules; nodes = nodes_still _ _ }
+
+pub returns-in_err-taken-clause-nodes : goal.returns-in_err-taken-clause-nodes
+returns-in_err-taken-clause-nodes g c = nodes_on _ _ _ _ c.loop-i.invariant.nodes (role_goes c.args.role c.loop-i.i _ c.node-node.ensures _ _ c.in_err-taken.ensures.nodes)

@@ -1,36 +1,46 @@
 -- One node more is through.
-use Rattle.std.proofs.Common.{suc, length, refl, ap, arith}
+use Rattle.std.proofs.Common.{suc, length, refl, ap, arith, rules}
 use Rattle.gp_run.specs.Messages.{messages}
 use Rattle.gp_driver.specs.Sweeps.{places}
 use Rattle.gp_driver.specs.Roles.{node_of}
 use Rattle.gp_driver.proofs.Driving.{swept_grows, sweeping_within, sweeping_on, sweeping_next}
+use Rattle.gp_driver.proofs.Going.{nodes_on, role_goes, nodes_still}
 use Rattle.gp_driver.proofs.sweep.sweep.Goals as goal
 
 pub take_all-requires-clause-within : goal.take_all-requires-clause-within
 take_all-requires-clause-within g c =
-    let w = sweeping_within _ _ _ _ _ _ _ _ _ _ _ c.loop-i.invariant in
+    let w = sweeping_within _ _ _ _ _ _ _ _ _ _ _ c.loop-i.invariant.known in
     let e = c.messages-end.ensures in
     omega (arith, w, e)
 
 pub take_all-requires-clause-room : goal.take_all-requires-clause-room
 take_all-requires-clause-room g c =
-    let t = ap length (sweeping_on _ _ _ _ _ _ _ _ _ _ _ c.loop-i.invariant c.args.kind c.args.start c.messages-end.result c.node.result c.messages-end.ensures c.node.ensures refl) in
+    let t = ap length (sweeping_on _ _ _ _ _ _ _ _ _ _ _ c.loop-i.invariant.known c.args.kind c.args.start c.messages-end.result c.node.result c.messages-end.ensures c.node.ensures refl) in
     let s = swept_grows (g.S.Stage.state c.args.stage.now).config (node_of c.args.role) (suc c.loop-i.i) c.args.count (places c.args.kind c.args.start (messages (g.S.Stage.state c.args.stage.now).run)) (g.S.Stage.state c.args.stage.now).run (let l = c.loop-i-test.true in omega (arith, l)) in
     let r = c.requires.room in
     omega (arith, t, s, r)
 
 pub overflow_add-taken : goal.overflow_add-taken
 overflow_add-taken g c =
-    let t = ap length (sweeping_on _ _ _ _ _ _ _ _ _ _ _ c.loop-i.invariant c.args.kind c.args.start c.messages-end.result c.node.result c.messages-end.ensures c.node.ensures refl) in
+    let t = ap length (sweeping_on _ _ _ _ _ _ _ _ _ _ _ c.loop-i.invariant.known c.args.kind c.args.start c.messages-end.result c.node.result c.messages-end.ensures c.node.ensures refl) in
     let s = swept_grows (g.S.Stage.state c.args.stage.now).config (node_of c.args.role) (suc c.loop-i.i) c.args.count (places c.args.kind c.args.start (messages (g.S.Stage.state c.args.stage.now).run)) (g.S.Stage.state c.args.stage.now).run (let l = c.loop-i-test.true in omega (arith, l)) in
     let r = c.requires.room in
-    let o = c.in_ok-taken.ensures.outcome in
+    let o = c.in_ok-taken.ensures.driven.outcome in
     let a = ap length o.0 in
-    let n = c.loop-i.invariant.entries in
+    let n = c.loop-i.invariant.known.entries in
     let b = o.1 in
     record { fits = omega (arith, t, s, r, a, n, b) }
 
 pub loop-i-preserved : goal.loop-i-preserved
 loop-i-preserved g c =
-    let o = c.in_ok-taken.ensures.outcome in
-    sweeping_next _ _ _ _ _ _ _ _ _ _ _ c.loop-i.invariant _ _ _ _ _ _ c.in_ok-taken.ensures.same_config c.in_ok-taken.ensures.later o.0 (sweeping_on _ _ _ _ _ _ _ _ _ _ _ c.loop-i.invariant c.args.kind c.args.start c.messages-end.result c.node.result c.messages-end.ensures c.node.ensures refl) o.1 o.2
+    let o = c.in_ok-taken.ensures.driven.outcome in
+    record {
+      known = sweeping_next _ _ _ _ _ _ _ _ _ _ _ c.loop-i.invariant.known _ _ _ _ _ _ c.in_ok-taken.ensures.driven.same_config c.in_ok-taken.ensures.driven.later o.0 (sweeping_on _ _ _ _ _ _ _ _ _ _ _ c.loop-i.invariant.known c.args.kind c.args.start c.messages-end.result c.node.result c.messages-end.ensures c.node.ensures refl) o.1 o.2;
+      nodes = nodes_on _ _ _ _ c.loop-i.invariant.nodes (role_goes c.args.role c.loop-i.i _ c.node.ensures _ _ c.in_ok-taken.ensures.nodes);
+    }
+
+pub loop-i-init : goal.loop-i-init
+loop-i-init g c = record { known = search rules; nodes = nodes_still _ _ }
+
+pub returns-in_err-taken-clause-nodes : goal.returns-in_err-taken-clause-nodes
+returns-in_err-taken-clause-nodes g c = nodes_on _ _ _ _ c.loop-i.invariant.nodes (role_goes c.args.role c.loop-i.i _ c.node.ensures _ _ c.in_err-taken.ensures.nodes)

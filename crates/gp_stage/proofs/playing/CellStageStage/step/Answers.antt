@@ -1,16 +1,25 @@
 use Rattle.std.proofs.Common.{◌≡◌, true, ◌∷◌, ◌++◌, length, drop, slice_get, take, sym, ap, ◌∙◌, subst, inl, arith}
 use Rattle.gp_run.specs.Legal.{fits}
+use Rattle.gp_run.specs.Nodes.{node_of}
 use Rattle.gp_run.specs.Runs.{entries_in, entry_after}
 use Rattle.gp_work.specs.Moves.{event_of}
+use Rattle.gp_driver.specs.Stages.{AllBut, Anyone}
 use Rattle.gp_stage.specs.Held.{HeldCells, HasCell, AreUp, whole_list}
 use Rattle.gp_stage.specs.Kept.{IsKept}
 use Rattle.gp_stage.specs.Played.{CanPlay, KnewBefore}
 use Rattle.gp_stage.proofs.Places.{within}
 use Rattle.gp_stage.proofs.Performing.{has_cell, can_play}
-use Rattle.gp_stage.proofs.Steps.{ask_held, ask_here, ask_up, ask_knew, told_kept, told_up, told_later, told_entry, told_count, fault_kept, fault_list, fault_later, fault_cause, later_shown, cause_shown, later_than, unfailed}
+use Rattle.gp_stage.proofs.Steps.{ask_held, ask_here, ask_up, ask_knew, told_kept, told_up, told_later, told_entry, told_nodes, told_count, fault_kept, fault_list, fault_nodes, fault_later, fault_cause, later_shown, cause_shown, later_than, unfailed}
+use Rattle.gp_stage.proofs.Nodes.{nodes_kept, nodes_shown, nodes_than}
 use Rattle.gp_stage.proofs.Faulting.{at_most, counted}
 use Rattle.gp_stage.proofs.playing.CellStageStage.step.Goals as goal
 use Rattle.gp_stage.proofs.playing.CellStageStage.step.Goals.{in-Full, in_default-fault}
+
+pub returns-then-is_err-clause-nodes : goal.returns-then-is_err-clause-nodes
+returns-then-is_err-clause-nodes g c = nodes_kept g.D.Disk.faults (AllBut (node_of c.args.event)) c.args.self.now _ c.self.view_is
+
+pub returns-then-is_err-clause-idle : goal.returns-then-is_err-clause-idle
+returns-then-is_err-clause-idle g c = nodes_kept g.D.Disk.faults Anyone c.args.self.now _ c.self.view_is
 
 pub unreachable-requires : goal.unreachable-requires
 unreachable-requires g c = let i = c.self.inside in
@@ -95,6 +104,13 @@ returns-in-Ok-clause-later g c = let i = c.self.inside in let k = c.keep_up-sent
     (told_later g.D.Disk.faults i.wire i.config i.cells.items c.deref_mut.result.now c.play_at-stepped.new.cells c.deref_mut.ensures.value i.cells.len i.cells.ok.0 i.holder c.in-Some.at c.move_of-node.result.1
     c.in-Ok.messages c.in-Ok.ensures _ c.deref_mut-in-Ok.result.now c.deref_mut-in-Ok.ensures.value c.keep_up-sent.new.cells k.same _ i.fulls)
 
+pub returns-in-Ok-clause-nodes : goal.returns-in-Ok-clause-nodes
+returns-in-Ok-clause-nodes g c = let i = c.self.inside in let k = c.keep_up-sent.ensures in let f = c.in-Some.ensures.found in let m = c.move_of-node.ensures in
+    nodes_than g.D.Disk.faults (AllBut (node_of c.args.event)) c.args.self.now _ c.self.view_is _
+    (told_nodes g.D.Disk.faults i.wire i.config i.cells.items c.deref_mut.result.now c.play_at-stepped.new.cells c.deref_mut.ensures.value i.cells.len i.cells.ok.0 i.holder c.in-Some.at c.move_of-node.result.1
+    c.in-Ok.messages c.in-Ok.ensures _ c.deref_mut-in-Ok.result.now c.deref_mut-in-Ok.ensures.value c.keep_up-sent.new.cells k.same _ k.list
+    f.0 (ap (λ l. slice_get l c.in-Some.at) (sym c.deref.ensures.value) ∙ f.1) (node_of c.args.event) (f.2 ∙ m.node))
+
 pub returns-after-fault-clause-unchanged : goal.returns-after-fault-clause-unchanged
 returns-after-fault-clause-unchanged g c = let i = c.self.inside in
     let still = ap entries_in (fault_list g.D.Disk.faults i.wire i.config i.cells.items c.deref_mut.result.now c.play_at-stepped.new.cells c.deref_mut.ensures.value i.cells.len i.cells.ok.0 i.holder c.in-Some.at c.move_of-node.result.1
@@ -118,6 +134,24 @@ returns-after-fault-clause-later g c = let i = c.self.inside in
       | in-Full w ↦ later_shown g.D.Disk.faults c.args.self.now c.match-fault.self _ _ c.self.view_is w.self-is
           (later i.fulls w.saturating_add-self-inside.result (at_most i.fulls w.saturating_add-self-inside.result (counted i.fulls w.saturating_add-self-inside.result w.saturating_add-self-inside.ensures)))
       | in_default-fault w ↦ later_shown g.D.Disk.faults c.args.self.now c.match-fault.self _ _ c.self.view_is w.self-is (later i.fulls i.fulls (inl (omega arith)))
+    ]
+
+pub returns-after-fault-clause-nodes : goal.returns-after-fault-clause-nodes
+returns-after-fault-clause-nodes g c = let i = c.self.inside in
+    let nodes = fault_nodes g.D.Disk.faults i.wire i.config i.cells.items c.deref_mut.result.now c.play_at-stepped.new.cells c.deref_mut.ensures.value i.cells.len i.cells.ok.0 i.holder c.in-Some.at c.move_of-node.result.1
+    c.in-Err.fault c.in-Err.ensures (drop (length c.play_at-stepped.new.cells) i.cells.items) (AllBut (node_of c.args.event)) in
+    elim c.match-fault.branch [
+      | in-Full w ↦ nodes_shown g.D.Disk.faults (AllBut (node_of c.args.event)) c.args.self.now c.match-fault.self _ _ c.self.view_is w.self-is nodes
+      | in_default-fault w ↦ nodes_shown g.D.Disk.faults (AllBut (node_of c.args.event)) c.args.self.now c.match-fault.self _ _ c.self.view_is w.self-is nodes
+    ]
+
+pub returns-after-fault-clause-idle : goal.returns-after-fault-clause-idle
+returns-after-fault-clause-idle g c = let i = c.self.inside in
+    let nodes = fault_nodes g.D.Disk.faults i.wire i.config i.cells.items c.deref_mut.result.now c.play_at-stepped.new.cells c.deref_mut.ensures.value i.cells.len i.cells.ok.0 i.holder c.in-Some.at c.move_of-node.result.1
+    c.in-Err.fault c.in-Err.ensures (drop (length c.play_at-stepped.new.cells) i.cells.items) Anyone in
+    elim c.match-fault.branch [
+      | in-Full w ↦ nodes_shown g.D.Disk.faults Anyone c.args.self.now c.match-fault.self _ _ c.self.view_is w.self-is nodes
+      | in_default-fault w ↦ nodes_shown g.D.Disk.faults Anyone c.args.self.now c.match-fault.self _ _ c.self.view_is w.self-is nodes
     ]
 
 pub returns-after-fault-clause-cause : goal.returns-after-fault-clause-cause

@@ -1,0 +1,68 @@
+-- What drivers do to the nodes of a stage, one call after another.
+use Rattle.std.proofs.Common.{◌≡◌, ◌≢◌, ℕ, List, [], ◌∷◌, refl, sym, ◌∙◌, subst, arith}
+use Rattle.std.specs.List.{AllZip}
+use Rattle.gp_msg.specs.declared.node.Node.{Node}
+use Rattle.gp_msg.specs.declared.node.Node.TheVariants.{Proposer}
+use Rattle.gp_msg.specs.declared.node.Node.TheVariants as node
+use Rattle.gp_driver.specs.declared.sweep.Role.{Role}
+use Rattle.gp_driver.specs.declared.sweep.Role.TheVariants.{Coordinator, Acceptor, Learner}
+use Rattle.gp_driver.specs.Roles.{node_of}
+use Rattle.gp_driver.specs.Stages.{StageNode, Anyone, Nobody, AllBut, IsProposer, NodeGoes, NodesGo}
+
+-- what is known of a loop, and what the nodes did in it
+pub record WithNodes (known_is : Type 0) (idle : Node → Type 0) (old new : List StageNode) : Type 0 where
+  pub known : known_is
+  pub nodes : NodesGo idle old new
+
+each_still : (idle : Node → Type 0) (xs : List StageNode) → AllZip (NodeGoes idle) xs xs
+each_still idle [] = tt
+each_still idle (x ∷ xs) = (record { same_node = refl; later = omega arith; rests = λ i. refl }, each_still idle xs)
+
+pub nodes_still : (idle : Node → Type 0) (xs : List StageNode) → NodesGo idle xs xs
+nodes_still idle xs = record { each = each_still idle xs }
+
+node_on : (idle : Node → Type 0) (x y z : StageNode) → NodeGoes idle x y → NodeGoes idle y z → NodeGoes idle x z
+node_on idle x y z a b = record {
+  same_node = b.same_node ∙ a.same_node;
+  later = let l = a.later in let m = b.later in omega (arith, l, m);
+  rests = λ i. b.rests (subst idle (sym a.same_node) i) ∙ a.rests i;
+}
+
+each_on : (idle : Node → Type 0) (xs ys zs : List StageNode) → AllZip (NodeGoes idle) xs ys → AllZip (NodeGoes idle) ys zs → AllZip (NodeGoes idle) xs zs
+each_on idle [] [] zs a b = b
+each_on idle [] (y ∷ ys) zs a b = absurd a
+each_on idle (x ∷ xs) [] zs a b = absurd a
+each_on idle (x ∷ xs) (y ∷ ys) [] a b = absurd b
+each_on idle (x ∷ xs) (y ∷ ys) (z ∷ zs) a b = (node_on idle x y z a.0 b.0, each_on idle xs ys zs a.1 b.1)
+
+-- one after another
+pub nodes_on : (idle : Node → Type 0) (xs ys zs : List StageNode) → NodesGo idle xs ys → NodesGo idle ys zs → NodesGo idle xs zs
+nodes_on idle xs ys zs a b = record { each = each_on idle xs ys zs a.each b.each }
+
+each_less : (less more : Node → Type 0) → ((n : Node) → less n → more n) → (xs ys : List StageNode) → AllZip (NodeGoes more) xs ys → AllZip (NodeGoes less) xs ys
+each_less less more h [] [] a = tt
+each_less less more h [] (y ∷ ys) a = absurd a
+each_less less more h (x ∷ xs) [] a = absurd a
+each_less less more h (x ∷ xs) (y ∷ ys) a = (record { same_node = a.0.same_node; later = a.0.later; rests = λ i. a.0.rests (h x.node i) }, each_less less more h xs ys a.1)
+
+-- fewer of them are idle
+pub nodes_less : (less more : Node → Type 0) → ((n : Node) → less n → more n) → (xs ys : List StageNode) → NodesGo more xs ys → NodesGo less xs ys
+nodes_less less more h xs ys a = record { each = each_less less more h xs ys a.each }
+
+pub all_idle : (idle : Node → Type 0) (xs ys : List StageNode) → NodesGo Anyone xs ys → NodesGo idle xs ys
+all_idle idle xs ys a = nodes_less idle Anyone (λ n i. tt) xs ys a
+
+pub none_idle : (idle : Node → Type 0) (xs ys : List StageNode) → NodesGo idle xs ys → NodesGo Nobody xs ys
+none_idle idle xs ys a = nodes_less Nobody idle (λ n i. absurd i) xs ys a
+
+role_apart : (role : Role) (i p : ℕ) → Proposer p ≢ node_of role i
+role_apart Coordinator i p e = cc
+role_apart Acceptor i p e = cc
+role_apart Learner i p e = cc
+
+-- what one node of a role does leaves the proposers alone
+pub role_goes : (role : Role) (i : ℕ) (node : Node) → node ≡ node_of role i → (xs ys : List StageNode) → NodesGo (AllBut node) xs ys → NodesGo IsProposer xs ys
+role_goes role i node is xs ys a = nodes_less IsProposer (AllBut node) (λ n q e. role_apart role i q.0 (sym q.1 ∙ e ∙ is)) xs ys a
+
+pub coordinator_goes : (i : ℕ) (xs ys : List StageNode) → NodesGo (AllBut (node.Coordinator i)) xs ys → NodesGo IsProposer xs ys
+coordinator_goes i xs ys a = role_goes Coordinator i (node.Coordinator i) refl xs ys a

@@ -1,0 +1,134 @@
+-- What a step of a stage does to its nodes: the cell that made the move posts a record or none, and no disk's count falls.
+use Rattle.std.proofs.Common.{◌≡◌, ◌≢◌, ℕ, zero, suc, List, [], ◌∷◌, ◌++◌, length, map, slice_get, refl, sym, ap, ◌∙◌, subst, arith, Some, Result, Ok, Err}
+use Rattle.std.specs.List.{AllZip}
+use Rattle.std.proofs.lemmas.List.{append-nil}
+use mathlib.Core.Logic.{dite}
+use native.Mathlib.Decide.{ℕ_discrete}
+use Rattle.gp_msg.specs.declared.node.Node.{Node}
+use Rattle.gp_msg.specs.declared.record.Record.{Record}
+use Rattle.gp_wire.specs.Known.{WireState}
+use Rattle.gp_work.specs.declared.moves.Move.{Move}
+use Rattle.gp_work.specs.declared.faults.StepFault.{StepFault}
+use Rattle.gp_rules.specs.Own.{own, own_events, event_in}
+use Rattle.gp_rules.specs.Owning.{own_append}
+use Rattle.gp_rules.specs.declared.rules.PaxosRules.{PaxosRules}
+use Rattle.gp_cell.specs.Cells.{CellState}
+use Rattle.gp_cell.specs.Refusals.{faults_of}
+use Rattle.gp_driver.specs.Stages.{StageNode, AllBut, NodeGoes, NodesGo}
+use Rattle.gp_driver.proofs.Going.{nodes_still}
+use Rattle.gp_stage.specs.Held.{HeldCells, seen_by, stage_node, whole_list}
+use Rattle.gp_stage.specs.Gathered.{AreSameBut, rest_of}
+use Rattle.gp_stage.specs.Played.{HasPlayed}
+use Rattle.gp_stage.proofs.Places.{same_at, same_value, map_at}
+use Rattle.gp_stage.proofs.Moving.{own_other}
+
+-- the nodes of a stage
+abbrev pub nodes_of : {D : Type 0} → (D → ℕ) → HeldCells D → List StageNode
+nodes_of faults h = map (stage_node faults (whole_list h)) h.cells
+
+-- ---- cells at the same places
+
+each_goes : {D : Type 0} (idle : Node → Type 0) (f g : CellState D → StageNode) (old new : List (CellState D)) → length new ≡ length old
+    → ((i : ℕ) (x y : CellState D) → slice_get old i ≡ Some x → slice_get new i ≡ Some y → NodeGoes idle (f x) (g y)) → AllZip (NodeGoes idle) (map f old) (map g new)
+each_goes idle f g [] [] e h = tt
+each_goes idle f g [] (y ∷ new) e h = absurd (omega (arith, e))
+each_goes idle f g (x ∷ old) [] e h = absurd (omega (arith, e))
+each_goes idle f g (x ∷ old) (y ∷ new) e h = (h 0 x y refl refl, each_goes idle f g old new (omega (arith, e)) (λ i. h (suc i)))
+
+-- what cells with the same logs are as nodes
+by_rest : {D : Type 0} (faults : D → ℕ) (list : List Record) (cells : List (CellState D))
+    → map (stage_node faults list) cells ≡ map (λ (r : _). record { node = r.1; faults = faults_of faults r.3; events = own_events r.1 list }) (map rest_of cells)
+by_rest faults list [] = refl
+by_rest faults list (c ∷ cells) = ap (λ l. stage_node faults list c ∷ l) (by_rest faults list cells)
+
+pub nodes_same : {D : Type 0} (faults : D → ℕ) (list : List Record) (old new : List (CellState D)) → AreSameBut old new → map (stage_node faults list) new ≡ map (stage_node faults list) old
+nodes_same faults list old new same =
+    by_rest faults list new ∙ ap (map (λ (r : _). record { node = r.1; faults = faults_of faults r.3; events = own_events r.1 list })) same ∙ sym (by_rest faults list old)
+
+-- ---- a move
+
+module _ {D : Type 0} (faults : D → ℕ) (wire : WireState PaxosRules) (old new : List (CellState D)) (holder at : ℕ) (mv : Move) (r : Result ℕ StepFault) (p : HasPlayed faults wire old new holder at mv r) where
+  abbrev list : List Record
+  list = seen_by (slice_get old holder)
+
+  -- another cell's log is as it was, and so are the node's events if they are the same in both lists
+  other_goes : (idle : Node → Type 0) (now : List Record) (i : ℕ) (x y : CellState D) → i ≢ at → slice_get old i ≡ Some x → slice_get new i ≡ Some y → (idle x.node → own_events x.node now ≡ own_events x.node list)
+      → NodeGoes idle (stage_node faults list x) (stage_node faults now y)
+  other_goes idle now i x y n a b h =
+      let e : rest_of y ≡ rest_of x = same_value (rest_of y) (rest_of x) (sym (map_at rest_of new i y b) ∙ p.others i n ∙ map_at rest_of old i x a) in
+      let m : y.node ≡ x.node = ap (λ (q : _). q.1) e in let f : faults_of faults y.log ≡ faults_of faults x.log = ap (λ (q : _). faults_of faults q.3) e in record {
+        same_node = m;
+        later = omega (arith, f);
+        rests = λ is. ap (λ k. own_events k now) m ∙ h is;
+      }
+
+  -- the cell that made the move
+  this_goes : (idle : Node → Type 0) (now : List Record) (i : ℕ) (x y : CellState D) → i ≡ at → slice_get old i ≡ Some x → slice_get new i ≡ Some y → (idle p.before.node → own_events p.before.node now ≡ own_events p.before.node list)
+      → NodeGoes idle (stage_node faults list x) (stage_node faults now y)
+  this_goes idle now i x y is a b h =
+      let before : p.before ≡ x = same_at old at p.before x p.before_is (subst (λ j. slice_get old j ≡ Some x) is a) in
+      let after : p.after ≡ y = same_at new at p.after y p.after_is (subst (λ j. slice_get new j ≡ Some y) is b) in
+      subst (λ (o : CellState D). NodeGoes idle (stage_node faults list o) (stage_node faults now y)) before
+      (subst (λ (n : CellState D). NodeGoes idle (stage_node faults list p.before) (stage_node faults now n)) after (record {
+        same_node = p.node_is;
+        later = p.counts.never_falls;
+        rests = λ q. ap (λ k. own_events k now) p.node_is ∙ h q;
+      }))
+
+  all_go : (idle : Node → Type 0) (now : List Record) → ((n : Node) → idle n → own_events n now ≡ own_events n list) → NodesGo idle (map (stage_node faults list) old) (map (stage_node faults now) new)
+  all_go idle now h = record {
+    each = each_goes idle (stage_node faults list) (stage_node faults now) old new p.length_is (λ i x y a b. dite (ℕ_discrete i at)
+        (λ is. this_goes idle now i x y is a b (h p.before.node))
+        (λ n. other_goes idle now i x y n a b (h x.node)));
+  }
+
+-- a record of another node is none of this node's
+other_events : (n : Node) (list now : List Record) (x : Record) → now ≡ list ++ x ∷ [] → n ≢ x.node → own_events n now ≡ own_events n list
+other_events n list now x e other = ap (λ l. own_events n l) e ∙ ap (map event_in) (own_append n list (x ∷ []) ∙ ap (λ l. own n list ++ l) (own_other n x other) ∙ append-nil (own n list))
+
+module _ {D : Type 0} (faults : D → ℕ) (wire : WireState PaxosRules) (old new : List (CellState D)) (holder at : ℕ) (mv : Move) where
+  pub posted_goes : (n : ℕ) (p : HasPlayed faults wire old new holder at mv (Ok n)) (node : Node) → p.before.node ≡ node
+      → NodesGo (AllBut node) (map (stage_node faults (seen_by (slice_get old holder))) old) (map (stage_node faults (seen_by (slice_get new at))) new)
+  posted_goes n p node is = all_go faults wire old new holder at mv (Ok n) p (AllBut node) (seen_by (slice_get new at)) (λ m other.
+      other_events m (seen_by (slice_get old holder)) (seen_by (slice_get new at)) p.posted.item (ap seen_by p.after_is ∙ p.posted.list_is) (λ e. other (e ∙ p.posted.node_is ∙ p.node_is ∙ is)))
+
+  pub refused_goes : (f : StepFault) (p : HasPlayed faults wire old new holder at mv (Err f)) (idle : Node → Type 0)
+      → NodesGo idle (map (stage_node faults (seen_by (slice_get old holder))) old) (map (stage_node faults (seen_by (slice_get new at))) new)
+  refused_goes f p idle = all_go faults wire old new holder at mv (Err f) p idle (seen_by (slice_get new at)) (λ m i. ap (own_events m) (ap seen_by p.after_is ∙ p.nothing))
+
+-- ---- what the stage shows
+
+module _ {D : Type 0} (faults : D → ℕ) (idle : Node → Type 0) where
+  pub nodes_shown : (now self old new : HeldCells D) → old ≡ now → self ≡ new → NodesGo idle (nodes_of faults old) (nodes_of faults new) → NodesGo idle (nodes_of faults now) (nodes_of faults self)
+  nodes_shown now self old new before after h =
+      subst (λ (o : HeldCells D). NodesGo idle (nodes_of faults o) (nodes_of faults self)) before (subst (λ (n : HeldCells D). NodesGo idle (nodes_of faults old) (nodes_of faults n)) (sym after) h)
+
+  pub nodes_than : (now old : HeldCells D) → old ≡ now → (nodes : List StageNode) → NodesGo idle (nodes_of faults old) nodes → NodesGo idle (nodes_of faults now) nodes
+  nodes_than now old before nodes h = subst (λ (o : HeldCells D). NodesGo idle (nodes_of faults o) nodes) before h
+
+  -- nothing has changed
+  pub nodes_kept : (now old : HeldCells D) → old ≡ now → NodesGo idle (nodes_of faults now) (nodes_of faults old)
+  nodes_kept now old before = nodes_than now old before (nodes_of faults old) (nodes_still idle (nodes_of faults old))
+
+-- ---- what became of one cell
+
+each_at : {D : Type 0} (idle : Node → Type 0) (f g : CellState D → StageNode) (old new : List (CellState D)) → AllZip (NodeGoes idle) (map f old) (map g new) → (i : ℕ) (x : CellState D) → slice_get old i ≡ Some x
+    → (y : CellState D) × (slice_get new i ≡ Some y) × NodeGoes idle (f x) (g y)
+each_at idle f g [] new a i x e = absurd cc
+each_at idle f g (o ∷ old) [] a i x e = absurd a
+each_at idle f g (o ∷ old) (n ∷ new) a zero x e = (n, refl, subst (λ (y : _). NodeGoes idle (f y) (g n)) (same_value o x e) a.0)
+each_at idle f g (o ∷ old) (n ∷ new) a (suc i) x e = each_at idle f g old new a.1 i x e
+
+as_many : {D : Type 0} (idle : Node → Type 0) (f g : CellState D → StageNode) (old new : List (CellState D)) → AllZip (NodeGoes idle) (map f old) (map g new) → length new ≡ length old
+as_many idle f g [] [] a = refl
+as_many idle f g [] (n ∷ new) a = absurd a
+as_many idle f g (o ∷ old) [] a = absurd a
+as_many idle f g (o ∷ old) (n ∷ new) a = ap suc (as_many idle f g old new a.1)
+
+module _ {D : Type 0} (faults : D → ℕ) (idle : Node → Type 0) (old new : HeldCells D) (h : NodesGo idle (nodes_of faults old) (nodes_of faults new)) where
+  -- at its place there is a cell of the same node, whose disk's count has not fallen, with the same events if it is idle
+  pub cell_goes : (i : ℕ) (x : CellState D) → slice_get old.cells i ≡ Some x → (y : CellState D) × (slice_get new.cells i ≡ Some y) × NodeGoes idle (stage_node faults (whole_list old) x) (stage_node faults (whole_list new) y)
+  cell_goes i x e = each_at idle (stage_node faults (whole_list old)) (stage_node faults (whole_list new)) old.cells new.cells h.each i x e
+
+  pub as_many_cells : length new.cells ≡ length old.cells
+  as_many_cells = as_many idle (stage_node faults (whole_list old)) (stage_node faults (whole_list new)) old.cells new.cells h.each
