@@ -22,7 +22,7 @@ use Rattle.gp_rules.specs.declared.rules.PaxosRules.{PaxosRules}
 use Rattle.gp_cell.specs.Cells.{CellState, PostsOne}
 use Rattle.gp_cell.specs.Passing.{GoesOn}
 use Rattle.gp_cell.specs.Falls.{Rises}
-use Rattle.gp_cell.specs.Refusals.{CountsFaults, CountsRiseFaults, IsTooGreat, StepCause, faults_of}
+use Rattle.gp_cell.specs.Refusals.{CountsFaults, CountsRiseFaults, IsTooGreat, StepCause, faults_of, limit_of}
 use Rattle.gp_cell.specs.Working.{process_of, is_up, IsAt}
 
 pub risen_to : (t : Option ℕ) (n : ℕ) → IsBelow t n → HasRisen t (Some n)
@@ -33,8 +33,8 @@ pub had_risen : (p q : PassState) → HadTurn p q nothing → HasRisen p.turn q.
 had_risen p q t = subst (HasRisen p.turn) (sym (ap (λ (x : PassState). x.turn) t.after)) (risen_to p.turn t.turn t.risen)
 
 module _ {D : Type 0} (faults : D → ℕ) (o r : CellState D) (config : r.config ≡ o.config) (node : r.node ≡ o.node) where
-  pub goes : GoesOn o.pass r.pass → faults_of faults o.log ≤ faults_of faults r.log → Goes (process_of faults o) (process_of faults r)
-  goes g f = record { node = node; config = config; more = g.more; grown = g.grown; turn = g.turn; faults = f }
+  pub goes : GoesOn o.pass r.pass → faults_of faults o.log ≤ faults_of faults r.log → limit_of r.log ≡ limit_of o.log → Goes (process_of faults o) (process_of faults r)
+  goes g f l = record { node = node; config = config; more = g.more; grown = g.grown; turn = g.turn; faults = f; limit = l }
 
   pub at_same : (w : WireState PaxosRules) → GoesOn o.pass r.pass → IsAt o w → IsAt r w
   at_same w g a = record {

@@ -75,6 +75,7 @@ step_cause {D} first old new mv plan (Full size needed) at is log config node co
     let great : IsTooGreat (cell_of old.config old.node old.core new.log old.pass new.down) (event_of old.node mv) size needed = record {
       item = plan.made;
       event_is = event;
+      own = t.plan.node_is;
       lawful = t.lawful;
       log = o.log;
       log_is = o.same ∙ o.log_is;

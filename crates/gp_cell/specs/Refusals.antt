@@ -28,6 +28,10 @@ abbrev pub faults_of : {D : Type 0} → (D → ℕ) → Option (LogState D) → 
 faults_of faults None = 0
 faults_of faults (Some log) = faults log.disk
 
+-- the limit of a log, if there is one
+abbrev pub limit_of : {D : Type 0} → Option (LogState D) → Option ℕ
+limit_of log = option_map (λ l. l.limit) log
+
 -- the disk failed
 abbrev pub IsDisk : StepFault → Type 0
 IsDisk Waiting = ⊥
@@ -71,10 +75,11 @@ pub record HasNoRoom {D : Type 0} (log : LogState D) (part : EpochPart) (needed 
   pub not_alone : log.limit < 17 + need None part
   pub needed_is : needed ≡ need None part
 
--- at a cell, an event is legal next and changes the durable part, for which its log has no room; these are the size of a log with one entry, without that entry, and the bytes that the part needs
+-- at a cell, an event of its node is legal next and changes the durable part, for which its log has no room; these are the size of a log with one entry, without that entry, and the bytes that the part needs
 pub record IsTooGreat {D : Type 0} (c : CellState D) (event : Event) (size needed : ℕ) : Type 0 where
   pub item : Record
   pub event_is : item.event ≡ event
+  pub own : item.node ≡ c.node
   pub lawful : IsLawful c.config (entries_in (records c.pass)) (entry_of item)
   pub log : LogState D
   pub log_is : c.log ≡ Some log

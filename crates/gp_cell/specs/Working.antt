@@ -6,16 +6,16 @@ use Rattle.gp_work.specs.declared.moves.Move.{Move}
 use Rattle.gp_work.specs.Doing.{ProcessState}
 use Rattle.gp_rules.specs.declared.rules.PaxosRules.{PaxosRules}
 use Rattle.gp_cell.specs.Cells.{CellState}
-use Rattle.gp_cell.specs.Refusals.{faults_of}
+use Rattle.gp_cell.specs.Refusals.{faults_of, limit_of}
 
 -- it is up if it went down in no move
 abbrev pub is_up : Option Move → Bool
 is_up None = true
 is_up (Some mv) = false
 
--- the cell, with the number of faults of its disk
+-- the cell, with the number of faults of its disk and the limit of its log
 abbrev pub process_of : {D : Type 0} → (D → ℕ) → CellState D → ProcessState
-process_of faults c = record { node = c.node; config = c.config; list = records c.pass; turn = c.pass.turn; faults = faults_of faults c.log; up = is_up c.down }
+process_of faults c = record { node = c.node; config = c.config; list = records c.pass; turn = c.pass.turn; faults = faults_of faults c.log; limit = limit_of c.log; up = is_up c.down }
 
 -- the cell's pass is one of this wire, knows its nodes and holds the cell's node, and the wire has the rules of the cell's configuration
 pub record IsAt {D : Type 0} (c : CellState D) (w : WireState PaxosRules) : Type 0 where

@@ -15,7 +15,7 @@ ghost use Rattle.gp_cell.specs.Passing.{Later, GoesOn};
 ghost use Rattle.gp_cell.specs.Crashes.{HoldsSame, IsReadyLog};
 ghost use Rattle.gp_cell.specs.Falls.{fell, IsFall, IsRevival, Rises, FitsNone};
 ghost use Rattle.gp_cell.specs.Founds.{IsFound, IsChanged, LogBreaksWhere, FallCause, RiseCause, IsNotRisen};
-ghost use Rattle.gp_cell.specs.Refusals.{CountsRiseFaults, faults_of};
+ghost use Rattle.gp_cell.specs.Refusals.{CountsRiseFaults, faults_of, limit_of};
 
 use crate::cell::Cell;
 use crate::found::Found;
@@ -57,6 +57,7 @@ impl<D: Disk> Cell<D> {
         ensures rest { (self.new.config ≡ self.old.config) × (self.new.node ≡ self.old.node) × (self.new.core ≡ self.old.core) × (self.new.pass ≡ self.old.pass) × (self.new.down ≡ self.old.down) }
         ensures found { IfOk result (IsFound (part_in (opening self.new.config self.new.node)) self.new.log) }
         ensures count { CountsRiseFaults (faults_of D.faults self.old.log) (faults_of D.faults self.new.log) result }
+        ensures limit { limit_of self.new.log ≡ limit_of self.old.log }
         ensures content { HoldsSame D.content self.old.log self.new.log }
         ensures shown { OnOk result (IsReadyLog D.content D.image self.new.log) }
         ensures broken { IfErr result (LogBreaksWhere D.content self.old.log) }
@@ -149,6 +150,7 @@ impl<D: Disk> Cell<D> {
         ensures shown { OnOk result (IsReadyLog D.content D.image self.new.log) }
         ensures cause { IfErr result (RiseCause D.content self.old self.new mv.now) }
         ensures count { CountsRiseFaults (faults_of D.faults self.old.log) (faults_of D.faults self.new.log) result }
+        ensures limit { limit_of self.new.log ≡ limit_of self.old.log }
     {
         let found = match self.reopen_log() {
             Ok(found) => found,
@@ -193,6 +195,7 @@ impl<D: Disk> Cell<D> {
         ensures shown { OnOk result (IsReadyLog D.content D.image self.new.log) }
         ensures cause { IfErr result (IsNotRisen D.content self.old self.new) }
         ensures faults { CountsRiseFaults (faults_of D.faults self.old.log) (faults_of D.faults self.new.log) result }
+        ensures limit { limit_of self.new.log ≡ limit_of self.old.log }
     {
         let mv = match self.downed() {
             Ok(mv) => mv,

@@ -8,7 +8,7 @@ ghost use Rattle.gp_work.specs.declared.faults.RiseFault.TheVariants as RiseFaul
 ghost use Rattle.gp_rules.specs.Cores.{part_in};
 ghost use Rattle.gp_cell.specs.Cells.{HasLog, last_or};
 ghost use Rattle.gp_cell.specs.Falls.{fell, kept_of, KeepsMove, FitsNone};
-ghost use Rattle.gp_cell.specs.Refusals.{CountsRiseFaults, faults_of};
+ghost use Rattle.gp_cell.specs.Refusals.{CountsRiseFaults, faults_of, limit_of};
 ghost use Rattle.gp_cell.specs.Founds.{found_entry, IsFound, IsChanged, BreaksWhere, LogBreaksWhere};
 
 use crate::found::Found;
@@ -30,6 +30,7 @@ pub(crate) fn reopen<D: Disk>(
     ensures there { HasLog log.new }
     ensures found { IfOk result (IsFound (option_map part_of first) log.new) }
     ensures count { CountsRiseFaults (faults_of D.faults log.old) (faults_of D.faults log.new) result }
+    ensures limit { limit_of log.new ≡ limit_of log.old }
     ensures content { HoldsSame D.content log.old log.new }
     ensures shown { OnOk result (IsReadyLog D.content D.image log.new) }
     ensures broken { IfErr result (LogBreaksWhere D.content log.old) }
@@ -46,6 +47,7 @@ fn reopen_one<D: Disk>(log: &mut Log<D>, first: Durable) -> Result<Found, RiseFa
     ensures last { IfOk result (λ f. last_or (part_of first) log.new.entries ≡ part_of f.part) }
     ensures entry { IfOk result (λ f. found_entry f ≡ last log.new.entries) }
     ensures count { CountsRiseFaults (D.faults log.old.disk) (D.faults log.new.disk) result }
+    ensures limit { log.new.limit ≡ log.old.limit }
     ensures content { D.content log.new.disk ≡ D.content log.old.disk }
     ensures shown { OnOk result (IsReady D.content D.image log.new) }
     ensures broken { IfErr result (BreaksWhere log.old.limit (D.content log.old.disk)) }

@@ -16,7 +16,7 @@ ghost use Rattle.gp_rules.specs.Lawful.{IsLawful};
 ghost use Rattle.gp_cell.specs.Cells.{IsSameBut, IsThought, Keeps, PostsOne};
 ghost use Rattle.gp_cell.specs.Passing.{Later, GoesOn, posts_in};
 ghost use Rattle.gp_cell.specs.Crashes.{Writes, LeavesOneOf, IsReadyLog};
-ghost use Rattle.gp_cell.specs.Refusals.{CountsFaults, IsReadFault, StepCause, WriteCause, faults_of, part_after};
+ghost use Rattle.gp_cell.specs.Refusals.{CountsFaults, IsReadFault, StepCause, WriteCause, faults_of, limit_of, part_after};
 
 use crate::cell::Cell;
 use crate::planning::{Plan, make_plan};
@@ -106,6 +106,7 @@ impl<D: Disk> Cell<D> {
         ensures crash { LeavesOneOf D.content D.moment D.since (part_in (opening self.old.config self.old.node)) (part_in self.old.core) (part_in next.now) self.old.log self.new.log }
         ensures cause { IfErr result (WriteCause self.old self.new next.now mv) }
         ensures count { CountsFaults (faults_of D.faults self.old.log) (faults_of D.faults self.new.log) result }
+        ensures limit { limit_of self.new.log ≡ limit_of self.old.log }
     {
         match new_part(&self.core, next) {
             Err(NoMemory) => {
@@ -205,6 +206,7 @@ impl<D: Disk> Cell<D> {
         ensures crash { LeavesOneOf D.content D.moment D.since (part_in (opening self.old.config self.old.node)) (part_in self.old.core) (part_after self.old self.new mv) self.old.log self.new.log }
         ensures cause { IfErr result (StepCause self.old self.new mv) }
         ensures faults { CountsFaults (faults_of D.faults self.old.log) (faults_of D.faults self.new.log) result }
+        ensures limit { limit_of self.new.log ≡ limit_of self.old.log }
     {
         self.know_log();
         let plan = match self.prepare(rt, wire, &mv) {

@@ -7,7 +7,7 @@ ghost use Rattle.gp_vlog.specs.Bodies.{need};
 ghost use Rattle.gp_vlog.specs.Logs.{KeepsRules, log_entries, entry_for, last};
 ghost use Rattle.gp_rules.specs.Cores.{part_in};
 ghost use Rattle.gp_cell.specs.Cells.{IsFit, IsFitLog, HasLog, Keeps, SameKind};
-ghost use Rattle.gp_cell.specs.Refusals.{CountsFaults, IsFullWhere, IsFullLogWhere, AddsPart, faults_of};
+ghost use Rattle.gp_cell.specs.Refusals.{CountsFaults, IsFullWhere, IsFullLogWhere, AddsPart, faults_of, limit_of};
 ghost use Rattle.gp_cell.specs.Crashes.{AddsToLog, OldOrWritten, LeavesWritten};
 
 use gp_command::NoMemory;
@@ -136,6 +136,7 @@ pub(crate) fn write_to<D: Disk>(log: &mut Option<Log<D>>, part: &Durable) -> Res
     ensures entries { OnOk result (AddsToLog log.old log.new part.now) }
     ensures full { IsFullLogWhere log.old log.new (part_of part.now) result }
     ensures count { CountsFaults (faults_of D.faults log.old) (faults_of D.faults log.new) result }
+    ensures limit { limit_of log.new ≡ limit_of log.old }
     ensures crash { LeavesWritten D.content D.moment D.since log.old log.new (part_of part.now) }
 {
     let Some(log) = log else { unreachable!() };

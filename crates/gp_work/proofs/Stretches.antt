@@ -32,7 +32,7 @@ risen_on (Some t) None (Some w) a b = absurd a
 risen_on (Some t) (Some u) (Some w) a b = omega arith
 
 pub goes_same : (p : ProcessState) → Goes p p
-goes_same p = record { node = refl; config = refl; more = []; grown = sym (append-nil p.list); turn = up_same p.turn; faults = omega arith }
+goes_same p = record { node = refl; config = refl; more = []; grown = sym (append-nil p.list); turn = up_same p.turn; faults = omega arith; limit = refl }
 
 pub goes_on : (p q r : ProcessState) → Goes p q → Goes q r → Goes p r
 goes_on p q r a b = record {
@@ -42,6 +42,7 @@ goes_on p q r a b = record {
   grown = b.grown ∙ ap (λ l. l ++ b.more) a.grown ∙ append_assoc p.list a.more b.more;
   turn = up_on p.turn q.turn r.turn a.turn b.turn;
   faults = let x = a.faults in let y = b.faults in omega arith;
+  limit = b.limit ∙ a.limit;
 }
 
 -- messages that stood stand first

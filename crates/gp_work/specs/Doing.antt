@@ -7,13 +7,14 @@ use Rattle.gp_msg.specs.declared.record.Record.{Record}
 use Rattle.gp_wire.specs.Messages.{messages_in}
 use Rattle.gp_rules.specs.Own.{own, own_events}
 
--- which node it is and of which configuration, the list that it has seen, the number of its last turn at the wire, how often its disk failed, and whether it is up
+-- which node it is and of which configuration, the list that it has seen, the number of its last turn at the wire, how often its disk failed, the limit of its log, if it keeps one, and whether it is up
 pub record ProcessState : Type 0 where
   pub node : Node
   pub config : Counts
   pub list : List Record
   pub turn : Option ℕ
   pub faults : ℕ
+  pub limit : Option ℕ
   pub up : Bool
 
 -- how many records it posted
@@ -40,7 +41,7 @@ HasRisen (Some t) (Some u) = t < u
 abbrev pub RoseTwice : ℕ → ℕ → Type 0
 RoseTwice before now = min (before + 2) (2 ^ 64 - 1) ≤ now
 
--- it is the same node, whose list may be longer
+-- it is the same node, whose list may be longer, and whose log has the same limit
 pub record Goes (p q : ProcessState) : Type 0 where
   pub node : q.node ≡ p.node
   pub config : q.config ≡ p.config
@@ -48,6 +49,7 @@ pub record Goes (p q : ProcessState) : Type 0 where
   pub grown : q.list ≡ p.list ++ more
   pub turn : IsUpTo p.turn q.turn
   pub faults : p.faults ≤ q.faults
+  pub limit : q.limit ≡ p.limit
 
 -- what it posted has these events
 abbrev pub Posted : ProcessState → ProcessState → List Event → Type 0

@@ -4,6 +4,7 @@ use Rattle.gp_rules.specs.Own.{own}
 use Rattle.gp_cell.proofs.Acts.{goes, at_same, posted_none, same_faults}
 use Rattle.gp_cell.proofs.Going.{later_goes}
 use Rattle.gp_cell.proofs.Posting.{had_later}
+use Rattle.gp_cell.specs.Refusals.{limit_of}
 use Rattle.gp_cell.specs.Working.{is_up}
 use Rattle.gp_cell.proofs.process.CellProcessWirePaxosRules.kind.Goals as goal
 
@@ -15,7 +16,7 @@ returns-clause-own g c =
 pub returns-clause-goes : goal.returns-clause-goes
 returns-clause-goes g c =
     let e = c.kind_of.ensures in let o = c.args.self.now in let r = c.kind_of.new.self in
-    goes g.D.Disk.faults o r e.rest.0 e.rest.1 (later_goes o.pass r.pass (had_later o.pass r.pass e.turn)) (same_faults g.D.Disk.faults o r e.rest.3)
+    goes g.D.Disk.faults o r e.rest.0 e.rest.1 (later_goes o.pass r.pass (had_later o.pass r.pass e.turn)) (same_faults g.D.Disk.faults o r e.rest.3) (ap limit_of e.rest.3)
 
 pub returns-clause-posts : goal.returns-clause-posts
 returns-clause-posts g c =

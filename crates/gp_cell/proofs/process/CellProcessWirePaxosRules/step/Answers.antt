@@ -9,7 +9,7 @@ pub returns-clause-own : goal.returns-clause-own
 returns-clause-own g c = let e = c.step.ensures in at_same g.D.Disk.faults c.args.self.now c.step.new.self e.same.0 e.same.1 c.args.net.now e.goes c.requires.own
 
 pub returns-clause-goes : goal.returns-clause-goes
-returns-clause-goes g c = let e = c.step.ensures in goes g.D.Disk.faults c.args.self.now c.step.new.self e.same.0 e.same.1 e.goes e.faults.never_falls
+returns-clause-goes g c = let e = c.step.ensures in goes g.D.Disk.faults c.args.self.now c.step.new.self e.same.0 e.same.1 e.goes e.faults.never_falls e.limit
 
 pub returns-clause-posted : goal.returns-clause-posted
 returns-clause-posted g c = let e = c.step.ensures in let o = c.args.self.now in step_posted g.D.Disk.faults o c.step.new.self e.same.0 e.same.1 (event_of o.node c.args.mv) c.step.result e.posted
