@@ -4,7 +4,7 @@ ghost use Rattle.std.specs.List.{All};
 ghost use Rattle.gp_work.specs.declared.job.Job.{Job as JobOf};
 ghost use Rattle.gp_cell.specs.Cells.{CellState};
 ghost use Rattle.gp_cell.specs.Working.{process_of};
-ghost use Rattle.gp_node.specs.Phases.{IsReadyJob};
+ghost use Rattle.gp_node.specs.Phases.{IsReadyJob, IsWorkedJob};
 ghost use Rattle.gp_phase.specs.Phases.{total};
 ghost use Rattle.gp_seats.specs.Nodes.{proposer_nodes};
 ghost use Rattle.gp_seats.specs.Seats.{IsNewAt};
@@ -132,6 +132,8 @@ pub fn offer_all<D: Disk + Send, W: Threads + Wait + Sync, G: Gate + Sync>(
     ensures size { IfOk result (λ js. length js.items ≡ length proposers.items) }
     ensures offered { IfOk result (λ js. (i : ℕ) (d : JobOf (CellState D)) → i < length proposers.items
         → HasOffered D.faults wire.now offers.now (slice_index_or proposers.items i d) (slice_index_or js.items i d)) }
+    ensures worked { IfOk result (λ js. (i : ℕ) (d : JobOf (CellState D)) → i < length proposers.items
+        → IsWorkedJob D.faults wire.now (slice_index_or (map (given_to offers.now) proposers.items) i d) (slice_index_or js.items i d)) }
     ensures count { IfOk result (λ js. total (process_of D.faults) 0 js.items ≡ length offers.now) }
 {
     let given = give_all(alloc, wire, proposers, offers.as_slice())?;
