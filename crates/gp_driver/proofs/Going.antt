@@ -1,5 +1,6 @@
 -- What drivers do to the nodes of a stage, one call after another.
-use Rattle.std.proofs.Common.{◌≡◌, ◌≢◌, ℕ, List, [], ◌∷◌, refl, sym, ◌∙◌, subst, arith}
+use Rattle.std.proofs.Common.{◌≡◌, ◌≢◌, ◌≤◌, ℕ, zero, suc, inl, inr, List, [], ◌∷◌, refl, sym, ap, ◌∙◌, subst, arith, Some, None, Result, Ok, Err}
+use Rattle.std.specs.Prelude.{slice_get}
 use Rattle.std.specs.List.{AllZip}
 use Rattle.gp_msg.specs.declared.node.Node.{Node}
 use Rattle.gp_msg.specs.declared.node.Node.TheVariants.{Proposer}
@@ -7,7 +8,9 @@ use Rattle.gp_msg.specs.declared.node.Node.TheVariants as node
 use Rattle.gp_driver.specs.declared.sweep.Role.{Role}
 use Rattle.gp_driver.specs.declared.sweep.Role.TheVariants.{Coordinator, Acceptor, Learner}
 use Rattle.gp_driver.specs.Roles.{node_of}
-use Rattle.gp_driver.specs.Stages.{StageNode, Anyone, Nobody, AllBut, IsProposer, NodeGoes, NodesGo}
+use Rattle.gp_driver.specs.declared.stage.StageFault.{StageFault}
+use Rattle.gp_driver.specs.declared.stage.StageFault.TheVariants as fault
+use Rattle.gp_driver.specs.Stages.{StageNode, Anyone, Nobody, AllBut, IsProposer, NodeGoes, NodesGo, HasRisen, SomeNodeRose, IfDiskFailed, FailsByNode}
 
 -- what is known of a loop, and what the nodes did in it
 pub record WithNodes (known_is : Type 0) (idle : Node → Type 0) (old new : List StageNode) : Type 0 where
@@ -16,7 +19,7 @@ pub record WithNodes (known_is : Type 0) (idle : Node → Type 0) (old new : Lis
 
 each_still : (idle : Node → Type 0) (xs : List StageNode) → AllZip (NodeGoes idle) xs xs
 each_still idle [] = tt
-each_still idle (x ∷ xs) = (record { same_node = refl; later = omega arith; rests = λ i. refl }, each_still idle xs)
+each_still idle (x ∷ xs) = (record { same_node = refl; later = omega arith; same_limit = refl; rests = λ i. refl }, each_still idle xs)
 
 pub nodes_still : (idle : Node → Type 0) (xs : List StageNode) → NodesGo idle xs xs
 nodes_still idle xs = record { each = each_still idle xs }
@@ -25,6 +28,7 @@ node_on : (idle : Node → Type 0) (x y z : StageNode) → NodeGoes idle x y →
 node_on idle x y z a b = record {
   same_node = b.same_node ∙ a.same_node;
   later = let l = a.later in let m = b.later in omega (arith, l, m);
+  same_limit = b.same_limit ∙ a.same_limit;
   rests = λ i. b.rests (subst idle (sym a.same_node) i) ∙ a.rests i;
 }
 
@@ -43,7 +47,7 @@ each_less : (less more : Node → Type 0) → ((n : Node) → less n → more n)
 each_less less more h [] [] a = tt
 each_less less more h [] (y ∷ ys) a = absurd a
 each_less less more h (x ∷ xs) [] a = absurd a
-each_less less more h (x ∷ xs) (y ∷ ys) a = (record { same_node = a.0.same_node; later = a.0.later; rests = λ i. a.0.rests (h x.node i) }, each_less less more h xs ys a.1)
+each_less less more h (x ∷ xs) (y ∷ ys) a = (record { same_node = a.0.same_node; later = a.0.later; same_limit = a.0.same_limit; rests = λ i. a.0.rests (h x.node i) }, each_less less more h xs ys a.1)
 
 -- fewer of them are idle
 pub nodes_less : (less more : Node → Type 0) → ((n : Node) → less n → more n) → (xs ys : List StageNode) → NodesGo more xs ys → NodesGo less xs ys
@@ -66,3 +70,37 @@ role_goes role i node is xs ys a = nodes_less IsProposer (AllBut node) (λ n q e
 
 pub coordinator_goes : (i : ℕ) (xs ys : List StageNode) → NodesGo (AllBut (node.Coordinator i)) xs ys → NodesGo IsProposer xs ys
 coordinator_goes i xs ys a = role_goes Coordinator i (node.Coordinator i) refl xs ys a
+
+-- ---- faults of disks
+
+rose_on : (a b c : ℕ) → a ≤ b → HasRisen b c → HasRisen a c
+rose_on a b c l (inl r) = inl (omega (arith, l, r))
+rose_on a b c l (inr e) = inr e
+
+-- the node at a place before
+record WasAt (idle : Node → Type 0) (xs : List StageNode) (place : ℕ) (y : StageNode) : Type 0 where
+  node : StageNode
+  there : slice_get xs place ≡ Some node
+  goes : NodeGoes idle node y
+
+was_at : (idle : Node → Type 0) (xs ys : List StageNode) (place : ℕ) (y : StageNode) → AllZip (NodeGoes idle) xs ys → slice_get ys place ≡ Some y → WasAt idle xs place y
+was_at idle [] [] place y a e = absurd (let wrong : None ≡ Some y = e in cc)
+was_at idle [] (z ∷ ys) place y a e = absurd a
+was_at idle (x ∷ xs) [] place y a e = absurd a
+was_at idle (x ∷ xs) (z ∷ ys) zero y a e = record { node = x; there = refl; goes = subst (NodeGoes idle x) (let same : z ≡ y = (let some : Some z ≡ Some y = e in cc) in same) a.0 }
+was_at idle (x ∷ xs) (z ∷ ys) (suc place) y a e = let w = was_at idle xs ys place y a.1 e in record { node = w.node; there = w.there; goes = w.goes }
+
+some_rose : (idle : Node → Type 0) (xs ys zs : List StageNode) → NodesGo idle xs ys → SomeNodeRose ys zs → SomeNodeRose xs zs
+some_rose idle xs ys zs a r =
+    let w = was_at idle xs ys r.place r.was a.each r.before in
+    record { place = r.place; was = w.node; is = r.is; before = w.there; after = r.after; rose = rose_on w.node.faults r.was.faults r.is.faults w.goes.later r.rose }
+
+failed_after : (P Q : Type 0) (r : Result ℕ StageFault) → (P → Q) → IfDiskFailed r P → IfDiskFailed r Q
+failed_after P Q (Ok n) h f = tt
+failed_after P Q (Err fault.NoMemory) h f = tt
+failed_after P Q (Err fault.Disk) h f = h f
+failed_after P Q (Err (fault.Full size need)) h f = tt
+
+-- a call after others failed by the disk of a node
+pub failed_on : (idle : Node → Type 0) (xs ys zs : List StageNode) (r : Result ℕ StageFault) → NodesGo idle xs ys → FailsByNode ys zs r → FailsByNode xs zs r
+failed_on idle xs ys zs r a f = record { by_node = failed_after (SomeNodeRose ys zs) (SomeNodeRose xs zs) r (some_rose idle xs ys zs a) f.by_node }

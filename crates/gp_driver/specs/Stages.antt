@@ -1,5 +1,5 @@
 -- What a stage is, and what a driver does to it.
-use Rattle.std.specs.Prelude.{◌≡◌, ◌≢◌, ◌≤◌, ◌<◌, ◌+◌, ◌-◌, ◌^◌, ◌⊎◌, ℕ, Bool, true, false, List, length, Result, Ok, Err}
+use Rattle.std.specs.Prelude.{◌≡◌, ◌≢◌, ◌≤◌, ◌<◌, ◌+◌, ◌-◌, ◌^◌, ◌⊎◌, ℕ, Bool, true, false, List, length, slice_get, Option, Some, Result, Ok, Err}
 use Rattle.std.specs.List.{AllZip}
 use Rattle.gp_round.specs.Counts.{Counts}
 use Rattle.gp_msg.specs.declared.node.Node.{Node}
@@ -11,10 +11,11 @@ use Rattle.gp_run.specs.Legal.{fits}
 use Rattle.gp_driver.specs.declared.stage.StageFault.{StageFault}
 use Rattle.gp_driver.specs.declared.stage.StageFault.TheVariants.{NoMemory, Disk, Full}
 
--- one node of a stage: which it is, how often its disk failed, and its events in the run, the oldest first
+-- one node of a stage: which it is, how often its disk failed, the limit of its log, if it keeps one, and its events in the run, the oldest first
 pub record StageNode : Type 0 where
   pub node : Node
   pub faults : ℕ
+  pub limit : Option ℕ
   pub events : List Event
 
 -- what contracts see of a stage: its configuration, the run of its nodes with the newest entry first, the nodes that have disks, how often a disk failed or a log was full, whether a step can be made, and which two numbers, the size of a log and the need of an entry, are too great for an event
@@ -44,10 +45,11 @@ AllBut node n = n ≢ node
 abbrev pub IsProposer : Node → Type 0
 IsProposer n = (p : ℕ) × (n ≡ Proposer p)
 
--- the same node later: its disk failed no less often, and if it is idle it has the same events
+-- the same node later: its disk failed no less often, its log has the same limit, and if it is idle it has the same events
 pub record NodeGoes (idle : Node → Type 0) (old new : StageNode) : Type 0 where
   pub same_node : new.node ≡ old.node
   pub later : old.faults ≤ new.faults
+  pub same_limit : new.limit ≡ old.limit
   pub rests : idle old.node → new.events ≡ old.events
 
 -- the same nodes later, in the same order
@@ -73,6 +75,30 @@ pub record IsTooGreatForOne (config : Counts) (es : List Entry) (is_too_great : 
   pub event_fits : fits config es event ≡ true
   pub no_fall : is_fall event ≡ false
   pub great : is_too_great event size need
+
+-- the count of a disk has risen, or stands at its last value
+abbrev pub HasRisen : ℕ → ℕ → Type 0
+HasRisen before now = (before < now) ⊎ (2 ^ 64 - 1 ≤ now)
+
+-- the disk of one of these nodes failed
+pub record SomeNodeRose (old new : List StageNode) : Type 0 where
+  pub place : ℕ
+  pub was : StageNode
+  pub is : StageNode
+  pub before : slice_get old place ≡ Some was
+  pub after : slice_get new place ≡ Some is
+  pub rose : HasRisen was.faults is.faults
+
+-- if a disk failed, this holds
+abbrev pub IfDiskFailed : Result ℕ StageFault → Type 0 → Type 0
+IfDiskFailed (Ok n) P = Unit {0}
+IfDiskFailed (Err NoMemory) P = Unit {0}
+IfDiskFailed (Err Disk) P = P
+IfDiskFailed (Err (Full size need)) P = Unit {0}
+
+-- a disk's fault is that of one of these nodes
+pub record FailsByNode (old new : List StageNode) (result : Result ℕ StageFault) : Type 0 where
+  pub by_node : IfDiskFailed result (SomeNodeRose old new)
 
 -- a fault has a cause: that of a disk and that of a full log come only if the count of faults rose, and a full log has numbers that are too great
 abbrev pub HasCause : ℕ → ℕ → (ℕ → ℕ → Type 0) → StageFault → Type 0

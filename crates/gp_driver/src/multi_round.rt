@@ -4,7 +4,7 @@ ghost use Rattle.gp_msg.specs.declared.event.Event.TheVariants.{Begin};
 ghost use Rattle.gp_run.specs.Runs.{entry_after};
 ghost use Rattle.gp_driver.specs.Driving.{first_round, opened, driven, all_driven, drive_multi};
 ghost use Rattle.gp_driver.specs.Driven.{AreNoCheckpoints, DrivesMulti};
-ghost use Rattle.gp_driver.specs.Stages.{HasDriven, IsProposer, Nobody, NodesGo};
+ghost use Rattle.gp_driver.specs.Stages.{HasDriven, IsProposer, Nobody, NodesGo, FailsByNode};
 
 use crate::stage::{Stage, StageFault, config_of};
 use crate::sweep::{Role, make, sweep};
@@ -21,6 +21,7 @@ fn begin_first<S: Stage, W: Wait>(rt: &W, stage: &mut S) -> Result<u64, StageFau
     ensures driven { HasDriven (S.state stage.old) (S.state stage.new)
         (entry_after (S.state stage.old).config (S.state stage.old).run (Begin 0 first_round) ∷ (S.state stage.old).run) result }
     ensures nodes { NodesGo IsProposer (S.state stage.old).nodes (S.state stage.new).nodes }
+    ensures failed { FailsByNode (S.state stage.old).nodes (S.state stage.new).nodes result }
 {
     let round = Round {
         count: 1,
@@ -47,6 +48,7 @@ fn lead_first<S: Stage, W: Wait>(rt: &W, stage: &mut S, config: &Config) -> Resu
     ensures driven { HasDriven (S.state stage.old) (S.state stage.new)
         (opened (S.state stage.old).config) result }
     ensures nodes { NodesGo IsProposer (S.state stage.old).nodes (S.state stage.new).nodes }
+    ensures failed { FailsByNode (S.state stage.old).nodes (S.state stage.new).nodes result }
 {
     let begun = begin_first(rt, stage)?;
     let acceptors = config.acceptors();
@@ -73,6 +75,7 @@ fn drive_one<S: Stage, W: Wait>(
     ensures driven { HasDriven (S.state stage.old) (S.state stage.new)
         (driven (S.state stage.old).config draft (S.state stage.old).run) result }
     ensures nodes { NodesGo Nobody (S.state stage.old).nodes (S.state stage.new).nodes }
+    ensures failed { FailsByNode (S.state stage.old).nodes (S.state stage.new).nodes result }
 {
     let start = stage.messages();
     let offered = make(rt, stage, Event::Offer { proposer: 0, draft })?;
@@ -110,6 +113,7 @@ fn drive_each<S: Stage, W: Wait>(
     ensures driven { HasDriven (S.state stage.old) (S.state stage.new)
         (all_driven (S.state stage.old).config drafts.items (S.state stage.old).run) result }
     ensures nodes { NodesGo Nobody (S.state stage.old).nodes (S.state stage.new).nodes }
+    ensures failed { FailsByNode (S.state stage.old).nodes (S.state stage.new).nodes result }
 {
     let mut events: u64 = 0;
     for draft in drafts {
@@ -141,6 +145,7 @@ pub fn drive_multi<S: Stage, W: Wait>(
     ensures driven { HasDriven (S.state stage.old) (S.state stage.new)
         (drive_multi (S.state stage.old).config drafts.items) result }
     ensures nodes { NodesGo Nobody (S.state stage.old).nodes (S.state stage.new).nodes }
+    ensures failed { FailsByNode (S.state stage.old).nodes (S.state stage.new).nodes result }
     ensures brings { DrivesMulti (S.state stage.old).config drafts.items }
 {
     let config = config_of(stage);

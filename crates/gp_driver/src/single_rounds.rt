@@ -9,7 +9,7 @@ ghost use Rattle.gp_driver.specs.Sweeps.{places, swept};
 ghost use Rattle.gp_driver.specs.Roles.{node_of};
 ghost use Rattle.gp_driver.specs.declared.sweep.Role.TheVariants as Role;
 ghost use Rattle.gp_driver.specs.Settling.{closings, closed, pass, passes, CanPass, settle, checkpoints};
-ghost use Rattle.gp_driver.specs.Stages.{HasDriven, IsProposer, NodesGo};
+ghost use Rattle.gp_driver.specs.Stages.{HasDriven, IsProposer, NodesGo, FailsByNode};
 ghost use Rattle.gp_driver.specs.Settled.{Settles};
 
 use crate::stage::{Stage, StageFault, config_of};
@@ -33,6 +33,7 @@ fn close<S: Stage, W: Wait>(
     ensures driven { HasDriven (S.state stage.old) (S.state stage.new)
         (closed (S.state stage.old).config k (S.state stage.old).run) result }
     ensures nodes { NodesGo IsProposer (S.state stage.old).nodes (S.state stage.new).nodes }
+    ensures failed { FailsByNode (S.state stage.old).nodes (S.state stage.new).nodes result }
 {
     let leader = show(rt, stage, Role::Coordinator, 1, k)?;
     let voters = show(rt, stage, Role::Acceptor, config.acceptors(), k)?;
@@ -49,6 +50,7 @@ fn pass_once<S: Stage, W: Wait>(rt: &W, stage: &mut S, config: &Config) -> Resul
     ensures driven { HasDriven (S.state stage.old) (S.state stage.new)
         (pass (S.state stage.old).config (S.state stage.old).run) result }
     ensures nodes { NodesGo IsProposer (S.state stage.old).nodes (S.state stage.new).nodes }
+    ensures failed { FailsByNode (S.state stage.old).nodes (S.state stage.new).nodes result }
 {
     let start = stage.messages();
     let round = Round {
@@ -88,6 +90,7 @@ fn spread<S: Stage, W: Wait>(
     ensures driven { HasDriven (S.state stage.old) (S.state stage.new)
         (closings (S.state stage.old).config (k ∷ []) (S.state stage.old).run) result }
     ensures nodes { NodesGo IsProposer (S.state stage.old).nodes (S.state stage.new).nodes }
+    ensures failed { FailsByNode (S.state stage.old).nodes (S.state stage.new).nodes result }
 {
     let closers = close(rt, stage, config, k)?;
     let learners = show(rt, stage, Role::Learner, config.learners(), k)?;
@@ -104,6 +107,7 @@ fn take_finals<S: Stage, W: Wait>(rt: &W, stage: &mut S, config: &Config) -> Res
     ensures driven { HasDriven (S.state stage.old) (S.state stage.new)
         (closings (S.state stage.old).config (places Kind.Final 0 (messages (S.state stage.old).run)) (S.state stage.old).run) result }
     ensures nodes { NodesGo IsProposer (S.state stage.old).nodes (S.state stage.new).nodes }
+    ensures failed { FailsByNode (S.state stage.old).nodes (S.state stage.new).nodes result }
 {
     let end = stage.messages();
     let mut taken: u64 = 0;
@@ -130,6 +134,7 @@ fn make_passes<S: Stage, W: Wait>(
     ensures driven { HasDriven (S.state stage.old) (S.state stage.new)
         (passes (S.state stage.old).config limit (S.state stage.old).run) result }
     ensures nodes { NodesGo IsProposer (S.state stage.old).nodes (S.state stage.new).nodes }
+    ensures failed { FailsByNode (S.state stage.old).nodes (S.state stage.new).nodes result }
 {
     let mut events: u64 = 0;
     for _pass in 0..limit {
@@ -163,6 +168,7 @@ pub fn settle<S: Stage, W: Wait>(rt: &W, stage: &mut S) -> Result<u64, StageFaul
     ensures driven { HasDriven (S.state stage.old) (S.state stage.new)
         (settle (S.state stage.old).config (S.state stage.old).run) result }
     ensures nodes { NodesGo IsProposer (S.state stage.old).nodes (S.state stage.new).nodes }
+    ensures failed { FailsByNode (S.state stage.old).nodes (S.state stage.new).nodes result }
     ensures brings { Settles (S.state stage.old).config (S.state stage.old).run }
 {
     let config = config_of(stage);

@@ -8,7 +8,7 @@ ghost use Rattle.gp_run.specs.Nodes.{node_of};
 ghost use Rattle.gp_run.specs.Runs.{entry_after};
 ghost use Rattle.gp_run.specs.TopCount.{top_count};
 ghost use Rattle.gp_driver.specs.Kinds.{kind_of};
-ghost use Rattle.gp_driver.specs.Stages.{is_fall, AllBut, Anyone, HasCause, NodesGo};
+ghost use Rattle.gp_driver.specs.Stages.{is_fall, AllBut, Anyone, FailsByNode, HasCause, NodesGo};
 
 use gp_msg::{Event, MsgKind};
 use gp_round::Config;
@@ -58,8 +58,9 @@ pub trait Stage {
 
     /// An event that fits happens: one entry is added, and the answer is the number of messages after it. All nodes
     /// but that of the event keep their events. After a refusal the run is as before, each node keeps its events, and
-    /// perhaps no further step can be made. A disk's fault and a full log come only where the count of faults rose, and
-    /// a full log tells numbers that are too great for the event.
+    /// perhaps no further step can be made. A disk's fault and a
+    /// full log come only where the count of faults rose, and a full log tells numbers that are too great
+    /// for the event.
     fn step<W: Wait>(&mut self, rt: &W, event: Event) -> Result<u64, StageFault>
         requires ready { (state self.old).is_ready }
         requires room { length (state self.old).run < 2 ^ 31 }
@@ -74,6 +75,7 @@ pub trait Stage {
         ensures later { (state self.old).faults ≤ (state self.new).faults }
         ensures nodes { NodesGo (AllBut (node_of event)) (state self.old).nodes (state self.new).nodes }
         ensures idle { OnErr result (NodesGo Anyone (state self.old).nodes (state self.new).nodes) }
+        ensures failed { FailsByNode (state self.old).nodes (state self.new).nodes result }
         ensures cause { IfErr result (HasCause (state self.old).faults (state self.new).faults
             ((state self.new).is_too_great event)) };
 }

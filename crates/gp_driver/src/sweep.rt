@@ -7,7 +7,7 @@ ghost use Rattle.gp_run.specs.Messages.{messages};
 ghost use Rattle.gp_run.specs.Runs.{entry_after};
 ghost use Rattle.gp_driver.specs.Sweeps.{is_there, places, took, swept, sweep, first_place};
 ghost use Rattle.gp_driver.specs.Roles.{node_of};
-ghost use Rattle.gp_driver.specs.Stages.{is_fall, AllBut, Anyone, HasDriven, IsProposer, NodesGo};
+ghost use Rattle.gp_driver.specs.Stages.{is_fall, AllBut, Anyone, HasDriven, IsProposer, NodesGo, FailsByNode};
 
 use crate::stage::{Stage, StageFault};
 use gp_msg::{Event, MsgKind, Node};
@@ -45,6 +45,7 @@ pub fn take_all<S: Stage, W: Wait>(
     ensures driven { HasDriven (S.state stage.old) (S.state stage.new)
         (took (S.state stage.old).config node kind start end (S.state stage.old).run) result }
     ensures nodes { NodesGo (AllBut node) (S.state stage.old).nodes (S.state stage.new).nodes }
+    ensures failed { FailsByNode (S.state stage.old).nodes (S.state stage.new).nodes result }
 {
     let mut taken: u64 = 0;
     for k in start..end {
@@ -97,6 +98,7 @@ pub fn sweep<S: Stage, W: Wait>(
     ensures driven { HasDriven (S.state stage.old) (S.state stage.new)
         (sweep (S.state stage.old).config (node_of role) count kind start (S.state stage.old).run) result }
     ensures nodes { NodesGo IsProposer (S.state stage.old).nodes (S.state stage.new).nodes }
+    ensures failed { FailsByNode (S.state stage.old).nodes (S.state stage.new).nodes result }
 {
     let end = stage.messages();
     let mut taken: u64 = 0;
@@ -115,6 +117,7 @@ pub fn make<S: Stage, W: Wait>(rt: &W, stage: &mut S, event: Event) -> Result<u6
     ensures driven { HasDriven (S.state stage.old) (S.state stage.new)
         (entry_after (S.state stage.old).config (S.state stage.old).run event ∷ (S.state stage.old).run) result }
     ensures nodes { NodesGo (AllBut (run_nodes.node_of event)) (S.state stage.old).nodes (S.state stage.new).nodes }
+    ensures failed { FailsByNode (S.state stage.old).nodes (S.state stage.new).nodes result }
 {
     match stage.step(rt, event) {
         Ok(_) => Ok(1),
@@ -138,6 +141,7 @@ pub fn show<S: Stage, W: Wait>(
     ensures driven { HasDriven (S.state stage.old) (S.state stage.new)
         (swept (S.state stage.old).config (node_of role) count (k ∷ []) (S.state stage.old).run) result }
     ensures nodes { NodesGo IsProposer (S.state stage.old).nodes (S.state stage.new).nodes }
+    ensures failed { FailsByNode (S.state stage.old).nodes (S.state stage.new).nodes result }
 {
     let mut taken: u64 = 0;
     for i in 0..count {

@@ -14,7 +14,7 @@ use Rattle.gp_rules.specs.Own.{own, same_node}
 use Rattle.gp_rules.specs.declared.rules.PaxosRules.{PaxosRules}
 use Rattle.gp_cell.specs.Cells.{CellState, PostsOne}
 use Rattle.gp_cell.specs.Passing.{GoesOn, posts_in}
-use Rattle.gp_cell.specs.Refusals.{CountsFaults, StepCause, faults_of}
+use Rattle.gp_cell.specs.Refusals.{CountsFaults, StepCause, faults_of, limit_of}
 use Rattle.gp_stage.specs.Held.{seen_by}
 use Rattle.gp_stage.specs.Gathered.{rest_of}
 use Rattle.gp_stage.specs.Played.{CanPlay, HasPlayed, HasTakenOver}
@@ -33,6 +33,7 @@ pub record StepTells {D : Type 0} (faults : D → ℕ) (l r : CellState D) (mv :
   pub up : OnOk result (r.down ≡ None)
   pub cause : IfErr result (StepCause l r mv)
   pub counts : CountsFaults (faults_of faults l.log) (faults_of faults r.log) result
+  pub limit : limit_of r.log ≡ limit_of l.log
 
 own_short : (n : Node) (rs : List Record) → length (own n rs) ≤ length rs
 own_short n [] = omega arith
@@ -80,9 +81,9 @@ module _ {D : Type 0} (wire : WireState PaxosRules) (old mid : List (CellState D
   long_of r = set_length mid at r ∙ same_length old mid t.same
 
   plays : (faults : D → ℕ) (r : CellState D) (result : Result ℕ StepFault) → StepTells faults t.held.lead r mv result → HasPlayed faults wire old (slice_set mid at r) holder at mv result
-  plays faults r (Ok n) s = played_ok faults wire old mid (slice_set mid at r) holder at mv t.held t.list_is t.same can.cell can.cell_is r (set_here mid at r (within mid at l l_is)) (λ i x. set_other mid at i r x) (long_of r) fit can.fits_now s.same.0 s.same.1 s.goes
+  plays faults r (Ok n) s = played_ok faults wire old mid (slice_set mid at r) holder at mv t.held t.list_is t.same can.cell can.cell_is r (set_here mid at r (within mid at l l_is)) (λ i x. set_other mid at i r x) (long_of r) fit can.fits_now s.same.0 s.same.1 s.goes s.limit
       n (s.whole (holds_all wire wire.rules.config mid at t.held)) s.posted s.count s.up s.counts
-  plays faults r (Err f) s = played_err faults wire old mid (slice_set mid at r) holder at mv t.held t.list_is t.same can.cell can.cell_is r (set_here mid at r (within mid at l l_is)) (λ i x. set_other mid at i r x) (long_of r) fit can.fits_now s.same.0 s.same.1 s.goes
+  plays faults r (Err f) s = played_err faults wire old mid (slice_set mid at r) holder at mv t.held t.list_is t.same can.cell can.cell_is r (set_here mid at r (within mid at l l_is)) (λ i x. set_other mid at i r x) (long_of r) fit can.fits_now s.same.0 s.same.1 s.goes s.limit
       f (s.whole (holds_all wire wire.rules.config mid at t.held)) s.cause s.counts
 
   pub has_played : (faults : D → ℕ) (r : CellState D) (result : Result ℕ StepFault) → StepTells faults l r mv result → HasPlayed faults wire old (slice_set mid at r) holder at mv result

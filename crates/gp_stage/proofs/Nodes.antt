@@ -1,6 +1,8 @@
 -- What a step of a stage does to its nodes: the cell that made the move posts a record or none, and no disk's count falls.
-use Rattle.std.proofs.Common.{◌≡◌, ◌≢◌, ℕ, zero, suc, List, [], ◌∷◌, ◌++◌, length, map, slice_get, refl, sym, ap, ◌∙◌, subst, arith, Some, Result, Ok, Err}
+use Rattle.std.proofs.Common.{◌≡◌, ◌≢◌, ◌≤◌, ◌<◌, ◌-◌, ◌^◌, ℕ, zero, suc, true, false, Bool, inl, inr, List, [], ◌∷◌, ◌++◌, length, map, slice_get, refl, sym, ap, ◌∙◌, subst, arith, Some, Result, Ok, Err}
+use Rattle.std.specs.Prelude.{nat_lt}
 use Rattle.std.specs.List.{AllZip}
+use Rattle.std.proofs.lemmas.Bool.{ltb-true, ltb-false}
 use Rattle.std.proofs.lemmas.List.{append-nil}
 use mathlib.Core.Logic.{dite}
 use native.Mathlib.Decide.{ℕ_discrete}
@@ -9,16 +11,19 @@ use Rattle.gp_msg.specs.declared.record.Record.{Record}
 use Rattle.gp_wire.specs.Known.{WireState}
 use Rattle.gp_work.specs.declared.moves.Move.{Move}
 use Rattle.gp_work.specs.declared.faults.StepFault.{StepFault}
+use Rattle.gp_work.specs.declared.faults.StepFault.TheVariants as step
 use Rattle.gp_rules.specs.Own.{own, own_events, event_in}
 use Rattle.gp_rules.specs.Owning.{own_append}
 use Rattle.gp_rules.specs.declared.rules.PaxosRules.{PaxosRules}
 use Rattle.gp_cell.specs.Cells.{CellState}
-use Rattle.gp_cell.specs.Refusals.{faults_of}
-use Rattle.gp_driver.specs.Stages.{StageNode, AllBut, NodeGoes, NodesGo}
+use Rattle.gp_cell.specs.Refusals.{faults_of, limit_of}
+use Rattle.gp_edge.specs.Faults as edge
+use Rattle.gp_driver.specs.declared.stage.StageFault.{StageFault}
+use Rattle.gp_driver.specs.Stages.{StageNode, AllBut, NodeGoes, NodesGo, HasRisen, SomeNodeRose, IfDiskFailed, FailsByNode}
 use Rattle.gp_driver.proofs.Going.{nodes_still}
 use Rattle.gp_stage.specs.Held.{HeldCells, seen_by, stage_node, whole_list}
 use Rattle.gp_stage.specs.Gathered.{AreSameBut, rest_of}
-use Rattle.gp_stage.specs.Played.{HasPlayed}
+use Rattle.gp_stage.specs.Played.{HasPlayed, stage_fault}
 use Rattle.gp_stage.proofs.Places.{same_at, same_value, map_at}
 use Rattle.gp_stage.proofs.Moving.{own_other}
 
@@ -37,13 +42,13 @@ each_goes idle f g (x ∷ old) (y ∷ new) e h = (h 0 x y refl refl, each_goes i
 
 -- what cells with the same logs are as nodes
 by_rest : {D : Type 0} (faults : D → ℕ) (list : List Record) (cells : List (CellState D))
-    → map (stage_node faults list) cells ≡ map (λ (r : _). record { node = r.1; faults = faults_of faults r.3; events = own_events r.1 list }) (map rest_of cells)
+    → map (stage_node faults list) cells ≡ map (λ (r : _). record { node = r.1; faults = faults_of faults r.3; limit = limit_of r.3; events = own_events r.1 list }) (map rest_of cells)
 by_rest faults list [] = refl
 by_rest faults list (c ∷ cells) = ap (λ l. stage_node faults list c ∷ l) (by_rest faults list cells)
 
 pub nodes_same : {D : Type 0} (faults : D → ℕ) (list : List Record) (old new : List (CellState D)) → AreSameBut old new → map (stage_node faults list) new ≡ map (stage_node faults list) old
 nodes_same faults list old new same =
-    by_rest faults list new ∙ ap (map (λ (r : _). record { node = r.1; faults = faults_of faults r.3; events = own_events r.1 list })) same ∙ sym (by_rest faults list old)
+    by_rest faults list new ∙ ap (map (λ (r : _). record { node = r.1; faults = faults_of faults r.3; limit = limit_of r.3; events = own_events r.1 list })) same ∙ sym (by_rest faults list old)
 
 -- ---- a move
 
@@ -59,6 +64,7 @@ module _ {D : Type 0} (faults : D → ℕ) (wire : WireState PaxosRules) (old ne
       let m : y.node ≡ x.node = ap (λ (q : _). q.1) e in let f : faults_of faults y.log ≡ faults_of faults x.log = ap (λ (q : _). faults_of faults q.3) e in record {
         same_node = m;
         later = omega (arith, f);
+        same_limit = ap (λ (q : _). limit_of q.3) e;
         rests = λ is. ap (λ k. own_events k now) m ∙ h is;
       }
 
@@ -72,6 +78,7 @@ module _ {D : Type 0} (faults : D → ℕ) (wire : WireState PaxosRules) (old ne
       (subst (λ (n : CellState D). NodeGoes idle (stage_node faults list p.before) (stage_node faults now n)) after (record {
         same_node = p.node_is;
         later = p.counts.never_falls;
+        same_limit = p.limit;
         rests = λ q. ap (λ k. own_events k now) p.node_is ∙ h q;
       }))
 
@@ -96,12 +103,42 @@ module _ {D : Type 0} (faults : D → ℕ) (wire : WireState PaxosRules) (old ne
       → NodesGo idle (map (stage_node faults (seen_by (slice_get old holder))) old) (map (stage_node faults (seen_by (slice_get new at))) new)
   refused_goes f p idle = all_go faults wire old new holder at mv (Err f) p idle (seen_by (slice_get new at)) (λ m i. ap (own_events m) (ap seen_by p.after_is ∙ p.nothing))
 
+-- ---- a move that failed by its disk
+
+risen : (a b : ℕ) → edge.Rose a b → HasRisen a b
+risen a b r = by_test (nat_lt a b) refl
+  where
+    by_test : (t : Bool) → nat_lt a b ≡ t → HasRisen a b
+    by_test true e = inl (ltb-true a b e)
+    by_test false e = let l = ltb-false a b e in inr (omega (arith, l, r))
+
+module _ {D : Type 0} (faults : D → ℕ) (wire : WireState PaxosRules) (old new : List (CellState D)) (holder at : ℕ) (mv : Move) (before now : List Record) where
+  failed_there : (p : HasPlayed faults wire old new holder at mv (Err step.Disk)) → SomeNodeRose (map (stage_node faults before) old) (map (stage_node faults now) new)
+  failed_there p = record {
+    place = at;
+    was = stage_node faults before p.before;
+    is = stage_node faults now p.after;
+    before = map_at (stage_node faults before) old at p.before p.before_is;
+    after = map_at (stage_node faults now) new at p.after p.after_is;
+    rose = risen (faults_of faults p.before.log) (faults_of faults p.after.log) (p.counts.failed tt);
+  }
+
+  pub refused_fails : (f : StepFault) (p : HasPlayed faults wire old new holder at mv (Err f)) → FailsByNode (map (stage_node faults before) old) (map (stage_node faults now) new) (Err (stage_fault f))
+  refused_fails step.Waiting p = record { by_node = tt }
+  refused_fails step.NoMemory p = record { by_node = tt }
+  refused_fails step.Disk p = record { by_node = failed_there p }
+  refused_fails (step.Full size need) p = record { by_node = tt }
+
 -- ---- what the stage shows
 
 module _ {D : Type 0} (faults : D → ℕ) (idle : Node → Type 0) where
   pub nodes_shown : (now self old new : HeldCells D) → old ≡ now → self ≡ new → NodesGo idle (nodes_of faults old) (nodes_of faults new) → NodesGo idle (nodes_of faults now) (nodes_of faults self)
   nodes_shown now self old new before after h =
       subst (λ (o : HeldCells D). NodesGo idle (nodes_of faults o) (nodes_of faults self)) before (subst (λ (n : HeldCells D). NodesGo idle (nodes_of faults old) (nodes_of faults n)) (sym after) h)
+
+  pub fails_shown : (now self old new : HeldCells D) (r : Result ℕ StageFault) → old ≡ now → self ≡ new → FailsByNode (nodes_of faults old) (nodes_of faults new) r → FailsByNode (nodes_of faults now) (nodes_of faults self) r
+  fails_shown now self old new r before after h =
+      subst (λ (o : HeldCells D). FailsByNode (nodes_of faults o) (nodes_of faults self) r) before (subst (λ (n : HeldCells D). FailsByNode (nodes_of faults old) (nodes_of faults n) r) (sym after) h)
 
   pub nodes_than : (now old : HeldCells D) → old ≡ now → (nodes : List StageNode) → NodesGo idle (nodes_of faults old) nodes → NodesGo idle (nodes_of faults now) nodes
   nodes_than now old before nodes h = subst (λ (o : HeldCells D). NodesGo idle (nodes_of faults o) nodes) before h

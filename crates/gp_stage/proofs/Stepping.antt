@@ -26,7 +26,7 @@ use Rattle.gp_rules.specs.Lawful.{IsLawful}
 use Rattle.gp_rules.specs.declared.rules.PaxosRules.{PaxosRules}
 use Rattle.gp_cell.specs.Cells.{CellState, PostsOne}
 use Rattle.gp_cell.specs.Passing.{GoesOn}
-use Rattle.gp_cell.specs.Refusals.{CountsFaults, StepCause, faults_of}
+use Rattle.gp_cell.specs.Refusals.{CountsFaults, StepCause, faults_of, limit_of}
 use Rattle.gp_stage.specs.Held.{seen_by}
 use Rattle.gp_stage.specs.Gathered.{AreSameBut, rest_of}
 use Rattle.gp_stage.specs.Kept.{AreHeld}
@@ -61,7 +61,7 @@ module _ {D : Type 0} (faults : D → ℕ) (wire : WireState PaxosRules) (old mi
     (whole : records h.lead.pass ≡ seen_by (slice_get old holder)) (same : AreSameBut old mid) (before : CellState D) (before_is : slice_get old at ≡ Some before)
     (after : CellState D) (here : slice_get new at ≡ Some after) (others : (i : ℕ) → i ≢ at → slice_get new i ≡ slice_get mid i) (long : length new ≡ length old)
     (fit : Fits wire.rules.config h.lead.node mv) (fits_now : fits wire.rules.config (entries_in (seen_by (slice_get old holder))) (event_of before.node mv) ≡ true)
-    (config_is : after.config ≡ h.lead.config) (node_is : after.node ≡ h.lead.node) (g : GoesOn h.lead.pass after.pass) where
+    (config_is : after.config ≡ h.lead.config) (node_is : after.node ≡ h.lead.node) (g : GoesOn h.lead.pass after.pass) (limit_is : limit_of after.log ≡ limit_of h.lead.log) where
   list : List Record
   list = seen_by (slice_get old holder)
 
@@ -80,6 +80,9 @@ module _ {D : Type 0} (faults : D → ℕ) (wire : WireState PaxosRules) (old mi
 
   log_counts : (r : Result ℕ StepFault) → CountsFaults (faults_of faults h.lead.log) (faults_of faults after.log) r → CountsFaults (faults_of faults before.log) (faults_of faults after.log) r
   log_counts r c = subst (λ l. CountsFaults (faults_of faults l) (faults_of faults after.log) r) (ap (λ (x : _). x.3) rest_is) c
+
+  same_limit : limit_of after.log ≡ limit_of before.log
+  same_limit = limit_is ∙ ap limit_of (ap (λ (x : _). x.3) rest_is)
 
   pub played_ok : (n : ℕ) → length after.pass.seen ≡ length h.lead.pass.seen + 1 → PostsOne h.lead.config h.lead.node (records h.lead.pass) (records after.pass) (event_of h.lead.node mv)
       → n ≡ length (messages_in (records after.pass)) → after.down ≡ None → CountsFaults {T = ℕ} (faults_of faults h.lead.log) (faults_of faults after.log) (Ok n) → HasPlayed faults wire old new holder at mv (Ok n)
@@ -105,6 +108,7 @@ module _ {D : Type 0} (faults : D → ℕ) (wire : WireState PaxosRules) (old mi
     nothing = tt;
     cause = tt;
     counts = log_counts (Ok n) counts;
+    limit = same_limit;
   }
     where
       one : PostsOne wire.rules.config h.lead.node (records h.lead.pass) (records after.pass) (event_of h.lead.node mv)
@@ -128,6 +132,7 @@ module _ {D : Type 0} (faults : D → ℕ) (wire : WireState PaxosRules) (old mi
     nothing = still ∙ whole;
     cause = cause f why;
     counts = log_counts (Err f) counts;
+    limit = same_limit;
   }
     where
       still : records after.pass ≡ records h.lead.pass

@@ -11,7 +11,7 @@ use Rattle.gp_msg.specs.Reads.{kind_of}
 use Rattle.gp_run.specs.Messages.{messages}
 use Rattle.gp_run.specs.Runs.{entries_in, entry_after}
 use Rattle.gp_run.specs.TopCount.{top_count, top_of_messages}
-use Rattle.gp_driver.specs.Stages.{AllBut, HasCause, NodesGo}
+use Rattle.gp_driver.specs.Stages.{AllBut, HasCause, NodesGo, FailsByNode}
 use Rattle.gp_driver.specs.declared.stage.StageFault.{StageFault}
 use Rattle.gp_wire.specs.Known.{WireState}
 use Rattle.gp_wire.specs.Messages.{messages_in}
@@ -29,7 +29,7 @@ use Rattle.gp_stage.proofs.Places.{same_at, within}
 use Rattle.gp_stage.proofs.Taking.{same_length}
 use Rattle.gp_stage.proofs.Faulting.{capped_grows, both_at_most}
 use Rattle.gp_stage.proofs.Founding.{lent_back, up_still}
-use Rattle.gp_stage.proofs.Nodes.{nodes_same, posted_goes, refused_goes}
+use Rattle.gp_stage.proofs.Nodes.{nodes_same, posted_goes, refused_goes, refused_fails}
 use Rattle.gp_stage.proofs.Performing.{up_played, list_posted, count_posted, list_refused, knew, kept_refused, sum_grows, fault_caused, kept_again, sum_still}
 
 module _ {D : Type 0} (faults : D → ℕ) (wire : WireState PaxosRules) (config : Counts) (items lent played : List (CellState D)) (value : lent ≡ items) (len : ℕ) (long : len ≡ length items) (holder at : ℕ) (mv : Move) where
@@ -115,6 +115,11 @@ module _ {D : Type 0} (faults : D → ℕ) (wire : WireState PaxosRules) (config
     pub fault_nodes : (idle : Node → Type 0) → NodesGo idle (map (stage_node faults (seen_by (slice_get items holder))) items) (map (stage_node faults (seen_by (slice_get (take len (played ++ rest)) at))) (take len (played ++ rest)))
     fault_nodes idle = subst (λ cells. NodesGo idle (map (stage_node faults (seen_by (slice_get items holder))) items) (map (stage_node faults (seen_by (slice_get cells at))) cells)) (sym (played_back (Err f) given rest))
         (refused_goes faults wire items played holder at mv f q idle)
+
+    -- a disk's fault is that of the cell
+    pub fault_fails : FailsByNode (map (stage_node faults (seen_by (slice_get items holder))) items) (map (stage_node faults (seen_by (slice_get (take len (played ++ rest)) at))) (take len (played ++ rest))) (Err (stage_fault f))
+    fault_fails = subst (λ cells. FailsByNode (map (stage_node faults (seen_by (slice_get items holder))) items) (map (stage_node faults (seen_by (slice_get cells at))) cells) (Err (stage_fault f))) (sym (played_back (Err f) given rest))
+        (refused_fails faults wire items played holder at mv (seen_by (slice_get items holder)) (seen_by (slice_get played at)) f q)
 
     pub fault_later : (fulls more : ℕ) → (fulls ≤ more) ⊎ (2 ^ 64 - 1 ≤ more) → capped (disk_faults faults items + fulls) ≤ capped (disk_faults faults (take len (played ++ rest)) + more)
     fault_later fulls more l = capped_grows (disk_faults faults items + fulls) (disk_faults faults (take len (played ++ rest)) + more) (

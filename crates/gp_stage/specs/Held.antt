@@ -16,7 +16,7 @@ use Rattle.gp_rules.specs.Own.{own_events}
 use Rattle.gp_rules.specs.declared.rules.PaxosRules.{PaxosRules}
 use Rattle.gp_cell.specs.Cells.{CellState, cell_of}
 use Rattle.gp_cell.specs.Codes.{cell_code}
-use Rattle.gp_cell.specs.Refusals.{IsTooGreat, faults_of}
+use Rattle.gp_cell.specs.Refusals.{IsTooGreat, faults_of, limit_of}
 use Rattle.gp_cell.specs.Working.{IsAt}
 use Rattle.gp_driver.specs.Stages.{StageNode, StageState}
 
@@ -77,9 +77,9 @@ abbrev pub disk_faults : {D : Type 0} → (D → ℕ) → List (CellState D) →
 disk_faults faults [] = 0
 disk_faults faults (c ∷ cs) = faults_of faults c.log + disk_faults faults cs
 
--- a cell as a node of the stage: how often its disk failed, and its events in a list
+-- a cell as a node of the stage: how often its disk failed, the limit of its log, and its events in a list
 abbrev pub stage_node : {D : Type 0} → (D → ℕ) → List Record → CellState D → StageNode
-stage_node faults list c = record { node = c.node; faults = faults_of faults c.log; events = own_events c.node list }
+stage_node faults list c = record { node = c.node; faults = faults_of faults c.log; limit = limit_of c.log; events = own_events c.node list }
 
 -- a count that stays at its last value
 abbrev pub capped : ℕ → ℕ

@@ -21,7 +21,7 @@ use Rattle.gp_driver.specs.declared.stage.StageFault.TheVariants as stage
 use Rattle.gp_rules.specs.Lawful.{IsLawful}
 use Rattle.gp_rules.specs.declared.rules.PaxosRules.{PaxosRules}
 use Rattle.gp_cell.specs.Cells.{CellState}
-use Rattle.gp_cell.specs.Refusals.{CountsFaults, IsTooGreat, faults_of}
+use Rattle.gp_cell.specs.Refusals.{CountsFaults, IsTooGreat, faults_of, limit_of}
 use Rattle.gp_stage.specs.Held.{seen_by}
 use Rattle.gp_stage.specs.Gathered.{AreSameBut, rest_of}
 use Rattle.gp_stage.specs.Kept.{AreHeld}
@@ -65,6 +65,7 @@ pub record HasPlayed {D : Type 0} (faults : D → ℕ) (wire : WireState PaxosRu
   pub nothing : OnErr result (records after.pass ≡ seen_by (slice_get old holder))
   pub cause : IfErr result (PlayCause after mv)
   pub counts : CountsFaults (faults_of faults before.log) (faults_of faults after.log) result
+  pub limit : limit_of after.log ≡ limit_of before.log
 
 -- the cell at this place is up, and the move is one of its node that may come next
 pub record CanPlay {D : Type 0} (config : Counts) (cells : List (CellState D)) (holder at : ℕ) (mv : Move) : Type 0 where

@@ -9,6 +9,7 @@ ghost use Rattle.gp_cell.specs.Cells.{pass_of};
 ghost use Rattle.gp_node.specs.Endings.{AreAllCells};
 ghost use Rattle.gp_stage.specs.Held.{AreAllNodes, AreCellsOf, AreReady, AreUp, whole_list};
 ghost use Rattle.gp_stage.specs.Gathered.{AreBehind, AreSameBut};
+ghost use Rattle.gp_stage.specs.Kept.{AreHeld};
 
 use crate::gathering::gather;
 use crate::looking::look_at_all;
@@ -117,6 +118,7 @@ impl<'a, D: Disk, G: Gate> CellStage<'a, D, G> {
             × (result.0.rules.config ≡ self.entry.config) }
         ensures cells { result.1.items ≡ self.entry.cells }
         ensures all { AreAllCells result.0 result.1.items }
+        ensures held { AreHeld result.0 self.entry.config result.1.items self.entry.holder }
         ensures closed { (out : List Record) → Closed (paxos_legal result.0.rules.config) result.0.nodes (map pass_of result.1.items) out
             → out ≡ whole_list self.entry }
     {

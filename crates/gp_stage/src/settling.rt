@@ -2,7 +2,7 @@
 ghost use Rattle.std.specs.Prelude.{IsTrue, OnOk};
 ghost use Rattle.gp_run.specs.Runs.{entries_in};
 ghost use Rattle.gp_driver.specs.Settling.{settle};
-ghost use Rattle.gp_driver.specs.Stages.{HasDriven, IsProposer, NodesGo};
+ghost use Rattle.gp_driver.specs.Stages.{HasDriven, IsProposer, NodesGo, FailsByNode};
 ghost use Rattle.gp_driver.specs.Settled.{Settles};
 ghost use Rattle.gp_stage.specs.Held.{AreUp, stage_of, whole_list};
 ghost use Rattle.gp_stage.specs.Bounds.{CanSettle};
@@ -53,6 +53,7 @@ pub fn settle_cells<D: Disk, G: Gate, W: Wait>(
     ensures driven { HasDriven (stage_of D.faults stage.old) (stage_of D.faults stage.new)
         (settle stage.old.config (entries_in (whole_list stage.old))) result }
     ensures nodes { NodesGo IsProposer (stage_of D.faults stage.old).nodes (stage_of D.faults stage.new).nodes }
+    ensures failed { FailsByNode (stage_of D.faults stage.old).nodes (stage_of D.faults stage.new).nodes result }
     ensures brings { OnOk result (Settles stage.old.config (entries_in (whole_list stage.old))) }
 {
     if !stage.can_settle() {

@@ -1,7 +1,8 @@
 -- One turn of the loop drives one draft.
 use Rattle.std.proofs.Common.{length, ap, arith, rules}
+use Rattle.std.proofs.lemmas.Result.{err_from_is_err_and}
 use Rattle.gp_driver.proofs.DrivingCode.{one_room, one_on}
-use Rattle.gp_driver.proofs.Going.{nodes_still, nodes_on}
+use Rattle.gp_driver.proofs.Going.{failed_on, nodes_still, nodes_on}
 use Rattle.gp_driver.proofs.multi_round.drive_each.Goals as goal
 
 pub drive_one-requires-clause-room : goal.drive_one-requires-clause-room
@@ -33,3 +34,8 @@ loop-draft-preserved g c =
       known = one_on _ _ _ _ _ _ _ _ _ _ _ _ c.loop-draft.invariant.known c.in-Some.ensures.steps.0 _ _ _ _ _ o.same_config o.outcome.0 o.outcome.1 o.later o.outcome.2;
       nodes = nodes_on _ _ _ _ c.loop-draft.invariant.nodes c.in_ok-events.ensures.nodes;
     }
+
+pub returns-in_err-events-clause-failed : goal.returns-in_err-events-clause-failed
+returns-in_err-events-clause-failed g c =
+    let p = err_from_is_err_and c.from_residual.result c.from_residual.ensures.1 in
+    rw (p.1, p.2) (failed_on _ _ _ _ _ c.loop-draft.invariant.nodes c.in_err-events.ensures.failed)

@@ -3,9 +3,10 @@ use Rattle.std.proofs.Common.{length, refl, ap, ◌∙◌, arith}
 use Rattle.gp_msg.specs.declared.node.Node.TheVariants.{Coordinator, Acceptor}
 use Rattle.gp_msg.specs.declared.message.MsgKind.TheVariants as Kind
 use Rattle.gp_run.specs.Messages.{messages}
+use Rattle.std.proofs.lemmas.Result.{err_from_is_err_and}
 use Rattle.gp_driver.proofs.PassingCode.{same_sweep}
 use Rattle.gp_driver.proofs.DrivingCode.{offered_room, pushed_room, voted_room, voted_order}
-use Rattle.gp_driver.proofs.Going.{nodes_on, none_idle}
+use Rattle.gp_driver.proofs.Going.{failed_on, nodes_on, none_idle}
 use Rattle.gp_driver.proofs.multi_round.drive_one.Goals as goal
 
 pub make-requires-clause-room : goal.make-requires-clause-room
@@ -61,3 +62,18 @@ returns-in_err-heard-clause-nodes g c = nodes_on _ _ _ _ (nodes_on _ _ _ _ (node
 
 pub returns-clause-nodes : goal.returns-clause-nodes
 returns-clause-nodes g c = nodes_on _ _ _ _ (nodes_on _ _ _ _ (nodes_on _ _ _ _ (none_idle _ _ _ c.in_ok-offered.ensures.nodes) (none_idle _ _ _ c.in_ok-pushed.ensures.nodes)) (none_idle _ _ _ c.in_ok-voted.ensures.nodes)) (none_idle _ _ _ c.in_ok-heard.ensures.nodes)
+
+pub returns-in_err-pushed-clause-failed : goal.returns-in_err-pushed-clause-failed
+returns-in_err-pushed-clause-failed g c =
+    let p = err_from_is_err_and c.from_residual-in_err-pushed.result c.from_residual-in_err-pushed.ensures.1 in
+    rw (p.1, p.2) (failed_on _ _ _ _ _ (none_idle _ _ _ c.in_ok-offered.ensures.nodes) c.in_err-pushed.ensures.failed)
+
+pub returns-in_err-voted-clause-failed : goal.returns-in_err-voted-clause-failed
+returns-in_err-voted-clause-failed g c =
+    let p = err_from_is_err_and c.from_residual-in_err-voted.result c.from_residual-in_err-voted.ensures.1 in
+    rw (p.1, p.2) (failed_on _ _ _ _ _ (nodes_on _ _ _ _ (none_idle _ _ _ c.in_ok-offered.ensures.nodes) (none_idle _ _ _ c.in_ok-pushed.ensures.nodes)) c.in_err-voted.ensures.failed)
+
+pub returns-in_err-heard-clause-failed : goal.returns-in_err-heard-clause-failed
+returns-in_err-heard-clause-failed g c =
+    let p = err_from_is_err_and c.from_residual-in_err-heard.result c.from_residual-in_err-heard.ensures.1 in
+    rw (p.1, p.2) (failed_on _ _ _ _ _ (nodes_on _ _ _ _ (nodes_on _ _ _ _ (none_idle _ _ _ c.in_ok-offered.ensures.nodes) (none_idle _ _ _ c.in_ok-pushed.ensures.nodes)) (none_idle _ _ _ c.in_ok-voted.ensures.nodes)) c.in_err-heard.ensures.failed)

@@ -2,9 +2,10 @@
 use Rattle.std.proofs.Common.{length, refl, ap, ◌∙◌, arith}
 use Rattle.gp_msg.specs.declared.node.Node.TheVariants.{Coordinator, Acceptor}
 use Rattle.gp_msg.specs.declared.message.MsgKind.TheVariants as Kind
+use Rattle.std.proofs.lemmas.Result.{err_from_is_err_and}
 use Rattle.gp_driver.proofs.PassingCode.{same_sweep}
 use Rattle.gp_driver.proofs.DrivingCode.{opened_room3, opened_room4, opened_room5, first_begun}
-use Rattle.gp_driver.proofs.Going.{nodes_on}
+use Rattle.gp_driver.proofs.Going.{failed_on, nodes_on}
 use Rattle.gp_driver.proofs.multi_round.lead_first.Goals as goal
 
 pub sweep-requires-2-clause-room : goal.sweep-requires-2-clause-room
@@ -69,3 +70,28 @@ returns-in_err-heard-clause-nodes g c = nodes_on _ _ _ _ (nodes_on _ _ _ _ (node
 
 pub returns-clause-nodes : goal.returns-clause-nodes
 returns-clause-nodes g c = nodes_on _ _ _ _ (nodes_on _ _ _ _ (nodes_on _ _ _ _ (nodes_on _ _ _ _ (nodes_on _ _ _ _ c.in_ok-begun.ensures.nodes c.in_ok-led.ensures.nodes) c.in_ok-asked.ensures.nodes) c.in_ok-answered.ensures.nodes) c.in_ok-voted.ensures.nodes) c.in_ok-heard.ensures.nodes
+
+pub returns-in_err-led-clause-failed : goal.returns-in_err-led-clause-failed
+returns-in_err-led-clause-failed g c =
+    let p = err_from_is_err_and c.from_residual-in_err-led.result c.from_residual-in_err-led.ensures.1 in
+    rw (p.1, p.2) (failed_on _ _ _ _ _ c.in_ok-begun.ensures.nodes c.in_err-led.ensures.failed)
+
+pub returns-in_err-asked-clause-failed : goal.returns-in_err-asked-clause-failed
+returns-in_err-asked-clause-failed g c =
+    let p = err_from_is_err_and c.from_residual-in_err-asked.result c.from_residual-in_err-asked.ensures.1 in
+    rw (p.1, p.2) (failed_on _ _ _ _ _ (nodes_on _ _ _ _ c.in_ok-begun.ensures.nodes c.in_ok-led.ensures.nodes) c.in_err-asked.ensures.failed)
+
+pub returns-in_err-answered-clause-failed : goal.returns-in_err-answered-clause-failed
+returns-in_err-answered-clause-failed g c =
+    let p = err_from_is_err_and c.from_residual-in_err-answered.result c.from_residual-in_err-answered.ensures.1 in
+    rw (p.1, p.2) (failed_on _ _ _ _ _ (nodes_on _ _ _ _ (nodes_on _ _ _ _ c.in_ok-begun.ensures.nodes c.in_ok-led.ensures.nodes) c.in_ok-asked.ensures.nodes) c.in_err-answered.ensures.failed)
+
+pub returns-in_err-voted-clause-failed : goal.returns-in_err-voted-clause-failed
+returns-in_err-voted-clause-failed g c =
+    let p = err_from_is_err_and c.from_residual-in_err-voted.result c.from_residual-in_err-voted.ensures.1 in
+    rw (p.1, p.2) (failed_on _ _ _ _ _ (nodes_on _ _ _ _ (nodes_on _ _ _ _ (nodes_on _ _ _ _ c.in_ok-begun.ensures.nodes c.in_ok-led.ensures.nodes) c.in_ok-asked.ensures.nodes) c.in_ok-answered.ensures.nodes) c.in_err-voted.ensures.failed)
+
+pub returns-in_err-heard-clause-failed : goal.returns-in_err-heard-clause-failed
+returns-in_err-heard-clause-failed g c =
+    let p = err_from_is_err_and c.from_residual-in_err-heard.result c.from_residual-in_err-heard.ensures.1 in
+    rw (p.1, p.2) (failed_on _ _ _ _ _ (nodes_on _ _ _ _ (nodes_on _ _ _ _ (nodes_on _ _ _ _ (nodes_on _ _ _ _ c.in_ok-begun.ensures.nodes c.in_ok-led.ensures.nodes) c.in_ok-asked.ensures.nodes) c.in_ok-answered.ensures.nodes) c.in_ok-voted.ensures.nodes) c.in_err-heard.ensures.failed)

@@ -1,10 +1,11 @@
 -- Coordinator 0 is there, and acceptors come behind it.
 use Rattle.std.proofs.Common.{[], ◌∷◌, arith}
 use Rattle.gp_msg.specs.declared.node.Node.TheVariants.{Coordinator, Acceptor}
+use Rattle.std.proofs.lemmas.Result.{err_from_is_err_and}
 use Rattle.gp_driver.specs.Sweeps.{swept}
 use Rattle.gp_driver.proofs.Driving.{swept_grows}
 use Rattle.gp_driver.proofs.PassingCode.{one_coordinator}
-use Rattle.gp_driver.proofs.Going.{nodes_on}
+use Rattle.gp_driver.proofs.Going.{failed_on, nodes_on}
 use Rattle.gp_driver.proofs.single_rounds.close.Goals as goal
 
 pub show-requires-clause-present : goal.show-requires-clause-present
@@ -21,3 +22,8 @@ returns-in_err-voters-clause-nodes g c = nodes_on _ _ _ _ c.in_ok-leader.ensures
 
 pub returns-clause-nodes : goal.returns-clause-nodes
 returns-clause-nodes g c = nodes_on _ _ _ _ c.in_ok-leader.ensures.nodes c.in_ok-voters.ensures.nodes
+
+pub returns-in_err-voters-clause-failed : goal.returns-in_err-voters-clause-failed
+returns-in_err-voters-clause-failed g c =
+    let p = err_from_is_err_and c.from_residual-in_err-voters.result c.from_residual-in_err-voters.ensures.1 in
+    rw (p.1, p.2) (failed_on _ _ _ _ _ c.in_ok-leader.ensures.nodes c.in_err-voters.ensures.failed)

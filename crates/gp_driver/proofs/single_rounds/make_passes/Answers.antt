@@ -1,10 +1,11 @@
 -- Each turn of the loop is a pass, and the passes that are left lead to the run that is meant.
 use Rattle.std.proofs.Common.{◌<◌, length, sym, ap, subst, ◌∙◌, arith}
 use Rattle.gp_run.specs.TopCount.{top_count}
+use Rattle.std.proofs.lemmas.Result.{err_from_is_err_and}
 use Rattle.gp_driver.specs.Settling.{pass}
 use Rattle.gp_driver.proofs.SettlingCode.{passes_start, can_pass, pass_room}
 use Rattle.gp_driver.proofs.SettleCode.{one_left, last_run, stands, close_room, next_turn}
-use Rattle.gp_driver.proofs.Going.{nodes_still, nodes_on, all_idle}
+use Rattle.gp_driver.proofs.Going.{failed_on, nodes_still, nodes_on, all_idle}
 use Rattle.gp_driver.proofs.single_rounds.make_passes.Goals as goal
 
 pub loop-pass-init : goal.loop-pass-init
@@ -110,3 +111,13 @@ returns-in_err-events-clause-nodes g c = nodes_on _ _ _ _ c.loop-pass.invariant.
 
 pub returns-in_err-events-2-clause-nodes : goal.returns-in_err-events-2-clause-nodes
 returns-in_err-events-2-clause-nodes g c = nodes_on _ _ _ _ (nodes_on _ _ _ _ (nodes_on _ _ _ _ c.loop-pass.invariant.nodes c.in_ok-events.ensures.nodes) (all_idle _ _ _ c.first_since.ensures.nodes)) c.in_err-events-2.ensures.nodes
+
+pub returns-in_err-events-clause-failed : goal.returns-in_err-events-clause-failed
+returns-in_err-events-clause-failed g c =
+    let p = err_from_is_err_and c.from_residual.result c.from_residual.ensures.1 in
+    rw (p.1, p.2) (failed_on _ _ _ _ _ c.loop-pass.invariant.nodes c.in_err-events.ensures.failed)
+
+pub returns-in_err-events-2-clause-failed : goal.returns-in_err-events-2-clause-failed
+returns-in_err-events-2-clause-failed g c =
+    let p = err_from_is_err_and c.from_residual-in_err-events-2.result c.from_residual-in_err-events-2.ensures.1 in
+    rw (p.1, p.2) (failed_on _ _ _ _ _ (nodes_on _ _ _ _ (nodes_on _ _ _ _ c.loop-pass.invariant.nodes c.in_ok-events.ensures.nodes) (all_idle _ _ _ c.first_since.ensures.nodes)) c.in_err-events-2.ensures.failed)

@@ -1,7 +1,8 @@
 -- The steps, one after another, lead to the settled run.
 use Rattle.std.proofs.Common.{length, ap, ◌∙◌, arith}
+use Rattle.std.proofs.lemmas.Result.{err_from_is_err_and}
 use Rattle.gp_driver.proofs.SettleCode.{brings, finals_fit, prepared_fits, sweep_fits, proposals_fit, can_begin, passes_settle, steps_fit, range_of}
-use Rattle.gp_driver.proofs.Going.{nodes_on}
+use Rattle.gp_driver.proofs.Going.{failed_on, nodes_on}
 use Rattle.gp_driver.proofs.single_rounds.settle.Goals as goal
 
 pub take_finals-requires-clause-room : goal.take_finals-requires-clause-room
@@ -106,3 +107,13 @@ returns-in_err-passes-clause-nodes g c = nodes_on _ _ _ _ (nodes_on _ _ _ _ c.in
 
 pub returns-clause-nodes : goal.returns-clause-nodes
 returns-clause-nodes g c = nodes_on _ _ _ _ (nodes_on _ _ _ _ c.in_ok-finals.ensures.nodes c.in_ok-proposals.ensures.nodes) c.in_ok-passes.ensures.nodes
+
+pub returns-in_err-proposals-clause-failed : goal.returns-in_err-proposals-clause-failed
+returns-in_err-proposals-clause-failed g c =
+    let p = err_from_is_err_and c.from_residual-in_err-proposals.result c.from_residual-in_err-proposals.ensures.1 in
+    rw (p.1, p.2) (failed_on _ _ _ _ _ c.in_ok-finals.ensures.nodes c.in_err-proposals.ensures.failed)
+
+pub returns-in_err-passes-clause-failed : goal.returns-in_err-passes-clause-failed
+returns-in_err-passes-clause-failed g c =
+    let p = err_from_is_err_and c.from_residual-in_err-passes.result c.from_residual-in_err-passes.ensures.1 in
+    rw (p.1, p.2) (failed_on _ _ _ _ _ (nodes_on _ _ _ _ c.in_ok-finals.ensures.nodes c.in_ok-proposals.ensures.nodes) c.in_err-passes.ensures.failed)

@@ -3,11 +3,12 @@ use Rattle.std.proofs.Common.{ℕ, ◌+◌, ◌<◌, length, sym, ap, subst, ◌
 use Rattle.std.proofs.Math.Seq.{take-length}
 use Rattle.gp_msg.specs.declared.message.MsgKind.TheVariants as Kind
 use Rattle.gp_run.specs.Messages.{messages}
+use Rattle.std.proofs.lemmas.Result.{err_from_is_err_and}
 use Rattle.gp_driver.specs.Sweeps.{places}
 use Rattle.gp_driver.specs.Settling.{closings}
 use Rattle.gp_driver.specs.Stages.{IsProposer}
 use Rattle.gp_driver.proofs.SettlingCode.{TakingFinals, same_closings, finals_room, finals_taken, finals_passed}
-use Rattle.gp_driver.proofs.Going.{WithNodes, nodes_on, all_idle, nodes_still}
+use Rattle.gp_driver.proofs.Going.{failed_on, WithNodes, nodes_on, all_idle, nodes_still}
 use Rattle.gp_driver.proofs.single_rounds.take_finals.Goals as goal
 use Rattle.gp_driver.proofs.single_rounds.take_finals.Goals.{then-is_kind+in_ok-taken, else-is_kind}
 
@@ -63,3 +64,8 @@ loop-k-init g c = record {
 
 pub returns-in_err-taken-clause-nodes : goal.returns-in_err-taken-clause-nodes
 returns-in_err-taken-clause-nodes g c = nodes_on _ _ _ _ (nodes_on _ _ _ _ c.loop-k.invariant.nodes (all_idle _ _ _ c.is_kind.ensures.nodes)) c.in_err-taken.ensures.nodes
+
+pub returns-in_err-taken-clause-failed : goal.returns-in_err-taken-clause-failed
+returns-in_err-taken-clause-failed g c =
+    let p = err_from_is_err_and c.from_residual.result c.from_residual.ensures.1 in
+    rw (p.1, p.2) (failed_on _ _ _ _ _ (nodes_on _ _ _ _ c.loop-k.invariant.nodes (all_idle _ _ _ c.is_kind.ensures.nodes)) c.in_err-taken.ensures.failed)

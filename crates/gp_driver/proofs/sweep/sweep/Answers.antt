@@ -1,10 +1,11 @@
 -- One node more is through.
 use Rattle.std.proofs.Common.{suc, length, refl, ap, arith, rules}
 use Rattle.gp_run.specs.Messages.{messages}
+use Rattle.std.proofs.lemmas.Result.{err_from_is_err_and}
 use Rattle.gp_driver.specs.Sweeps.{places}
 use Rattle.gp_driver.specs.Roles.{node_of}
 use Rattle.gp_driver.proofs.Driving.{swept_grows, sweeping_within, sweeping_on, sweeping_next}
-use Rattle.gp_driver.proofs.Going.{nodes_on, role_goes, nodes_still}
+use Rattle.gp_driver.proofs.Going.{failed_on, nodes_on, role_goes, nodes_still}
 use Rattle.gp_driver.proofs.sweep.sweep.Goals as goal
 
 pub take_all-requires-clause-within : goal.take_all-requires-clause-within
@@ -44,3 +45,8 @@ loop-i-init g c = record { known = search rules; nodes = nodes_still _ _ }
 
 pub returns-in_err-taken-clause-nodes : goal.returns-in_err-taken-clause-nodes
 returns-in_err-taken-clause-nodes g c = nodes_on _ _ _ _ c.loop-i.invariant.nodes (role_goes c.args.role c.loop-i.i _ c.node.ensures _ _ c.in_err-taken.ensures.nodes)
+
+pub returns-in_err-taken-clause-failed : goal.returns-in_err-taken-clause-failed
+returns-in_err-taken-clause-failed g c =
+    let p = err_from_is_err_and c.from_residual.result c.from_residual.ensures.1 in
+    rw (p.1, p.2) (failed_on _ _ _ _ _ c.loop-i.invariant.nodes c.in_err-taken.ensures.failed)

@@ -5,7 +5,7 @@ use Rattle.gp_run.specs.Runs.{run_onto}
 use Rattle.gp_driver.specs.Sweeps.{places, takes}
 use Rattle.gp_driver.specs.Stages.{AllBut}
 use Rattle.gp_driver.proofs.TakingAll.{Taking, has_room, next_taken, next_left}
-use Rattle.gp_driver.proofs.Going.{WithNodes, nodes_on, all_idle, nodes_still}
+use Rattle.gp_driver.proofs.Going.{failed_on, WithNodes, nodes_on, all_idle, nodes_still}
 use Rattle.gp_driver.proofs.sweep.take_all.Goals as goal
 use Rattle.gp_driver.proofs.sweep.take_all.Goals.{then-is_kind+in-Ok, else-is_kind}
 
@@ -49,3 +49,6 @@ loop-k-init g c = record { known = search rules; nodes = nodes_still _ _ }
 
 pub returns-in-Err-clause-nodes : goal.returns-in-Err-clause-nodes
 returns-in-Err-clause-nodes g c = nodes_on _ _ _ _ (nodes_on _ _ _ _ c.loop-k.invariant.nodes (all_idle _ _ _ c.is_kind.ensures.nodes)) c.in-Err.ensures.nodes
+
+pub returns-in-Err-clause-failed : goal.returns-in-Err-clause-failed
+returns-in-Err-clause-failed g c = failed_on _ _ _ _ _ (nodes_on _ _ _ _ c.loop-k.invariant.nodes (all_idle _ _ _ c.is_kind.ensures.nodes)) c.in-Err.ensures.failed

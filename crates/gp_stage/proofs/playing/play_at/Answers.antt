@@ -44,4 +44,4 @@ returns g c =
     let mid = c.take_over.new.cells in let e = c.take_over.ensures in let here = c.requires.here in let long = e.long in let s = c.step.ensures in
     has_played c.args.wire.now c.args.cells.now mid c.args.holder c.args.at c.args.mv e.taken c.requires.can (get_or mid c.args.at c.index-cells-at.result)
     (slice_get-get_or mid c.args.at c.index-cells-at.result (omega (arith, here, long))) g.D.Disk.faults c.step.new.self c.step.result
-    (record { same = s.same; goes = s.goes; whole = s.whole; posted = s.posted; count = s.count; up = s.up; cause = s.cause; counts = s.faults })
+    (record { same = s.same; goes = s.goes; whole = s.whole; posted = s.posted; count = s.count; up = s.up; cause = s.cause; counts = s.faults; limit = s.limit })

@@ -1,6 +1,7 @@
-use Rattle.std.proofs.Common.{sym, ap, ◌∙◌}
+use Rattle.std.proofs.Common.{sym, ap, ◌∙◌, subst}
 use Rattle.gp_rules.specs.Lawful.{paxos_legal}
 use Rattle.gp_stage.specs.Held.{HeldCells, whole_list}
+use Rattle.gp_stage.specs.Kept.{AreHeld}
 use Rattle.gp_stage.proofs.Keeping.{list_of_lead}
 use Rattle.gp_stage.proofs.Closing.{all_cells, closed_list}
 use Rattle.gp_stage.proofs.cells.CellStage.into_parts.Goals as goal
@@ -18,3 +19,7 @@ returns-clause-all g c = let i = c.self.inside in all_cells i.wire i.config i.ce
 pub returns-clause-closed : goal.returns-clause-closed
 returns-clause-closed g c out x = let i = c.self.inside in let h = c.self.invariant.held in
     closed_list i.wire i.config i.cells.items i.holder h (paxos_legal i.wire.rules.config) out x ∙ sym (list_of_lead i.wire i.config i.cells.items i.holder h) ∙ ap (λ (h : HeldCells g.row.D.Denot). whole_list h) c.self.view_is
+
+pub returns-clause-held : goal.returns-clause-held
+returns-clause-held g c = let i = c.self.inside in let v = c.self.view_is in
+    subst (λ (h : HeldCells g.row.D.Denot). AreHeld i.wire h.config i.cells.items h.holder) v c.self.invariant.held

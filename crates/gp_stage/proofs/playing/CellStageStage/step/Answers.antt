@@ -1,16 +1,16 @@
-use Rattle.std.proofs.Common.{◌≡◌, true, ◌∷◌, ◌++◌, length, drop, slice_get, take, sym, ap, ◌∙◌, subst, inl, arith}
+use Rattle.std.proofs.Common.{◌≡◌, true, ◌∷◌, ◌++◌, length, drop, slice_get, take, sym, ap, ◌∙◌, subst, inl, arith, Err}
 use Rattle.gp_run.specs.Legal.{fits}
 use Rattle.gp_run.specs.Nodes.{node_of}
 use Rattle.gp_run.specs.Runs.{entries_in, entry_after}
 use Rattle.gp_work.specs.Moves.{event_of}
-use Rattle.gp_driver.specs.Stages.{AllBut, Anyone}
+use Rattle.gp_driver.specs.Stages.{AllBut, Anyone, FailsByNode}
 use Rattle.gp_stage.specs.Held.{HeldCells, HasCell, AreUp, whole_list}
 use Rattle.gp_stage.specs.Kept.{IsKept}
-use Rattle.gp_stage.specs.Played.{CanPlay, KnewBefore}
+use Rattle.gp_stage.specs.Played.{CanPlay, KnewBefore, stage_fault}
 use Rattle.gp_stage.proofs.Places.{within}
 use Rattle.gp_stage.proofs.Performing.{has_cell, can_play}
-use Rattle.gp_stage.proofs.Steps.{ask_held, ask_here, ask_up, ask_knew, told_kept, told_up, told_later, told_entry, told_nodes, told_count, fault_kept, fault_list, fault_nodes, fault_later, fault_cause, later_shown, cause_shown, later_than, unfailed}
-use Rattle.gp_stage.proofs.Nodes.{nodes_kept, nodes_shown, nodes_than}
+use Rattle.gp_stage.proofs.Steps.{ask_held, ask_here, ask_up, ask_knew, told_kept, told_up, told_later, told_entry, told_nodes, told_count, fault_kept, fault_list, fault_nodes, fault_fails, fault_later, fault_cause, later_shown, cause_shown, later_than, unfailed}
+use Rattle.gp_stage.proofs.Nodes.{nodes_kept, nodes_shown, nodes_than, fails_shown}
 use Rattle.gp_stage.proofs.Faulting.{at_most, counted}
 use Rattle.gp_stage.proofs.playing.CellStageStage.step.Goals as goal
 use Rattle.gp_stage.proofs.playing.CellStageStage.step.Goals.{in-Full, in_default-fault}
@@ -166,4 +166,14 @@ returns-after-fault-clause-cause g c = let i = c.self.inside in let f = c.in-Som
       | in_default-fault w ↦
           cause_shown g.D.Disk.faults c.args.self.now c.match-fault.self _ _ c.self.view_is w.self-is c.args.event c.in-Err.fault c.fault_of.result c.fault_of.ensures
           (cause i.wire.id i.wire.nodes i.fulls i.fulls c.args.event f.0 x_is event_is (inl (omega arith)) (λ size need is. absurd (w.in_default-fault.not-Full size need is)))
+    ]
+
+pub returns-after-fault-clause-failed : goal.returns-after-fault-clause-failed
+returns-after-fault-clause-failed g c = let i = c.self.inside in
+    let fails = fault_fails g.D.Disk.faults i.wire i.config i.cells.items c.deref_mut.result.now c.play_at-stepped.new.cells c.deref_mut.ensures.value i.cells.len i.cells.ok.0 i.holder c.in-Some.at c.move_of-node.result.1
+    c.in-Err.fault c.in-Err.ensures (drop (length c.play_at-stepped.new.cells) i.cells.items) in
+    let same : Err c.fault_of.result ≡ Err (stage_fault c.in-Err.fault) = ap (λ f. Err f) c.fault_of.ensures in
+    elim c.match-fault.branch [
+      | in-Full w ↦ fails_shown g.D.Disk.faults Anyone c.args.self.now c.match-fault.self _ _ (Err c.fault_of.result) c.self.view_is w.self-is (subst (FailsByNode _ _) (sym same) fails)
+      | in_default-fault w ↦ fails_shown g.D.Disk.faults Anyone c.args.self.now c.match-fault.self _ _ (Err c.fault_of.result) c.self.view_is w.self-is (subst (FailsByNode _ _) (sym same) fails)
     ]
