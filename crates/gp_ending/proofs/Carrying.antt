@@ -1,0 +1,60 @@
+-- Jobs that were carried through phases.
+use Rattle.std.proofs.Common.{◌≡◌, ◌≤◌, ◌∙◌, inl, inr, true, false, ℕ, List, map, sym, ap, subst, Option, Some, None, Result, Ok, Err, OnOk, is_err}
+use Rattle.std.specs.Prelude.{IfSome, unwrap_or}
+use Rattle.gp_msg.specs.declared.event.Event.{Event}
+use Rattle.gp_edge.specs.Faults.{Rose}
+use Rattle.gp_work.specs.declared.faults.JobFault.{JobFault}
+use Rattle.gp_work.specs.declared.faults.JobFault.TheVariants.{NoMemory, Disk, Full, NotLog, Changed}
+use Rattle.gp_work.specs.declared.job.Job.{Job}
+use Rattle.gp_work.specs.Doing.{ProcessState}
+use Rattle.gp_work.proofs.Stretches.{goes_same, goes_on, rose_on}
+use Rattle.gp_phase.specs.Phases.{IsNew, FaultCause, Carried}
+use Rattle.gp_ending.specs.declared.ends.RunEnd.{RunEnd}
+use Rattle.gp_ending.specs.declared.ends.RunEnd.TheVariants as RunEnd
+use Rattle.gp_ending.specs.Ends.{deciding, fault_in}
+use Rattle.gp_ending.specs.Working.{IsDecided}
+
+module _ {N P : Type 0} (state : P → ProcessState) (is_of : P → N → Type 0) (too_great : P → Event → ℕ → ℕ → Type 0) (net : N) where
+  no_fault : (P : JobFault → Type 0) (o : Option JobFault) → o ≡ None → IfSome o P
+  no_fault P o e = subst (λ x. IfSome x P) (sym e) tt
+
+  -- a new job to which nothing happened
+  pub carried_new : (j : Job P) → IsNew state is_of net j → Carried state is_of too_great net j j
+  carried_new j n = record {
+    own = n.own;
+    goes = goes_same (state j.cell);
+    cause = no_fault (FaultCause (state j.cell).faults (state j.cell).faults (too_great j.cell)) j.fault n.fault;
+  }
+
+  cause_on : (a b c : ℕ) (great : Event → ℕ → ℕ → Type 0) → a ≤ b → (f : JobFault) → FaultCause b c great f → FaultCause a c great f
+  cause_on a b c great l NoMemory h = tt
+  cause_on a b c great l Disk h = rose_on a b c l h
+  cause_on a b c great l (Full size need) h = h
+  cause_on a b c great l (NotLog at) h = rose_on a b c l h
+  cause_on a b c great l (Changed found) h = rose_on a b c l h
+
+  caused_on : (a b c : ℕ) (great : Event → ℕ → ℕ → Type 0) → a ≤ b → (o : Option JobFault) → IfSome o (FaultCause b c great) → IfSome o (FaultCause a c great)
+  caused_on a b c great l None h = tt
+  caused_on a b c great l (Some f) h = cause_on a b c great l f h
+
+  pub carried_on : (j x k : Job P) → Carried state is_of too_great net j x → Carried state is_of too_great net x k → Carried state is_of too_great net j k
+  carried_on j x k a b = record {
+    own = b.own;
+    goes = goes_on (state j.cell) (state x.cell) (state k.cell) a.goes b.goes;
+    cause = caused_on (state j.cell).faults (state x.cell).faults (state k.cell).faults (too_great k.cell) a.goes.faults k.fault b.cause;
+  }
+
+-- ---- results
+
+-- a fact for a result that is no error
+pub on_ok : {T E : Type 0} (P : Type 0) (r : Result T E) → false ≡ is_err r → OnOk r P → P
+on_ok P (Ok x) e h = h
+on_ok P (Err x) e h = absurd (let wrong : false ≡ true = e in cc)
+
+-- what decides, and want of memory if nothing does
+pub decided_or : {P : Type 0} (jobs : List (Job P)) (o : Option RunEnd) (e : RunEnd) → o ≡ deciding (map fault_in jobs) → e ≡ unwrap_or o RunEnd.NoMemory → IsDecided jobs e
+decided_or jobs None e is r = inl r
+decided_or jobs (Some x) e is r = inr (sym is ∙ ap (λ y. Some y) (sym r))
+
+pub some_no : {A P : Type 0} {x : A} → Some x ≡ None → P
+some_no {A} {P} {x} e = absurd (let wrong : Some x ≡ None = e in cc)

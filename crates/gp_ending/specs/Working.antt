@@ -1,0 +1,39 @@
+-- What the phases of a run leave.
+use Rattle.std.specs.Prelude.{◌≡◌, ◌≤◌, ◌<◌, ℕ, Option, Some, None, List, map, length, slice_index_or, ◌⊎◌}
+use Rattle.gp_wire.specs.Known.{WireState}
+use Rattle.gp_rules.specs.declared.rules.PaxosRules.{PaxosRules}
+use Rattle.gp_work.specs.declared.job.Job.{Job}
+use Rattle.gp_cell.specs.Cells.{CellState}
+use Rattle.gp_cell.specs.Refusals.{IsTooGreat, faults_of}
+use Rattle.gp_cell.specs.Working.{process_of, IsAt}
+use Rattle.gp_node.specs.Phases.{IsWorkedJob}
+use Rattle.gp_phase.specs.Phases.{Carried}
+use Rattle.gp_quiet.specs.Ended.{IsToOffer, EndedRun, EndsQuietly}
+use Rattle.gp_ending.specs.declared.ends.RunEnd.{RunEnd}
+use Rattle.gp_ending.specs.declared.ends.RunEnd.TheVariants.{NoMemory}
+use Rattle.gp_ending.specs.Ends.{deciding, fault_in}
+
+-- a job that was j at first, however the phases ended, where `faults` counts the faults of a disk
+abbrev pub IsCarriedJob : {D : Type 0} → (D → ℕ) → WireState PaxosRules → Job (CellState D) → Job (CellState D) → Type 0
+IsCarriedJob faults wire j k = Carried (process_of faults) (λ c w. IsAt c w) (λ c e size need. IsTooGreat c e size need) wire j k
+
+-- jobs of nodes that had posted nothing and were to offer commands, and what their one phase left, without a fault
+pub record HaveOffered {D : Type 0} (faults : D → ℕ) (wire : WireState PaxosRules) (offering offered : List (Job (CellState D))) : Type 0 where
+  pub offers : (i : ℕ) (d : Job (CellState D)) → i < length offering → IsToOffer (slice_index_or offering i d)
+  pub size : length offered ≡ length offering
+  pub worked : (i : ℕ) (d : Job (CellState D)) → i < length offering → IsWorkedJob faults wire (slice_index_or offering i d) (slice_index_or offered i d)
+  pub unbroken : (i : ℕ) (d : Job (CellState D)) → i < length offered → (slice_index_or offered i d).fault ≡ None
+
+-- the phases ended quietly that began with these jobs, after the phase of the proposers. Before the first phase no count of faults had fallen
+pub record EndsQuietlyFrom {D : Type 0} (faults : D → ℕ) (wire : WireState PaxosRules) (offering offered jobs ended : List (Job (CellState D))) : Type 0 where
+  pub run : EndedRun D
+  pub offering_is : run.offering ≡ offering
+  pub offered_is : run.offered ≡ offered
+  pub ended_is : run.ended ≡ ended
+  pub size : length run.starting ≡ length jobs
+  pub later : (i : ℕ) (d : Job (CellState D)) → i < length jobs → faults_of faults (slice_index_or jobs i d).cell.log ≤ faults_of faults (slice_index_or run.starting i d).cell.log
+  pub quiet : EndsQuietly faults wire run
+
+-- memory ran out, or the end is the one that the faults of these jobs decide
+abbrev pub IsDecided : {P : Type 0} → List (Job P) → RunEnd → Type 0
+IsDecided jobs end = (end ≡ NoMemory) ⊎ (deciding (map fault_in jobs) ≡ Some end)
