@@ -1,0 +1,5 @@
+pub mod Present
+pub mod Going
+pub mod Standing
+pub mod Settled
+pub mod Leaving

@@ -1,0 +1,15 @@
+pub mod Starting
+pub mod Celling
+pub mod Posting
+pub mod Learning
+pub mod Causing
+pub mod Outcome
+pub mod Failing
+pub mod Quieting
+pub mod Calming
+pub mod Faulting
+pub mod Keeping
+pub mod Finishing
+pub mod Sitting
+pub mod Left
+pub mod Shelving

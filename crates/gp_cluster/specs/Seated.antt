@@ -1,0 +1,64 @@
+-- A run from its first list to its last one, by the logs of its nodes.
+use Rattle.std.specs.Prelude.{◌≡◌, ℕ, List, [], map, length, Option, None, IfSome}
+use Rattle.std.specs.List.{All, AllZip}
+use Rattle.gp_command.specs.Views.{DraftView}
+use Rattle.gp_round.specs.Counts.{Counts}
+use Rattle.gp_msg.specs.declared.record.Record.{Record}
+use Rattle.gp_msg.specs.Messages.{Entry}
+use Rattle.gp_edge.specs.Disks.{IfRevealed}
+use Rattle.gp_run.specs.Runs.{entries_in}
+use Rattle.gp_vlog.specs.Logs.{LogState}
+use Rattle.gp_wire.specs.Known.{WireState}
+use Rattle.gp_rules.specs.declared.rules.PaxosRules.{PaxosRules}
+use Rattle.gp_rules.specs.Cores.{opening, core_at, part_in}
+use Rattle.gp_work.specs.declared.job.Job.{Job}
+use Rattle.gp_cell.specs.Cells.{CellState}
+use Rattle.gp_driver.specs.Settled.{AllLearned}
+use Rattle.gp_quiet.specs.Ended.{cells_of}
+use Rattle.gp_seats.specs.Nodes.{all_nodes, logged_nodes, working_nodes, proposer_nodes}
+use Rattle.gp_seats.specs.Seats.{IsBlank, new_passes, seats}
+use Rattle.gp_shelf.specs.Lists.{disk_in}
+use Rattle.gp_shelf.specs.Making.{SomeRose}
+use Rattle.gp_shelf.specs.declared.making.LendFault.{LendFault}
+use Rattle.gp_shelf.specs.declared.making.LendFault.TheVariants as fault
+use Rattle.gp_shelf.specs.Places.{logged}
+use Rattle.gp_ending.specs.declared.ends.RunEnd.{RunEnd}
+use Rattle.gp_ending.specs.declared.ends.RunEnd.TheVariants.{Learned, NoMemory, Disk}
+use Rattle.gp_closing.specs.Cells.{LogGoes, logs_of}
+use Rattle.gp_cluster.specs.Runs.{EndsWith, IsRunOf, IsQuietOrSettled, EndCause}
+
+-- nothing has happened to the nodes of a wire: these are the jobs of all nodes of a configuration, with these logs, which have no entries
+pub record IsSeated {D : Type 0} (config : Counts) (wire : WireState PaxosRules) (jobs proposers : List (Job (CellState D))) (logs : List (LogState D)) : Type 0 where
+  pub rules : wire.rules.config ≡ config
+  pub nodes : wire.nodes ≡ all_nodes config
+  pub jobs_are : jobs ≡ seats config (new_passes wire (working_nodes config)) logs
+  pub proposers_are : proposers ≡ seats config (new_passes wire proposer_nodes) []
+  pub count : length logs ≡ logged config
+  pub blank : All IsBlank logs
+
+-- the logs of these jobs
+abbrev pub logs_in : {D : Type 0} → List (Job (CellState D)) → List (LogState D)
+logs_in jobs = logs_of (cells_of jobs)
+
+-- all logs have this limit
+abbrev pub HaveLimit : {D : Type 0} → ℕ → List (LogState D) → Type 0
+HaveLimit limit logs = All (λ log. log.limit ≡ limit) logs
+
+-- the log of each node, in the order of these nodes, ends with the durable part of the node after the run, if its disk reveals what it holds
+abbrev pub HoldLogs : {D : Type 0} → (D → Option (List ℕ)) → Counts → ℕ → List Entry → List (LogState D) → Type 0
+HoldLogs content config limit run logs = AllZip (λ n log. IfRevealed (content log.disk) (EndsWith limit (part_in (opening config n)) (part_in (core_at config n run)))) (logged_nodes config) logs
+
+-- what a run comes to that begins with these logs and ends with those
+pub record RunsFrom {D : Type 0} (faults : D → ℕ) (content : D → Option (List ℕ)) (config : Counts) (offers : List (ℕ × DraftView)) (first last : List (LogState D)) (posted : Option (List Record)) (end : RunEnd) : Type 0 where
+  pub going : AllZip (LogGoes faults) first last
+  pub run : IfSome posted (IsRunOf config offers)
+  pub none : posted ≡ None → end ≡ NoMemory
+  pub learned : end ≡ Learned → IfSome posted (λ list. AllLearned config (entries_in list))
+  pub quiet : end ≡ Learned → ¬ SomeRose faults (map disk_in first) (map disk_in last) → IfSome posted (IsQuietOrSettled config offers)
+  pub cause : (limit : ℕ) → HaveLimit limit first → EndCause faults config limit (map disk_in first) (map disk_in last) posted end
+  pub parts : (limit : ℕ) → HaveLimit limit first → end ≡ Learned → IfSome posted (λ list. HoldLogs content config limit (entries_in list) last)
+
+-- how a run ends whose logs cannot be made
+abbrev pub lent_end : LendFault → RunEnd
+lent_end fault.Disk = Disk
+lent_end fault.NoMemory = NoMemory

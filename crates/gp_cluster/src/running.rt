@@ -1,0 +1,95 @@
+//! Runs of nodes.
+ghost use Rattle.std.specs.Prelude.{◌≡◌, ◌⊎◌, ◌<◌, ◌≤◌, ◌^◌, None, length, IfSome};
+ghost use Rattle.std.specs.List.{All};
+ghost use Rattle.gp_run.specs.Runs.{entries_in};
+ghost use Rattle.gp_driver.specs.Settled.{AllLearned};
+ghost use Rattle.gp_seats.specs.Offering.{IsKnown};
+ghost use Rattle.gp_shelf.specs.Lists.{KeepsOthers};
+ghost use Rattle.gp_shelf.specs.Making.{SomeRose, NoneFell};
+ghost use Rattle.gp_ending.specs.declared.ends.RunEnd.TheVariants as RunEnd;
+ghost use Rattle.gp_cluster.specs.Runs.{IsRunOf, IsQuietOrSettled, EndCause, HoldParts};
+ghost use Rattle.gp_cluster.specs.Seated.{lent_end};
+
+use crate::seated::{know, run_logs, take_room};
+use gp_closing::Closed;
+use gp_edge::{Disk, Gate};
+use gp_ending::RunEnd;
+use gp_node::Posted;
+use gp_offers::OfferList;
+use gp_round::Config;
+use gp_shelf::{LendFault, Lent, Unlent, give_back, lend};
+use std::alloc::Global;
+use std::sync::Wait;
+use std::thread::Threads;
+
+/// How a run of nodes ended.
+#[derive(Drop)]
+pub struct NodesRun<D: Disk> {
+    pub end: RunEnd,
+    /// What the nodes posted. `None` if the run ended before its wire was closed, since memory ran out or a disk failed.
+    pub posted: Option<Posted>,
+    /// The disks, in the order in which they were given.
+    pub disks: Vec<D>,
+}
+
+// How a run ends whose logs cannot be made.
+fn end_of(why: LendFault) -> RunEnd
+    ensures { result ≡ lent_end why }
+{
+    match why {
+        LendFault::Disk => RunEnd::Disk,
+        LendFault::NoMemory => RunEnd::NoMemory,
+    }
+}
+
+/// Runs the nodes of a configuration, each in a thread of its own, until each learner holds each command that was offered.
+///
+/// New logs of this limit, in bytes, are made on the disks of the acceptors and the coordinators; the other disks stay as they
+/// are. The proposers post the offers. Then phases follow in which all other nodes work, until nothing is left to do. If a
+/// learner still lacks an offered command, the run is settled. Why a run ends is told by `RunEnd`.
+pub fn run_nodes<D: Disk + Send, W: Threads + Wait + Sync, G: Gate + Sync>(
+    rt: &W,
+    alloc: Global,
+    config: Config,
+    limit: u32,
+    offers: &OfferList,
+    disks: Vec<D>,
+    gate: &G,
+) -> NodesRun<D>
+    requires twelve { length disks.items ≡ 12 }
+    requires low { 64 ≤ limit }
+    requires high { limit ≤ 67108864 }
+    requires few { length offers.now < 2 ^ 32 }
+    requires known { All IsKnown offers.now }
+    ensures posted { IfSome result.posted (IsRunOf config offers.now) }
+    ensures none { result.posted ≡ None → (result.end ≡ RunEnd.NoMemory) ⊎ (result.end ≡ RunEnd.Disk) }
+    ensures learned { result.end ≡ RunEnd.Learned → IfSome result.posted (λ list. AllLearned config (entries_in list)) }
+    ensures quiet { result.end ≡ RunEnd.Learned → ¬ SomeRose D.faults disks.items result.disks.items → IfSome result.posted (IsQuietOrSettled config offers.now) }
+    ensures cause { EndCause D.faults config limit disks.items result.disks.items result.posted result.end }
+    ensures parts { result.end ≡ RunEnd.Learned → IfSome result.posted (λ list. HoldParts D.content config limit (entries_in list) result.disks.items) }
+    ensures others { KeepsOthers config disks.items result.disks.items }
+    ensures none_fell { NoneFell D.faults disks.items result.disks.items }
+{
+    know(config);
+    let Ok(room) = take_room(alloc) else {
+        return NodesRun {
+            end: RunEnd::NoMemory,
+            posted: None,
+            disks,
+        };
+    };
+    match lend(alloc, config, limit, disks) {
+        Ok(Lent { logs, shelf }) => {
+            let Closed { end, posted, logs } = run_logs(
+                rt, alloc, config, logs, offers, room, gate,
+            );
+            let disks = give_back(shelf, logs);
+            NodesRun { end, posted, disks }
+        }
+        Err(Unlent { why, disks }) => NodesRun {
+            end: end_of(why),
+            posted: None,
+            disks,
+        },
+    }
+}
