@@ -1,0 +1,8 @@
+//! What nodes posted, told as a run: the world that its events lead to, its trace and its report.
+#![tactic(auto)]
+
+mod texts;
+mod worlds;
+
+pub use texts::run_text;
+pub use worlds::world_of;

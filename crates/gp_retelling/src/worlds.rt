@@ -1,0 +1,45 @@
+//! The world of a list of records.
+ghost use Rattle.std.specs.Prelude.{◌≡◌, ◌<◌, ◌∷◌, ◌^◌, length, IfOk, OnOk};
+ghost use Rattle.gp_msg.specs.Messages.{entry_of};
+ghost use Rattle.gp_run.specs.Legal.{Legal, Follows};
+ghost use Rattle.gp_run.specs.Runs.{entries_in};
+ghost use Rattle.gp_world.specs.State.{entries_of};
+
+use gp_command::NoMemory;
+use gp_msg::Record;
+use gp_round::Config;
+use gp_world::World;
+use std::alloc::Global;
+
+// One more than the most records of a world.
+const TOO_MANY: usize = 2_147_483_648;
+
+/// The world in which the events of these records happen, in their order. The records are a legal run of the configuration.
+/// `NoMemory` is also the answer if there are 2^31 records or more, which a world does not hold.
+pub fn world_of(alloc: Global, config: Config, records: &[Record]) -> Result<World, NoMemory>
+    requires { Legal config (entries_in records.now) }
+    ensures config { IfOk result (λ world. world.config ≡ config) }
+    ensures entries { IfOk result (λ world. entries_of world ≡ entries_in records.now) }
+{
+    if records.len() >= TOO_MANY {
+        return Err(NoMemory);
+    }
+    let mut world = World::new(alloc, config)?;
+    for at in 0..records.len() {
+        retell(&mut world, &records[at])?;
+    }
+    Ok(world)
+}
+
+// The event of a record, which may come next, happens again. Such an event is refused only if memory runs out.
+fn retell(world: &mut World, record: &Record) -> Result<(), NoMemory>
+    requires few { length world.old.records < 2 ^ 31 }
+    requires follows { Follows world.old.config (entries_of world.old) (entry_of record.now) }
+    ensures config { OnOk result (world.new.config ≡ world.old.config) }
+    ensures entries { OnOk result (entries_of world.new ≡ entry_of record.now ∷ entries_of world.old) }
+{
+    match world.step(record.event.copy()?) {
+        Ok(_) => Ok(()),
+        Err(_) => Err(NoMemory),
+    }
+}
