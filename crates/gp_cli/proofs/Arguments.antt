@@ -11,17 +11,18 @@ use Rattle.gp_edge.specs.Writes.{AppendsPart}
 use Rattle.std.proofs.Common.{arith}
 use Rattle.gp_cli.specs.declared.runs.TheConstants.{MOST_READ}
 use Rattle.gp_cli.specs.declared.subcommand.Subcommand.{Subcommand}
-use Rattle.gp_cli.specs.declared.subcommand.Subcommand.TheVariants.{Play, Sim, Drive, Log, Upgrade}
+use Rattle.gp_cli.specs.declared.subcommand.Subcommand.TheVariants.{Play, Run, Sim, Drive, Log, Upgrade}
 use Rattle.gp_cli.specs.Subcommands.{named}
 use Rattle.gp_cli.specs.Texts.{usage}
 use Rattle.gp_cli.specs.Outside.{Outside, ForMemory}
 use Rattle.gp_cli.specs.Endings.{Ending, Misused, Starved}
 use Rattle.gp_cli.specs.Causes.{IsCauseFor, IsCause}
 use Rattle.gp_cli.specs.Logs.{TellsEnding}
-use Rattle.gp_cli.specs.Serving.{EndsBy, Ends}
+use Rattle.gp_cli.specs.Serving.{EndsBy, Ends, KeepsUnused}
 use Rattle.gp_cli.specs.Program.{Arguments, words_after_name, IsNoText, AreWords, subcommand_in, IsProgramCause}
 use Rattle.gp_cli.proofs.Causes.{because, starved, without_run}
-use Rattle.gp_cli.proofs.Statuses.{starved_status}
+use Rattle.gp_cli.proofs.NodesCauses.{kept_because}
+use Rattle.gp_cli.proofs.Told.{starved_status}
 
 -- nothing is lost by no call
 nothing_lost : (rest : Option (List ℕ)) → LosesUpTo MOST_READ rest rest
@@ -37,6 +38,7 @@ no_usage (Some bytes) = (0, omega arith, ap (λ b. Some b) (sym (append-nil byte
 unheard_for : (sub : Option Subcommand) (at : Outside) (status : ℕ) (trail : List Record) → status ≡ 1 → trail ≡ [] → EndsBy (IsCauseFor sub at at) at.sink at.sink status trail
 unheard_for None at status trail one none = without_run (IsCauseFor None at at) Misused at.sink at.sink status trail refl refl refl none (ForMemory one refl (no_usage at.sink.bytes))
 unheard_for (Some (Play operations)) at status trail one none = starved (IsCauseFor (Some (Play operations)) at at) at.sink status trail (refl, nothing_lost at.source.bytes) one none
+unheard_for (Some (Run limit)) at status trail one none = starved (IsCauseFor (Some (Run limit)) at at) at.sink status trail (refl, nothing_lost at.source.bytes) one none
 unheard_for (Some (Sim seed n)) at status trail one none = starved (IsCauseFor (Some (Sim seed n)) at at) at.sink status trail (inr refl) one none
 unheard_for (Some (Drive a l n)) at status trail one none = starved (IsCauseFor (Some (Drive a l n)) at at) at.sink status trail (inr refl) one none
 unheard_for (Some (Log k)) at status trail one none = starved (IsCauseFor (Some (Log k)) at at) at.sink status trail refl one none
@@ -104,3 +106,9 @@ by_arguments given words before now status trail are ends =
 pub named_is : (given : Arguments) (words : List (List ℕ)) → AreWords given words → named words ≡ subcommand_in given
 named_is (Ok given) words are = ap named are
 named_is (Err error) words are = ap named are.1
+
+pub keeps_by_arguments : {D : Type 0} (given : Arguments) (words : List (List ℕ)) (before now : Outside) (old new : List D) → AreWords given words → KeepsUnused (named words) (IsCause words before now) old new
+    → KeepsUnused (subcommand_in given) (IsProgramCause given true before now) old new
+keeps_by_arguments {D} given words before now old new are kept =
+    let P : Option Subcommand → Type 0 = λ sub. KeepsUnused sub (IsProgramCause given true before now) old new in
+    subst P (named_is given words are) (kept_because (named words) (IsCause words before now) (IsProgramCause given true before now) old new (cause_of_arguments given words before now are) kept)

@@ -24,10 +24,10 @@ use Rattle.gp_cli.specs.declared.runs.TheConstants.{MOST_READ}
 use Rattle.gp_cli.specs.Machines.{profile_of, reading_of, IsInAgreementOfAll}
 use Rattle.gp_cli.specs.Texts.{refusal_text}
 use Rattle.gp_cli.specs.Outside.{Seen, Told, Wholly, ForMemory}
-use Rattle.gp_cli.specs.Endings.{Ending, Misused, Unread, Refuses, Plays, Drives, Simulates, Shows, DiskFails, Overflows, Breaks, Starved, status_of, status_at_fault, text_of, run_to, config_in, config_of}
+use Rattle.gp_cli.specs.Endings.{Ending, Misused, Unread, Refuses, Plays, Drives, Simulates, Shows, DiskFails, Overflows, Breaks, Runs, Starved, status_of, status_at_fault, text_of, run_to, config_in, config_of}
 use Rattle.gp_cli.specs.Causes.{HasRead, IsReadCause, IsScriptCause, IsRunCause}
 use Rattle.gp_cli.specs.Logs.{TellsEnding, LogEnds}
-use Rattle.gp_cli.specs.Serving.{IsConfig, EndsBy, AgreesInItsConfig}
+use Rattle.gp_cli.specs.Serving.{IsConfig, IsListOf, EndsBy, AgreesInItsConfig}
 use Rattle.gp_cli.proofs.Machines.{all_agree, script_agrees, script_legal}
 
 -- what a run ends by is in agreement for its own configuration
@@ -40,7 +40,7 @@ nothing_told None = refl
 nothing_told (Some bytes) = ap (λ b. Some b) (sym (append-nil bytes))
 
 -- what was read up to a limit was lost up to it
-loses : (limit : ℕ) (before now : Option (List ℕ)) (bytes : List ℕ) → ReadsUpTo limit before now bytes → LosesUpTo limit before now
+pub loses : (limit : ℕ) (before now : Option (List ℕ)) (bytes : List ℕ) → ReadsUpTo limit before now bytes → LosesUpTo limit before now
 loses limit None now bytes reads = reads
 loses limit (Some rest) now bytes reads = (limit, omega arith, reads.1)
 
@@ -50,12 +50,28 @@ none_agrees records none =
     let P : List Record → Type 0 = λ rs. IsInAgreementOfAll (counts 3 1 1) (entries_in rs) in
     subst P (sym none) (all_agree (counts 3 1 1) (omega arith) [] tt)
 
+-- without a configuration no node ran
+pub unlisted : (ending : Ending) (trail : List Record) → config_of ending ≡ None → IsListOf ending trail
+unlisted Misused trail none = tt
+unlisted Unread trail none = tt
+unlisted (Refuses line reason before) trail none = tt
+unlisted (Plays operations config said) trail none = tt
+unlisted (Drives config n) trail none = tt
+unlisted (Simulates seed n) trail none = tt
+unlisted (Shows disk log) trail none = tt
+unlisted DiskFails trail none = tt
+unlisted (Overflows size need) trail none = tt
+unlisted (Breaks place) trail none = tt
+unlisted (Runs end config list) trail none = cc
+unlisted Starved trail none = tt
+
 -- one cause for another
 pub because : (P Q : Ending → Type 0) (before now : Seen) (status : ℕ) (trail : List Record) → ((ending : Ending) → P ending → Q ending) → EndsBy P before now status trail → EndsBy Q before now status trail
 because P Q before now status trail for ends = record {
   ending = ends.ending;
   cause = for ends.ending ends.cause;
   run = ends.run;
+  list = ends.list;
   config = ends.config;
   own_config = ends.own_config;
   agreement = ends.agreement;
@@ -74,6 +90,7 @@ script_cause operations before now bytes taken steady (Shows disk log) cause = c
 script_cause operations before now bytes taken steady DiskFails cause = cause
 script_cause operations before now bytes taken steady (Overflows size need) cause = cause
 script_cause operations before now bytes taken steady (Breaks place) cause = cause
+script_cause operations before now bytes taken steady (Runs end config list) cause = cause
 script_cause operations before now bytes taken steady Starved cause = (steady, loses MOST_READ before.bytes now.bytes bytes taken)
 
 -- a script that was read up to the limit ends as a script
@@ -90,6 +107,7 @@ without_run Cause ending before now status trail cause no_run no_config none tol
   ending = ending;
   cause = cause;
   run = ap entries_in none ∙ sym no_run;
+  list = unlisted ending trail no_config;
   config = counts 3 1 1;
   own_config = let P : Option Counts → Type 0 = λ own. IsConfig own (counts 3 1 1) in subst P (sym no_config) tt;
   agreement = none_agrees trail none;
@@ -105,12 +123,13 @@ pub log_ends : (P Q : Ending → Type 0) (before now : Seen) (status : ℕ) (tra
 log_ends P Q before now status trail for ends none = without_run Q ends.ending before now status trail (for ends.ending ends.cause) ends.no_run ends.no_config none ends.told
 
 -- a run that was made as it should be, and what it prints
-pub made_ends : (meant : Ending) (config : Counts) (before now : Seen) (status : ℕ) (trail : List Record) (text : List ℕ) → config_of meant ≡ Some config → IsInAgreementOfAll config (entries_in trail) → entries_in trail ≡ run_to meant
+pub made_ends : (meant : Ending) (config : Counts) (before now : Seen) (status : ℕ) (trail : List Record) (text : List ℕ) → IsListOf meant trail → config_of meant ≡ Some config → IsInAgreementOfAll config (entries_in trail) → entries_in trail ≡ run_to meant
     → status_of meant ≡ 0 → text ≡ text_of meant → Told before now text 0 5 status → EndsBy (IsRunCause meant) before now status trail
-made_ends meant config before now status trail text own agreement run well is told = record {
+made_ends meant config before now status trail text list own agreement run well is told = record {
   ending = meant;
   cause = inl refl;
   run = run;
+  list = list;
   config = config;
   own_config = let P : Option Counts → Type 0 = λ named. IsConfig named config in subst P (sym own) refl;
   agreement = agreement;
@@ -124,18 +143,18 @@ pub unmade_ends : (meant : Ending) (before now : Seen) (status : ℕ) (trail : L
 unmade_ends meant before now status trail none told = without_run (IsRunCause meant) Starved before now status trail (inr refl) refl refl none told
 
 -- a run that was made as it should be, or was not made for want of memory
-pub printed_ends : (meant : Ending) (config : Counts) (before now : Seen) (status : ℕ) (trail : List Record) (made : Result Played NoMemory) → config_of meant ≡ Some config → status_of meant ≡ 0
+pub printed_ends : (meant : Ending) (config : Counts) (before now : Seen) (status : ℕ) (trail : List Record) (made : Result Played NoMemory) → IsListOf meant trail → config_of meant ≡ Some config → status_of meant ≡ 0
     → IfOk made (λ p. entries_of p.world ≡ run_to meant) → IfOk made (λ p. p.text.items ≡ text_of meant) → IfOk made (λ p. IsInAgreementOfAll config (entries_of p.world))
     → IfOk made (λ p. (trail ≡ p.world.records) × Told before now p.text.items 0 5 status) → IfErr made (λ e. (trail ≡ []) × Told before now [] 1 1 status)
     → EndsBy (IsRunCause meant) before now status trail
-printed_ends meant config before now status trail (Ok played) own well run text agreement printed starved =
+printed_ends meant config before now status trail (Ok played) list own well run text agreement printed starved =
     let at : entries_in trail ≡ entries_of played.world = ap entries_in printed.0 in
-    made_ends meant config before now status trail played.text.items own (subst (IsInAgreementOfAll config) (sym at) agreement) (at ∙ run) well text printed.1
-printed_ends meant config before now status trail (Err e) own well run text agreement printed starved = unmade_ends meant before now status trail starved.0 starved.1
+    made_ends meant config before now status trail played.text.items list own (subst (IsInAgreementOfAll config) (sym at) agreement) (at ∙ run) well text printed.1
+printed_ends meant config before now status trail (Err e) list own well run text agreement printed starved = unmade_ends meant before now status trail starved.0 starved.1
 
 -- nothing was written of a text that could not be made
-pub untold : (before : Seen) (n status : ℕ) (meant : List ℕ) → status ≡ 1 → 0 < length meant → Told before before meant n n status
-untold before n status meant one some = ForMemory one refl (part before.bytes) where
+pub untold : (before : Seen) (whole at_fault status : ℕ) (meant : List ℕ) → status ≡ 1 → 0 < length meant → Told before before meant whole at_fault status
+untold before whole at_fault status meant one some = ForMemory one refl (part before.bytes) where
   part : (bytes : Option (List ℕ)) → AppendsPart bytes bytes meant
   part None = refl
   part (Some bytes) = (0, some, ap (λ (b : List ℕ). Some b) (sym (append-nil bytes)))
@@ -145,10 +164,10 @@ pub on_err : {X : Type 0} (made : Result X NoMemory) (e : NoMemory) (P : Type 0)
 on_err made e P is p = subst (λ m. IfErr m (λ x. P)) (sym is) p
 
 -- a text that may not have been made
-pub told_of : (before now : Seen) (n status : ℕ) (meant : List ℕ) (text : Result (Vec ℕ) NoMemory) → 0 < length meant → IfOk text (λ t. t.items ≡ meant)
-    → IfOk text (λ t. Told before now t.items n n status) → IfErr text (λ e. (m : List ℕ) → 0 < length m → Told before now m n n status) → Told before now meant n n status
-told_of before now n status meant (Ok text) some is told untold_it = subst (λ (t : List ℕ). Told before now t n n status) is told
-told_of before now n status meant (Err e) some is told untold_it = untold_it meant some
+pub told_of : (before now : Seen) (whole at_fault status : ℕ) (meant : List ℕ) (text : Result (Vec ℕ) NoMemory) → 0 < length meant → IfOk text (λ t. t.items ≡ meant)
+    → IfOk text (λ t. Told before now t.items whole at_fault status) → IfErr text (λ e. (m : List ℕ) → 0 < length m → Told before now m whole at_fault status) → Told before now meant whole at_fault status
+told_of before now whole at_fault status meant (Ok text) some is told untold_it = subst (λ (t : List ℕ). Told before now t whole at_fault status) is told
+told_of before now whole at_fault status meant (Err e) some is told untold_it = untold_it meant some
 
 -- ---- scripts
 
@@ -170,6 +189,7 @@ played_ends operations read played before now status trail gives legal same told
       ending = Plays operations config gives.said;
       cause = (refl, gives.whole);
       run = run;
+      list = tt;
       config = config;
       own_config = refl;
       agreement = subst (IsInAgreementOfAll config) (sym run) (script_agrees operations config gives.said.events said);
@@ -196,6 +216,7 @@ refused_ends operations read result why line reason records before now status tr
       ending = Refuses line reason at.before;
       cause = at.says;
       run = run;
+      list = tt;
       config = own.config;
       own_config = own.own;
       agreement = own.agreement;

@@ -1,5 +1,8 @@
 pub mod Machines
 pub mod Causes
+pub mod NodesCauses
+pub mod Told
+pub mod NodesStatuses
 pub mod Statuses
 pub mod Arguments
 pub mod LogCauses

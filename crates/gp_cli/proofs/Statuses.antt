@@ -1,7 +1,6 @@
 -- What the statuses of a run say.
-use Rattle.std.proofs.Common.{◌≡◌, ℕ, zero, suc, ◌≤◌, length, arith, List, [], take, drop, Option, Some, None, Ok, Err, refl, sym, ap, subst, ◌∙◌, ◌⊎◌, inl, inr}
-use Rattle.std.specs.Prelude.{IfSome}
-use Rattle.std.proofs.lemmas.List.{length-take, drop_all}
+use Rattle.std.proofs.Common.{◌≡◌, ℕ, suc, arith, List, [], take, drop, Option, Some, None, Ok, Err, refl, sym, ap, subst, ◌∙◌, ◌⊎◌, inl, inr}
+use Rattle.std.specs.Prelude.{◌≢◌, IfSome}
 use Rattle.gp_round.specs.Counts.{Counts}
 use Rattle.gp_msg.specs.declared.record.Record.{Record}
 use Rattle.gp_run.specs.Runs.{entries_in}
@@ -11,107 +10,41 @@ use Rattle.gp_edge.specs.Reads.{ReadsUpTo}
 use Rattle.gp_edge.specs.Writes.{AppendsWhole}
 use Rattle.gp_script.specs.declared.reason.Reason.{Reason}
 use Rattle.gp_sim.specs.Simulated.{sim_config}
-use Rattle.gp_text.specs.Reading.{Reading, Whole, Refused, Script, Sofar}
+use Rattle.gp_text.specs.Reading.{Reading, Whole, Refused, Script, Sofar, run_before}
 use Rattle.gp_text.proofs.ShortScripts.{whole_short}
+use Rattle.gp_offers.specs.declared.script.Offers.{Offers}
+use Rattle.gp_offers.specs.Offering as offers
+use Rattle.gp_ending.specs.declared.ends.RunEnd.TheVariants as end
 use Rattle.gp_vlog.specs.Files.{Contents, is_limit, read_log}
 use Rattle.gp_vlog.proofs.Moments.{told as at_bytes}
 use Rattle.gp_cli.specs.declared.runs.TheConstants.{MOST_READ}
 use Rattle.gp_cli.specs.declared.subcommand.Operations.{Operations}
 use Rattle.gp_cli.specs.declared.subcommand.Subcommand.{Subcommand}
-use Rattle.gp_cli.specs.declared.subcommand.Subcommand.TheVariants.{Play, Sim, Drive, Log, Upgrade}
+use Rattle.gp_cli.specs.declared.subcommand.Subcommand.TheVariants.{Play, Run, Sim, Drive, Log, Upgrade}
 use Rattle.gp_cli.specs.Subcommands.{named}
 use Rattle.gp_cli.specs.Machines.{profile_of, reading_of, IsInAgreementOfAll}
-use Rattle.gp_cli.specs.Outside.{Seen, Outside, Told, Wholly, AtFault, ForMemory}
-use Rattle.gp_cli.specs.Endings.{Ending, Misused, Unread, Refuses, Plays, Drives, Simulates, Shows, DiskFails, Overflows, Breaks, Starved, status_of, status_at_fault, text_of, run_to, config_of}
+use Rattle.gp_cli.specs.Outside.{Seen, Outside}
+use Rattle.gp_cli.specs.Endings.{Ending, Misused, Unread, Refuses, Plays, Drives, Simulates, Shows, DiskFails, Overflows, Breaks, Runs, Starved, status_of, status_at_fault, text_of, run_to, config_of}
 use Rattle.gp_cli.specs.Causes.{HasRead, IfLog, HasRoomForLast, HasNoRoom, IsCauseFor, IsCause, IsRunCause, driven_config, seen_at, disk_used}
 use Rattle.gp_cli.specs.Logs.{TellsEnding}
-use Rattle.gp_cli.specs.Serving.{IsConfig, Ends, HoldsScript, HoldsBadLine, PlaysWhole, StopsAtLine, Prints, PrintsDriven, PrintsSimulated}
+use Rattle.gp_cli.specs.Serving.{IsConfig, IsListOf, Ends, HoldsScript, HoldsBadLine, PlaysWhole, StopsAtLine, Prints, PrintsDriven, PrintsSimulated}
 use Rattle.gp_cli.specs.LogRuns.{HoldsLog, HoldsRoomyLog, HoldsFullLog, HoldsNoLog, ShowsLog, ShowsTakenOn, HasNoSpace, IsBrokenAt}
+use Rattle.gp_cli.specs.Run.{SomeFailed, HasReadOffers}
+use Rattle.gp_cli.specs.NodesRuns.{RefusesOffers, FillsLog, LosesLog, PrintsNodes, HoldsOffers, HoldsBadOffers, HasRoomForNext, OffersAll, DiskFailed}
 use Rattle.gp_cli.proofs.Causes.{read_legal}
-
--- after a script that is short enough nothing is left
-nothing_left : (before now : Option (List ℕ)) (bytes : List ℕ) → ReadsUpTo MOST_READ before now bytes → length bytes ≤ 1048576 → IfSome now (λ rest. rest ≡ [])
-nothing_left None now bytes reads short = rw reads tt
-nothing_left (Some rest) now bytes reads short =
-    let taken = ap length reads.0 in
-    let count = length-take MOST_READ rest in
-    rw reads.1 (drop_all MOST_READ rest (omega (arith, taken, count, short)))
+use Rattle.gp_cli.proofs.NodesStatuses.{nodes_offered, nodes_left, ran_to_fault, fills_log, breaks_log, changes_log, prints_nodes, nodes_complete, nodes_refuse}
+use Rattle.gp_cli.proofs.Told.{no_records, nothing_left, same_status, one_status, starved_status, done, own_status, sink_failed, no_run_status, never_five}
 
 -- after a whole script nothing is left
 whole_left : (operations : Operations) (rest left : Seen) (config : Counts) (said : Sofar) → HasRead operations rest left (Whole config said) → IfSome left.bytes (λ bytes. bytes ≡ [])
 whole_left operations rest left config said read = nothing_left rest.bytes left.bytes read.bytes read.taken (whole_short (profile_of operations).language read.bytes config said read.says)
 
--- one status, or the one for memory that ran out, if both texts have one or the sink did not fail
-same_status : (before now : Seen) (text : List ℕ) (n status : ℕ) → Told before now text n n status → (status ≡ n) ⊎ (status ≡ 1)
-same_status before now text n status (Wholly is steady written) = inl is
-same_status before now text n status (AtFault is rose written) = inl is
-same_status before now text n status (ForMemory is steady written) = inr is
-
-one_status : (before now : Seen) (text : List ℕ) (whole at_fault status : ℕ) → ¬ Rose before.faults now.faults → Told before now text whole at_fault status → (status ≡ whole) ⊎ (status ≡ 1)
-one_status before now text whole at_fault status well (Wholly is steady written) = inl is
-one_status before now text whole at_fault status well (AtFault is rose written) = absurd (well rose)
-one_status before now text whole at_fault status well (ForMemory is steady written) = inr is
-
--- the status for memory that ran out
-pub starved_status : (before now : Seen) (text : List ℕ) (status : ℕ) → Told before now text 1 1 status → status ≡ 1
-starved_status before now text status (Wholly is steady written) = is
-starved_status before now text status (AtFault is rose written) = is
-starved_status before now text status (ForMemory is steady written) = is
-
 -- what was read is what the source told
-read_is : (operations : Operations) (before now : Seen) (rest : List ℕ) (read : Reading) → before.bytes ≡ Some rest → HasRead operations before now read → reading_of operations (take MOST_READ rest) ≡ read
+pub read_is : (operations : Operations) (before now : Seen) (rest : List ℕ) (read : Reading) → before.bytes ≡ Some rest → HasRead operations before now read → reading_of operations (take MOST_READ rest) ≡ read
 read_is operations before now rest read tells has =
     let P : Option (List ℕ) → Type 0 = λ told. ReadsUpTo MOST_READ told now.bytes has.bytes in
     let taken : (has.bytes ≡ take MOST_READ rest) × (now.bytes ≡ Some (drop MOST_READ rest)) = subst P tells has.taken in
     ap (reading_of operations) (sym taken.0) ∙ has.says
-
--- ---- which ending has a status
-
--- a text that was told whole, with the status of its ending
-record IsWhole (ending : Ending) (before now : Seen) : Type 0 where
-  well : status_of ending ≡ 0
-  steady : now.faults ≡ before.faults
-  written : AppendsWhole before.bytes now.bytes (text_of ending)
-
--- with status 0 all was written
-done : (ending : Ending) (before now : Seen) (status : ℕ) → TellsEnding ending before now status → status ≡ 0 → IsWhole ending before now
-done ending before now status (Wholly is steady written) none_failed = record { well = sym is ∙ none_failed; steady = steady; written = written }
-done ending before now status (AtFault is rose written) none_failed = absurd (never (status_of ending) (sym is ∙ none_failed)) where
-  never : (n : ℕ) → status_at_fault n ≡ 0 → ⊥
-  never zero e = cc
-  never (suc n) e = cc
-done ending before now status (ForMemory is steady written) none_failed = let clash : 1 ≡ 0 = sym is ∙ none_failed in cc
-
--- a status from 2 on but 5 is that of the ending
-own_status : (ending : Ending) (before now : Seen) (status n : ℕ) → TellsEnding ending before now status → status ≡ suc (suc n) → ¬ (suc (suc n) ≡ 5) → status_of ending ≡ suc (suc n)
-own_status ending before now status n (Wholly is steady written) e no_five = sym is ∙ e
-own_status ending before now status n (AtFault is rose written) e no_five = by (status_of ending) (sym is ∙ e) where
-  by : (m : ℕ) → status_at_fault m ≡ suc (suc n) → m ≡ suc (suc n)
-  by zero h = absurd (no_five (sym h))
-  by (suc m) h = h
-own_status ending before now status n (ForMemory is steady written) e no_five = let clash : 1 ≡ suc (suc n) = sym is ∙ e in cc
-
--- with status 5 the sink failed, and the ending would have had status 0
-sink_failed : (ending : Ending) (before now : Seen) (status : ℕ) → ¬ (status_of ending ≡ 5) → TellsEnding ending before now status → status ≡ 5 → (status_of ending ≡ 0) × Rose before.faults now.faults
-sink_failed ending before now status not (Wholly is steady written) five = absurd (not (sym is ∙ five))
-sink_failed ending before now status not (AtFault is rose written) five = (by (status_of ending) not (sym is ∙ five), rose) where
-  by : (m : ℕ) → ¬ (m ≡ 5) → status_at_fault m ≡ 5 → m ≡ 0
-  by zero other h = refl
-  by (suc m) other h = absurd (other h)
-sink_failed ending before now status not (ForMemory is steady written) five = let clash : 1 ≡ 5 = sym is ∙ five in cc
-
-never_five : (ending : Ending) → status_of ending ≡ 5 → ⊥
-never_five Misused e = cc
-never_five Unread e = cc
-never_five (Refuses line reason said) e = cc
-never_five (Plays operations config said) e = cc
-never_five (Drives config n) e = cc
-never_five (Simulates seed n) e = cc
-never_five (Shows k log) e = cc
-never_five DiskFails e = cc
-never_five (Overflows size need) e = cc
-never_five (Breaks place) e = cc
-never_five Starved e = cc
 
 -- ---- by the subcommand
 
@@ -153,42 +86,60 @@ module _ (before now : Outside) (status : ℕ) (trail : List Record) where
   played operations DiskFails cause run told none_failed = absurd cause
   played operations (Overflows size need) cause run told none_failed = absurd cause
   played operations (Breaks place) cause run told none_failed = absurd cause
+  played operations (Runs why config list) cause run told none_failed = absurd cause
   played operations Starved cause run told none_failed = absurd (clash Starved (λ e. cc) told none_failed)
 
   -- only a script that is to be played has a refused line
   abbrev RefusedAt : Option Subcommand → ℕ → Reason → Option Script → Type 0
   RefusedAt sub line reason said = (operations : Operations) × (sub ≡ Some (Play operations)) × HasRead operations before.source now.source (Refused line reason said)
 
-  refused_at : (sub : Option Subcommand) (line : ℕ) (reason : Reason) (said : Option Script) → Causes sub (Refuses line reason said) → RefusedAt sub line reason said
+  -- and one of nodes that are to run
+  abbrev RefusedOffer : Option Subcommand → ℕ → Reason → Option Script → Type 0
+  RefusedOffer sub line reason said = (limit : ℕ) × (sub ≡ Some (Run limit)) × (said ≡ None) × HasReadOffers before.source now.source (λ read. read ≡ offers.RefusedAt line reason)
+
+  refused_at : (sub : Option Subcommand) (line : ℕ) (reason : Reason) (said : Option Script) → Causes sub (Refuses line reason said) → RefusedAt sub line reason said ⊎ RefusedOffer sub line reason said
   refused_at None line reason said cause = cc
-  refused_at (Some (Play operations)) line reason said cause = (operations, refl, cause)
+  refused_at (Some (Play operations)) line reason said cause = inl (operations, refl, cause)
+  refused_at (Some (Run limit)) line reason said cause = let said_so = cause.says in inr (limit, refl, said_so.0, record { bytes = cause.bytes; taken = cause.taken; steady = cause.steady; says = said_so.1 })
   refused_at (Some (Sim seed n)) line reason said cause = elim cause [ inl is ↦ cc | inr is ↦ cc ]
   refused_at (Some (Drive a l n)) line reason said cause = elim cause [ inl is ↦ cc | inr is ↦ cc ]
   refused_at (Some (Log k)) line reason said cause = absurd cause
   refused_at (Some (Upgrade k)) line reason said cause = absurd cause
 
-  stops : (words : List (List ℕ)) (ending : Ending) → Causes (named words) ending → entries_in trail ≡ run_to ending → Tells ending → status_of ending ≡ 3 → StopsAtLine words before now status trail
-  stops words Misused cause run told e = cc
-  stops words Unread cause run told e = cc
-  stops words (Refuses line reason said) cause run told e = let play = refused_at (named words) line reason said cause in record {
-    operations = play.0;
-    is_play = play.1;
-    line = line;
-    reason = reason;
-    said = said;
-    read = play.2;
-    legal = read_legal play.0 before.source now.source (Refused line reason said) play.2;
-    run = run;
-    told = told;
-  }
-  stops words (Plays operations config said) cause run told e = cc
-  stops words (Drives config n) cause run told e = cc
-  stops words (Simulates seed n) cause run told e = cc
-  stops words (Shows k log) cause run told e = cc
-  stops words DiskFails cause run told e = cc
-  stops words (Overflows size need) cause run told e = cc
-  stops words (Breaks place) cause run told e = cc
-  stops words Starved cause run told e = cc
+  stops : (words : List (List ℕ)) (ending : Ending) → Causes (named words) ending → entries_in trail ≡ run_to ending → IsListOf ending trail → Tells ending → status_of ending ≡ 3 → StopsAtLine words before now status trail ⊎ RefusesOffers words before now status trail
+  stops words Misused cause run list told e = cc
+  stops words Unread cause run list told e = cc
+  stops words (Refuses line reason said) cause run list told e = elim (refused_at (named words) line reason said cause) [
+    | inl play ↦ inl (record {
+      operations = play.0;
+      is_play = play.1;
+      line = line;
+      reason = reason;
+      said = said;
+      read = play.2;
+      legal = read_legal play.0 before.source now.source (Refused line reason said) play.2;
+      run = run;
+      told = told;
+    })
+    | inr offer ↦ inr (record {
+      limit = offer.0;
+      is_run = offer.1;
+      line = line;
+      reason = reason;
+      read = offer.3;
+      no_trail = no_records trail (run ∙ ap run_before offer.2);
+      told = told;
+    })
+  ]
+  stops words (Plays operations config said) cause run list told e = cc
+  stops words (Drives config n) cause run list told e = cc
+  stops words (Simulates seed n) cause run list told e = cc
+  stops words (Shows k log) cause run list told e = cc
+  stops words DiskFails cause run list told e = cc
+  stops words (Overflows size need) cause run list told e = cc
+  stops words (Breaks place) cause run list told e = cc
+  stops words (Runs why config records) cause run list told e = absurd (no_run_status why 3 e (omega arith) (omega arith))
+  stops words Starved cause run list told e = cc
 
   -- a run that ends well, or would have, read its script to the end
   to_its_end : (operations : Operations) (ending : Ending) → Causes (Some (Play operations)) ending → status_of ending ≡ 0 → IfSome now.source.bytes (λ rest. rest ≡ [])
@@ -202,6 +153,7 @@ module _ (before now : Outside) (status : ℕ) (trail : List Record) where
   to_its_end operations DiskFails cause e = absurd cause
   to_its_end operations (Overflows size need) cause e = absurd cause
   to_its_end operations (Breaks place) cause e = absurd cause
+  to_its_end operations (Runs why config list) cause e = absurd cause
   to_its_end operations Starved cause e = cc
 
   completes : (operations : Operations) (ending : Ending) → Causes (Some (Play operations)) ending → Tells ending → HoldsScript operations before.source → ¬ Rose before.source.faults now.source.faults → ¬ Rose before.sink.faults now.sink.faults → (status ≡ 0) ⊎ (status ≡ 1)
@@ -216,6 +168,7 @@ module _ (before now : Outside) (status : ℕ) (trail : List Record) where
   completes operations DiskFails cause told holds read_well written_well = absurd cause
   completes operations (Overflows size need) cause told holds read_well written_well = absurd cause
   completes operations (Breaks place) cause told holds read_well written_well = absurd cause
+  completes operations (Runs why config list) cause told holds read_well written_well = absurd cause
   completes operations Starved cause told holds read_well written_well = inr (starved_status before.sink now.sink [] status told)
 
   refuses : (operations : Operations) (ending : Ending) → Causes (Some (Play operations)) ending → Tells ending → HoldsBadLine operations before.source → ¬ Rose before.source.faults now.source.faults → (status ≡ 3) ⊎ (status ≡ 1)
@@ -230,6 +183,7 @@ module _ (before now : Outside) (status : ℕ) (trail : List Record) where
   refuses operations DiskFails cause told holds read_well = absurd cause
   refuses operations (Overflows size need) cause told holds read_well = absurd cause
   refuses operations (Breaks place) cause told holds read_well = absurd cause
+  refuses operations (Runs why config list) cause told holds read_well = absurd cause
   refuses operations Starved cause told holds read_well = inr (starved_status before.sink now.sink [] status told)
 
   -- ---- a run without input
@@ -276,6 +230,7 @@ module _ (before now : Outside) (status : ℕ) (trail : List Record) where
   shows_log k DiskFails cause told none_failed = absurd (clash DiskFails (λ e. cc) told none_failed)
   shows_log k (Overflows size need) cause told none_failed = absurd cause
   shows_log k (Breaks place) cause told none_failed = absurd (clash (Breaks place) (λ e. cc) told none_failed)
+  shows_log k (Runs why config list) cause told none_failed = absurd cause
   shows_log k Starved cause told none_failed = absurd (clash Starved (λ e. cc) told none_failed)
 
   shows_taken_on : (k : ℕ) (ending : Ending) → Causes (Some (Upgrade k)) ending → Tells ending → status ≡ 0 → ShowsTakenOn k before now
@@ -295,6 +250,7 @@ module _ (before now : Outside) (status : ℕ) (trail : List Record) where
   shows_taken_on k DiskFails cause told none_failed = absurd (clash DiskFails (λ e. cc) told none_failed)
   shows_taken_on k (Overflows size need) cause told none_failed = absurd (clash (Overflows size need) (λ e. cc) told none_failed)
   shows_taken_on k (Breaks place) cause told none_failed = absurd (clash (Breaks place) (λ e. cc) told none_failed)
+  shows_taken_on k (Runs why config list) cause told none_failed = absurd cause
   shows_taken_on k Starved cause told none_failed = absurd (clash Starved (λ e. cc) told none_failed)
 
   no_clash : (bytes : Option (List ℕ)) (s : List ℕ) (log : Contents) (place : ℕ) → bytes ≡ Some s → read_log is_limit s ≡ Ok log → IfRevealed bytes (λ t. read_log is_limit t ≡ Err place) → ⊥
@@ -311,6 +267,7 @@ module _ (before now : Outside) (status : ℕ) (trail : List Record) where
   log_completes k DiskFails cause told holds disk_well written_well = absurd (disk_well cause.0)
   log_completes k (Overflows size need) cause told holds disk_well written_well = absurd cause
   log_completes k (Breaks place) cause told (s, log, is, reads) disk_well written_well = absurd (no_clash (seen_at k before.disks).bytes s log place is reads cause.1)
+  log_completes k (Runs why config list) cause told holds disk_well written_well = absurd cause
   log_completes k Starved cause told holds disk_well written_well = inr (starved_status before.sink now.sink [] status told)
 
   -- a log has room for its last entry, or has none
@@ -341,6 +298,7 @@ module _ (before now : Outside) (status : ℕ) (trail : List Record) where
   upgrade_completes k (Overflows size need) cause told (s, log, is, reads, room) disk_well written_well =
       absurd (room_clash log size need room (one_log (seen_at k before.disks).bytes s log (λ l. HasNoRoom size need l.limit l.entries) is reads cause.1))
   upgrade_completes k (Breaks place) cause told (s, log, is, reads, room) disk_well written_well = absurd (no_clash (seen_at k before.disks).bytes s log place is reads cause.1)
+  upgrade_completes k (Runs why config list) cause told holds disk_well written_well = absurd cause
   upgrade_completes k Starved cause told holds disk_well written_well = inr (starved_status before.sink now.sink [] status told)
 
   overflows_if_full : (k : ℕ) (ending : Ending) → Causes (Some (Upgrade k)) ending → Tells ending → HoldsFullLog k before → ¬ Rose (seen_at k before.disks).faults (seen_at k now.disks).faults → (status ≡ 7) ⊎ (status ≡ 1)
@@ -355,12 +313,14 @@ module _ (before now : Outside) (status : ℕ) (trail : List Record) where
   overflows_if_full k DiskFails cause told holds well = absurd (well cause)
   overflows_if_full k (Overflows size need) cause told holds well = same_status before.sink now.sink (text_of (Overflows size need)) 7 status told
   overflows_if_full k (Breaks place) cause told (s, log, size, need, is, reads, none) well = absurd (no_clash (seen_at k before.disks).bytes s log place is reads cause.1)
+  overflows_if_full k (Runs why config list) cause told holds well = absurd cause
   overflows_if_full k Starved cause told holds well = inr (starved_status before.sink now.sink [] status told)
 
   -- only a log that is shown or taken on overflows, breaks, or has a disk that fails
   overflowed : (sub : Option Subcommand) (size need : ℕ) → Causes sub (Overflows size need) → Tells (Overflows size need) → (k : ℕ) × (sub ≡ Some (Upgrade k)) × Causes (Some (Upgrade k)) (Overflows size need)
   overflowed None size need cause told = cc
   overflowed (Some (Play operations)) size need cause told = absurd cause
+  overflowed (Some (Run limit)) size need cause told = absurd cause
   overflowed (Some (Sim seed n)) size need cause told = elim cause [ inl is ↦ cc | inr is ↦ cc ]
   overflowed (Some (Drive a l n)) size need cause told = elim cause [ inl is ↦ cc | inr is ↦ cc ]
   overflowed (Some (Log k)) size need cause told = absurd cause
@@ -369,18 +329,20 @@ module _ (before now : Outside) (status : ℕ) (trail : List Record) where
   broke : (sub : Option Subcommand) (place : ℕ) → Causes sub (Breaks place) → (k : ℕ) × (disk_used sub ≡ Some k) × Causes (Some (Log k)) (Breaks place)
   broke None place cause = cc
   broke (Some (Play operations)) place cause = absurd cause
+  broke (Some (Run limit)) place cause = absurd cause
   broke (Some (Sim seed n)) place cause = elim cause [ inl is ↦ cc | inr is ↦ cc ]
   broke (Some (Drive a l n)) place cause = elim cause [ inl is ↦ cc | inr is ↦ cc ]
   broke (Some (Log k)) place cause = (k, refl, cause)
   broke (Some (Upgrade k)) place cause = (k, refl, cause)
 
-  disk_failed : (sub : Option Subcommand) → Causes sub DiskFails → (k : ℕ) × (disk_used sub ≡ Some k) × Rose (seen_at k before.disks).faults (seen_at k now.disks).faults
+  disk_failed : (sub : Option Subcommand) → Causes sub DiskFails → DiskFailed sub before now
   disk_failed None cause = cc
   disk_failed (Some (Play operations)) cause = absurd cause
+  disk_failed (Some (Run limit)) cause = absurd cause
   disk_failed (Some (Sim seed n)) cause = elim cause [ inl is ↦ cc | inr is ↦ cc ]
   disk_failed (Some (Drive a l n)) cause = elim cause [ inl is ↦ cc | inr is ↦ cc ]
-  disk_failed (Some (Log k)) cause = (k, refl, cause.0)
-  disk_failed (Some (Upgrade k)) cause = (k, refl, cause)
+  disk_failed (Some (Log k)) cause = cause.0
+  disk_failed (Some (Upgrade k)) cause = cause
 
   -- with status 2 the words name nothing
   named_nothing : (sub : Option Subcommand) (ending : Ending) → Causes sub ending → status_of ending ≡ 2 → sub ≡ None
@@ -388,6 +350,7 @@ module _ (before now : Outside) (status : ℕ) (trail : List Record) where
   named_nothing (Some sub) Misused cause two = absurd (by sub cause) where
     by : (sub : Subcommand) → Causes (Some sub) Misused → ⊥
     by (Play operations) cause = cause
+    by (Run limit) cause = cause
     by (Sim seed n) cause = elim cause [ inl is ↦ cc | inr is ↦ cc ]
     by (Drive a l n) cause = elim cause [ inl is ↦ cc | inr is ↦ cc ]
     by (Log k) cause = cause
@@ -401,11 +364,13 @@ module _ (before now : Outside) (status : ℕ) (trail : List Record) where
   named_nothing (Some sub) DiskFails cause two = cc
   named_nothing (Some sub) (Overflows size need) cause two = cc
   named_nothing (Some sub) (Breaks place) cause two = cc
+  named_nothing (Some sub) (Runs why config list) cause two = absurd (no_run_status why 2 two (omega arith) (omega arith))
   named_nothing (Some sub) Starved cause two = cc
 
   source_failed : (sub : Option Subcommand) → Causes sub Unread → Rose before.source.faults now.source.faults
   source_failed None cause = cc
   source_failed (Some (Play operations)) cause = cause.0
+  source_failed (Some (Run limit)) cause = cause.0
   source_failed (Some (Sim seed n)) cause = elim cause [ inl is ↦ cc | inr is ↦ cc ]
   source_failed (Some (Drive a l n)) cause = elim cause [ inl is ↦ cc | inr is ↦ cc ]
   source_failed (Some (Log k)) cause = absurd cause
@@ -426,9 +391,10 @@ module _ (before now : Outside) (status : ℕ) (trail : List Record) where
   unread_is DiskFails e = cc
   unread_is (Overflows size need) e = cc
   unread_is (Breaks place) e = cc
+  unread_is (Runs why config list) e = absurd (no_run_status why 4 e (omega arith) (omega arith))
   unread_is Starved e = cc
 
-  disk_fails_is : (ending : Ending) → status_of ending ≡ 6 → ending ≡ DiskFails
+  disk_fails_is : (ending : Ending) → status_of ending ≡ 6 → (ending ≡ DiskFails) ⊎ ((config : Counts) × (list : List Record) × (ending ≡ Runs end.Disk config list))
   disk_fails_is Misused e = cc
   disk_fails_is Unread e = cc
   disk_fails_is (Refuses line reason said) e = cc
@@ -436,12 +402,18 @@ module _ (before now : Outside) (status : ℕ) (trail : List Record) where
   disk_fails_is (Drives config n) e = cc
   disk_fails_is (Simulates seed n) e = cc
   disk_fails_is (Shows k log) e = cc
-  disk_fails_is DiskFails e = refl
+  disk_fails_is DiskFails e = inl refl
   disk_fails_is (Overflows size need) e = cc
   disk_fails_is (Breaks place) e = cc
+  disk_fails_is (Runs end.Learned config list) e = cc
+  disk_fails_is (Runs end.NoMemory config list) e = cc
+  disk_fails_is (Runs end.Disk config list) e = inr (config, list, refl)
+  disk_fails_is (Runs (end.Full size need) config list) e = cc
+  disk_fails_is (Runs (end.NotLog at) config list) e = cc
+  disk_fails_is (Runs end.Changed config list) e = cc
   disk_fails_is Starved e = cc
 
-  overflows_is : (ending : Ending) → status_of ending ≡ 7 → (size : ℕ) × (need : ℕ) × (ending ≡ Overflows size need)
+  overflows_is : (ending : Ending) → status_of ending ≡ 7 → (size : ℕ) × (need : ℕ) × ((ending ≡ Overflows size need) ⊎ ((config : Counts) × (list : List Record) × (ending ≡ Runs (end.Full size need) config list)))
   overflows_is Misused e = cc
   overflows_is Unread e = cc
   overflows_is (Refuses line reason said) e = cc
@@ -450,11 +422,21 @@ module _ (before now : Outside) (status : ℕ) (trail : List Record) where
   overflows_is (Simulates seed n) e = cc
   overflows_is (Shows k log) e = cc
   overflows_is DiskFails e = cc
-  overflows_is (Overflows size need) e = (size, need, refl)
+  overflows_is (Overflows size need) e = (size, need, inl refl)
   overflows_is (Breaks place) e = cc
+  overflows_is (Runs end.Learned config list) e = cc
+  overflows_is (Runs end.NoMemory config list) e = cc
+  overflows_is (Runs end.Disk config list) e = cc
+  overflows_is (Runs (end.Full size need) config list) e = (size, need, inr (config, list, refl))
+  overflows_is (Runs (end.NotLog at) config list) e = cc
+  overflows_is (Runs end.Changed config list) e = cc
   overflows_is Starved e = cc
 
-  breaks_is : (ending : Ending) → status_of ending ≡ 8 → (place : ℕ) × (ending ≡ Breaks place)
+  -- an ending with status 8
+  abbrev IsBroken : Ending → Type 0
+  IsBroken ending = ((place : ℕ) × (ending ≡ Breaks place)) ⊎ (((at : ℕ) × (config : Counts) × (list : List Record) × (ending ≡ Runs (end.NotLog at) config list)) ⊎ ((config : Counts) × (list : List Record) × (ending ≡ Runs end.Changed config list)))
+
+  breaks_is : (ending : Ending) → status_of ending ≡ 8 → IsBroken ending
   breaks_is Misused e = cc
   breaks_is Unread e = cc
   breaks_is (Refuses line reason said) e = cc
@@ -464,7 +446,13 @@ module _ (before now : Outside) (status : ℕ) (trail : List Record) where
   breaks_is (Shows k log) e = cc
   breaks_is DiskFails e = cc
   breaks_is (Overflows size need) e = cc
-  breaks_is (Breaks place) e = (place, refl)
+  breaks_is (Breaks place) e = inl (place, refl)
+  breaks_is (Runs end.Learned config list) e = cc
+  breaks_is (Runs end.NoMemory config list) e = cc
+  breaks_is (Runs end.Disk config list) e = cc
+  breaks_is (Runs (end.Full size need) config list) e = cc
+  breaks_is (Runs (end.NotLog at) config list) e = inr (inl (at, config, list, refl))
+  breaks_is (Runs end.Changed config list) e = inr (inr (config, list, refl))
   breaks_is Starved e = cc
 
   -- a disk that holds no log
@@ -484,6 +472,7 @@ module _ (before now : Outside) (status : ℕ) (trail : List Record) where
   unlogged k DiskFails cause told holds well = absurd (well cause.0)
   unlogged k (Overflows size need) cause told holds well = absurd cause
   unlogged k (Breaks place) cause told holds well = same_status before.sink now.sink (text_of (Breaks place)) 8 status told
+  unlogged k (Runs why config list) cause told holds well = absurd cause
   unlogged k Starved cause told holds well = inr (starved_status before.sink now.sink [] status told)
 
   unlogged_upgrade : (k : ℕ) (ending : Ending) → Causes (Some (Upgrade k)) ending → Tells ending → HoldsNoLog k before → ¬ Rose (seen_at k before.disks).faults (seen_at k now.disks).faults → (status ≡ 8) ⊎ (status ≡ 1)
@@ -497,6 +486,7 @@ module _ (before now : Outside) (status : ℕ) (trail : List Record) where
   unlogged_upgrade k DiskFails cause told holds well = absurd (well cause)
   unlogged_upgrade k (Overflows size need) cause told (s, place, is, broken) well = absurd (no_log_shown (seen_at k before.disks).bytes s place _ is broken cause.1)
   unlogged_upgrade k (Breaks place) cause told holds well = same_status before.sink now.sink (text_of (Breaks place)) 8 status told
+  unlogged_upgrade k (Runs why config list) cause told holds well = absurd cause
   unlogged_upgrade k Starved cause told holds well = inr (starved_status before.sink now.sink [] status told)
 
 -- ---- by the words
@@ -517,8 +507,11 @@ module _ (words : List (List ℕ)) (before now : Outside) (status : ℕ) (trail 
   pub plays_whole : (operations : Operations) → named words ≡ Some (Play operations) → status ≡ 0 → PlaysWhole operations before now trail
   plays_whole operations is none_failed = played before now status trail operations ends.ending (by_name (Some (Play operations)) is) ends.run ends.told none_failed
 
-  pub stops_at_line : status ≡ 3 → StopsAtLine words before now status trail
-  stops_at_line three = stops before now status trail words ends.ending ends.cause ends.run ends.told (own 1 three (λ e. cc))
+  list_at : (ending : Ending) → ends.ending ≡ ending → IsListOf ending trail
+  list_at ending is = subst (λ (x : Ending). IsListOf x trail) is ends.list
+
+  pub stops_at_line : status ≡ 3 → StopsAtLine words before now status trail ⊎ RefusesOffers words before now status trail
+  stops_at_line three = stops before now status trail words ends.ending ends.cause ends.run ends.list ends.told (own 1 three (λ e. cc))
 
   pub read_to_end : (operations : Operations) → named words ≡ Some (Play operations) → (status ≡ 0) ⊎ (status ≡ 5) → IfSome now.source.bytes (λ rest. rest ≡ [])
   read_to_end operations is (inl none_failed) = to_its_end before now status trail operations ends.ending (by_name (Some (Play operations)) is) (done ends.ending before.sink now.sink status ends.told none_failed).well
@@ -570,21 +563,35 @@ module _ (words : List (List ℕ)) (before now : Outside) (status : ℕ) (trail 
   pub full_log : (k : ℕ) → named words ≡ Some (Upgrade k) → HoldsFullLog k before → ¬ Rose (seen_at k before.disks).faults (seen_at k now.disks).faults → (status ≡ 7) ⊎ (status ≡ 1)
   full_log k is holds well = overflows_if_full before now status trail k ends.ending (by_name (Some (Upgrade k)) is) ends.told holds well
 
-  pub full : status ≡ 7 → HasNoSpace words before now status
+  pub full : status ≡ 7 → HasNoSpace words before now status ⊎ FillsLog words before now status trail
   full seven =
       let is = overflows_is before now status trail ends.ending (own 5 seven (λ e. cc)) in
-      let over = overflowed before now status trail (named words) is.0 is.1 (cause_at (Overflows is.0 is.1) is.2) (told_at (Overflows is.0 is.1) is.2) in
-      record { disk = over.0; size = is.0; need = is.1; is_upgrade = over.1; same = over.2.0; no_room = over.2.1; told = told_at (Overflows is.0 is.1) is.2 }
+      elim is.2 [
+        | inl at ↦ inl (
+            let over = overflowed before now status trail (named words) is.0 is.1 (cause_at (Overflows is.0 is.1) at) (told_at (Overflows is.0 is.1) at) in
+            record { disk = over.0; size = is.0; need = is.1; is_upgrade = over.1; same = over.2.0; no_room = over.2.1; told = told_at (Overflows is.0 is.1) at })
+        | inr at ↦ inr (
+            let ending = Runs (end.Full is.0 is.1) at.0 at.1 in
+            fills_log before now status trail words is.0 is.1 at.0 at.1 (cause_at ending at.2) (list_at ending at.2) (told_at ending at.2))
+      ]
 
-  pub broken : status ≡ 8 → IsBrokenAt words before now status
-  broken eight =
-      let is = breaks_is before now status trail ends.ending (own 6 eight (λ e. cc)) in
-      let at = broke before now status trail (named words) is.0 (cause_at (Breaks is.0) is.1) in
-      record { disk = at.0; place = is.0; used = at.1; same = at.2.0; broken = at.2.1; told = told_at (Breaks is.0) is.1 }
+  pub broken : status ≡ 8 → IsBrokenAt words before now status ⊎ LosesLog words before now status trail
+  broken eight = elim (breaks_is before now status trail ends.ending (own 6 eight (λ e. cc))) [
+    | inl is ↦ inl (
+        let at = broke before now status trail (named words) is.0 (cause_at (Breaks is.0) is.1) in
+        record { disk = at.0; place = is.0; used = at.1; same = at.2.0; broken = at.2.1; told = told_at (Breaks is.0) is.1 })
+    | inr (inl is) ↦ inr (
+        let ending = Runs (end.NotLog is.0) is.1 is.2 in
+        breaks_log before now status trail words is.0 is.1 is.2 (cause_at ending is.3) (list_at ending is.3) (told_at ending is.3))
+    | inr (inr is) ↦ inr (
+        let ending = Runs end.Changed is.0 is.1 in
+        changes_log before now status trail words is.0 is.1 (cause_at ending is.2) (list_at ending is.2) (told_at ending is.2))
+  ]
 
   no_log_for : (k : ℕ) (sub : Option Subcommand) → named words ≡ sub → disk_used sub ≡ Some k → HoldsNoLog k before → ¬ Rose (seen_at k before.disks).faults (seen_at k now.disks).faults → (status ≡ 8) ⊎ (status ≡ 1)
   no_log_for k None is used holds well = cc
   no_log_for k (Some (Play operations)) is used holds well = cc
+  no_log_for k (Some (Run limit)) is used holds well = cc
   no_log_for k (Some (Sim seed n)) is used holds well = cc
   no_log_for k (Some (Drive a l n)) is used holds well = cc
   no_log_for k (Some (Log j)) is used holds well =
@@ -609,5 +616,27 @@ module _ (words : List (List ℕ)) (before now : Outside) (status : ℕ) (trail 
   pub unwritten : status ≡ 5 → Rose before.sink.faults now.sink.faults
   unwritten five = (sink_failed ends.ending before.sink now.sink status (never_five ends.ending) ends.told five).1
 
-  pub disk_fault : status ≡ 6 → (k : ℕ) × (disk_used (named words) ≡ Some k) × Rose (seen_at k before.disks).faults (seen_at k now.disks).faults
-  disk_fault six = disk_failed before now status trail (named words) (cause_at DiskFails (disk_fails_is before now status trail ends.ending (own 4 six (λ e. cc))))
+  pub disk_fault : status ≡ 6 → DiskFailed (named words) before now
+  disk_fault six = elim (disk_fails_is before now status trail ends.ending (own 4 six (λ e. cc))) [
+    | inl is ↦ disk_failed before now status trail (named words) (cause_at DiskFails is)
+    | inr is ↦ ran_to_fault before now status trail (named words) is.0 is.1 (cause_at (Runs end.Disk is.0 is.1) is.2)
+  ]
+
+  -- ---- nodes in threads
+
+  pub nodes_printed : (limit : ℕ) → named words ≡ Some (Run limit) → status ≡ 0 → PrintsNodes limit before now trail
+  nodes_printed limit is none_failed = prints_nodes before now status trail limit ends.ending (by_name (Some (Run limit)) is) ends.list ends.told none_failed
+
+  pub nodes_completed : (limit : ℕ) (offers : Offers) → named words ≡ Some (Run limit) → HoldsOffers offers before.source → ¬ Rose before.source.faults now.source.faults → ¬ Rose before.sink.faults now.sink.faults → ¬ SomeFailed before.disks now.disks
+      → HasRoomForNext offers.config limit trail → (status ≡ 0) ⊎ (status ≡ 1)
+  nodes_completed limit offers is holds read_well written_well disks_well room =
+      nodes_complete before now status trail limit offers ends.ending (by_name (Some (Run limit)) is) ends.list ends.told holds read_well written_well disks_well room
+
+  pub nodes_refused : (limit : ℕ) → named words ≡ Some (Run limit) → HoldsBadOffers before.source → ¬ Rose before.source.faults now.source.faults → (status ≡ 3) ⊎ (status ≡ 1)
+  nodes_refused limit is holds read_well = nodes_refuse before now status trail limit ends.ending (by_name (Some (Run limit)) is) ends.told holds read_well
+
+  pub offered : (limit : ℕ) → named words ≡ Some (Run limit) → (trail ≡ []) ⊎ ((offers : Offers) × OffersAll before now trail offers)
+  offered limit is = nodes_offered before now status trail limit ends.ending (by_name (Some (Run limit)) is) ends.run ends.list
+
+  pub offers_read : (limit : ℕ) → named words ≡ Some (Run limit) → status ≢ 1 → status ≢ 3 → status ≢ 4 → IfSome now.source.bytes (λ rest. rest ≡ [])
+  offers_read limit is no_one no_three no_four = nodes_left before now status trail limit ends.ending (by_name (Some (Run limit)) is) ends.told no_one no_three no_four

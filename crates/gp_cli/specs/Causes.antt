@@ -12,11 +12,12 @@ use Rattle.gp_vlog.specs.Files.{Contents, is_limit, read_log}
 use Rattle.gp_vlog.specs.Logs.{has_old}
 use Rattle.gp_cli.specs.declared.subcommand.Operations.{Operations}
 use Rattle.gp_cli.specs.declared.subcommand.Subcommand.{Subcommand}
-use Rattle.gp_cli.specs.declared.subcommand.Subcommand.TheVariants.{Play, Sim, Drive, Log, Upgrade}
+use Rattle.gp_cli.specs.declared.subcommand.Subcommand.TheVariants.{Play, Run, Sim, Drive, Log, Upgrade}
 use Rattle.gp_cli.specs.declared.runs.TheConstants.{MOST_READ}
 use Rattle.gp_cli.specs.Subcommands.{named}
 use Rattle.gp_cli.specs.Machines.{reading_of}
 use Rattle.gp_cli.specs.Outside.{Seen, seen, Outside}
+use Rattle.gp_cli.specs.Run.{IsNodesCause}
 use Rattle.gp_cli.specs.Endings.{Shown, Ending, Misused, Unread, Refuses, Plays, Drives, Simulates, Shows, DiskFails, Overflows, Breaks, Starved}
 
 -- ---- a script
@@ -129,6 +130,7 @@ IsMisuse ending = ending ≡ Misused
 abbrev pub IsCauseFor : Option Subcommand → Outside → Outside → Ending → Type 0
 IsCauseFor None before now ending = IsMisuse ending
 IsCauseFor (Some (Play operations)) before now ending = IsReadCause operations before.source now.source ending
+IsCauseFor (Some (Run limit)) before now ending = IsNodesCause limit before.source now.source before.disks now.disks ending
 IsCauseFor (Some (Sim seed commands)) before now ending = IsRunCause (Simulates seed commands) ending
 IsCauseFor (Some (Drive acceptors learners commands)) before now ending = IsRunCause (Drives (driven_config acceptors learners) commands) ending
 IsCauseFor (Some (Log k)) before now ending = IsLogCause k (seen_at k before.disks) (seen_at k now.disks) ending
@@ -142,15 +144,27 @@ IsCause words before now ending = IsCauseFor (named words) before now ending
 abbrev pub IsReader : Option Subcommand → Type 0
 IsReader None = ⊥
 IsReader (Some (Play operations)) = Unit {0}
+IsReader (Some (Run limit)) = Unit {0}
 IsReader (Some (Sim seed commands)) = ⊥
 IsReader (Some (Drive acceptors learners commands)) = ⊥
 IsReader (Some (Log k)) = ⊥
 IsReader (Some (Upgrade k)) = ⊥
 
--- the disk that the subcommand uses, if it uses one
+-- nodes run in threads
+abbrev pub RunsNodes : Option Subcommand → Type 0
+RunsNodes None = ⊥
+RunsNodes (Some (Play operations)) = ⊥
+RunsNodes (Some (Run limit)) = Unit {0}
+RunsNodes (Some (Sim seed commands)) = ⊥
+RunsNodes (Some (Drive acceptors learners commands)) = ⊥
+RunsNodes (Some (Log k)) = ⊥
+RunsNodes (Some (Upgrade k)) = ⊥
+
+-- the disk whose log the subcommand shows, if it shows one
 abbrev pub disk_used : Option Subcommand → Option ℕ
 disk_used None = None
 disk_used (Some (Play operations)) = None
+disk_used (Some (Run limit)) = None
 disk_used (Some (Sim seed commands)) = None
 disk_used (Some (Drive acceptors learners commands)) = None
 disk_used (Some (Log k)) = Some k

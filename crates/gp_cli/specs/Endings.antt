@@ -1,8 +1,12 @@
 -- How a run of the program ends: its run, its text and its status.
 use Rattle.std.specs.Prelude.{ℕ, zero, suc, List, [], Option, Some, None}
 use Rattle.gp_round.specs.Counts.{Counts}
+use Rattle.gp_msg.specs.declared.record.Record.{Record}
 use Rattle.gp_msg.specs.Messages.{Entry, EpochPart}
-use Rattle.gp_run.specs.Runs.{run_of}
+use Rattle.gp_run.specs.Runs.{run_of, entries_in}
+use Rattle.gp_ending.specs.declared.ends.RunEnd.{RunEnd}
+use Rattle.gp_ending.specs.declared.ends.RunEnd.TheVariants.{Learned, NoMemory, Disk, Full, NotLog, Changed}
+use Rattle.gp_retelling.specs.Texts.{run_text}
 use Rattle.gp_script.specs.declared.reason.Reason.{Reason}
 use Rattle.gp_report.specs.Texts.{report}
 use Rattle.gp_report.specs.Summaries.{summary}
@@ -13,14 +17,14 @@ use Rattle.gp_text.specs.Texts.{output_for}
 use Rattle.gp_text.specs.Logs.{log_text}
 use Rattle.gp_cli.specs.declared.subcommand.Operations.{Operations}
 use Rattle.gp_cli.specs.Machines.{profile_of}
-use Rattle.gp_cli.specs.Texts.{usage, read_fault, disk_fault, full_text, broken_text, refusal_text}
+use Rattle.gp_cli.specs.Texts.{usage, read_fault, disk_fault, log_changed, full_text, broken_text, refusal_text}
 
 -- the durable parts that a log holds, the oldest first, and its size
 pub record Shown : Type 0 where
   pub parts : List EpochPart
   pub size : ℕ
 
--- the words name no subcommand; the source failed; a line of the script is refused, and this is what the lines before it said; the script of a machine was played; commands were driven; the workload of a seed was settled; the log of a disk is shown; the disk failed; the renewed log, of this size, would need too much; the disk's bytes are no log, at this place; memory ran out before any of these was known
+-- the words name no subcommand; the source failed; a line of the script is refused, and this is what the lines before it said; the script of a machine was played; commands were driven; the workload of a seed was settled; the log of a disk is shown; the disk failed; the renewed log, of this size, would need too much; the disk's bytes are no log, at this place; nodes ran in threads until this end, and posted these records; memory ran out before any of these was known
 pub data Ending : Type 0 where
   Misused : Ending
   Unread : Ending
@@ -32,7 +36,17 @@ pub data Ending : Type 0 where
   DiskFails : Ending
   Overflows : ℕ → ℕ → Ending
   Breaks : ℕ → Ending
+  Runs : RunEnd → Counts → List Record → Ending
   Starved : Ending
+
+-- the status of a run of nodes that ended so, once its text was written
+abbrev pub run_status : RunEnd → ℕ
+run_status Learned = 0
+run_status NoMemory = 1
+run_status Disk = 6
+run_status (Full size need) = 7
+run_status (NotLog at) = 8
+run_status Changed = 8
 
 -- its status once its text was written
 abbrev pub status_of : Ending → ℕ
@@ -46,12 +60,22 @@ status_of (Shows disk log) = 0
 status_of DiskFails = 6
 status_of (Overflows size need) = 7
 status_of (Breaks place) = 8
+status_of (Runs end config list) = run_status end
 status_of Starved = 1
 
 -- a run that would have ended well ends with 5 if the sink failed, and another one as it would have
 abbrev pub status_at_fault : ℕ → ℕ
 status_at_fault zero = 5
 status_at_fault (suc n) = suc n
+
+-- what is printed of a run of nodes that ended so
+abbrev pub end_text : RunEnd → Counts → List Record → List ℕ
+end_text Learned config list = run_text config list
+end_text NoMemory config list = []
+end_text Disk config list = disk_fault
+end_text (Full size need) config list = full_text size need
+end_text (NotLog at) config list = broken_text at
+end_text Changed config list = log_changed
 
 -- what it prints
 abbrev pub text_of : Ending → List ℕ
@@ -65,6 +89,7 @@ text_of (Shows disk log) = log_text disk log.parts log.size
 text_of DiskFails = disk_fault
 text_of (Overflows size need) = full_text size need
 text_of (Breaks place) = broken_text place
+text_of (Runs end config list) = end_text end config list
 text_of Starved = []
 
 -- the run that it leads to, the newest entry first
@@ -79,6 +104,7 @@ run_to (Shows disk log) = []
 run_to DiskFails = []
 run_to (Overflows size need) = []
 run_to (Breaks place) = []
+run_to (Runs end config list) = entries_in list
 run_to Starved = []
 
 -- the configuration of what was said, if anything was
@@ -98,4 +124,5 @@ config_of (Shows disk log) = None
 config_of DiskFails = None
 config_of (Overflows size need) = None
 config_of (Breaks place) = None
+config_of (Runs end config list) = Some config
 config_of Starved = None

@@ -3,8 +3,11 @@ pub mod Subcommands
 pub mod Machines
 pub mod Outside
 pub mod Endings
+pub mod Run
 pub mod Causes
 pub mod Logs
 pub mod Serving
 pub mod LogRuns
+pub mod NodesRuns
+pub mod Trails
 pub mod Program

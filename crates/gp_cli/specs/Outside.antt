@@ -11,6 +11,12 @@ pub record Seen : Type 0 where
 abbrev pub seen : Option (List ℕ) → ℕ → Seen
 seen bytes faults = record { bytes = bytes; faults = faults }
 
+abbrev pub bytes_seen : Seen → Option (List ℕ)
+bytes_seen s = s.bytes
+
+abbrev pub faults_seen : Seen → ℕ
+faults_seen s = s.faults
+
 -- the source, the sink and the disks
 pub record Outside : Type 0 where
   pub source : Seen

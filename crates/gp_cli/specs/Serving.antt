@@ -1,10 +1,11 @@
 -- What a run of the program writes and answers.
-use Rattle.std.specs.Prelude.{◌≡◌, ℕ, List, take, slice_get, Option, Some, None}
+use Rattle.std.specs.Prelude.{◌≡◌, ◌≢◌, ℕ, List, length, take, slice_get, Option, Some, None}
 use Rattle.gp_round.specs.Counts.{Counts}
 use Rattle.gp_msg.specs.declared.record.Record.{Record}
 use Rattle.gp_msg.specs.Messages.{Entry}
 use Rattle.gp_run.specs.Runs.{run_of, entries_in}
 use Rattle.gp_edge.specs.Writes.{AppendsWhole}
+use Rattle.gp_shelf.specs.Places.{IsOther}
 use Rattle.gp_script.specs.declared.reason.Reason.{Reason}
 use Rattle.gp_report.specs.Texts.{report}
 use Rattle.gp_report.specs.Summaries.{summary}
@@ -15,11 +16,12 @@ use Rattle.gp_text.specs.Limits.{IsLegalBeforeFor, IsLegalScriptFor}
 use Rattle.gp_text.specs.Texts.{output_for}
 use Rattle.gp_cli.specs.declared.runs.TheConstants.{MOST_READ}
 use Rattle.gp_cli.specs.declared.subcommand.Operations.{Operations}
-use Rattle.gp_cli.specs.declared.subcommand.Subcommand.TheVariants.{Play}
+use Rattle.gp_cli.specs.declared.subcommand.Subcommand.{Subcommand}
+use Rattle.gp_cli.specs.declared.subcommand.Subcommand.TheVariants.{Play, Run, Sim, Drive, Log, Upgrade}
 use Rattle.gp_cli.specs.Subcommands.{named}
 use Rattle.gp_cli.specs.Machines.{profile_of, reading_of, IsInAgreementOfAll}
 use Rattle.gp_cli.specs.Outside.{Seen, Outside, Told}
-use Rattle.gp_cli.specs.Endings.{Ending, run_to, config_of}
+use Rattle.gp_cli.specs.Endings.{Ending, Misused, Unread, Refuses, Plays, Drives, Simulates, Shows, DiskFails, Overflows, Breaks, Runs, Starved, run_to, config_of}
 use Rattle.gp_cli.specs.Causes.{HasRead}
 use Rattle.gp_cli.specs.Logs.{TellsEnding}
 use Rattle.gp_cli.specs.Texts.{refusal_text}
@@ -39,11 +41,27 @@ pub record AgreesInItsConfig (Cause : Ending → Type 0) (trail : List Record) :
   pub own_config : IsConfig (config_of ending) config
   pub agreement : IsInAgreementOfAll config (entries_in trail)
 
+-- the records are those that the nodes posted, if nodes ran
+abbrev pub IsListOf : Ending → List Record → Type 0
+IsListOf Misused trail = Unit {0}
+IsListOf Unread trail = Unit {0}
+IsListOf (Refuses line reason before) trail = Unit {0}
+IsListOf (Plays operations config said) trail = Unit {0}
+IsListOf (Drives config commands) trail = Unit {0}
+IsListOf (Simulates seed commands) trail = Unit {0}
+IsListOf (Shows disk log) trail = Unit {0}
+IsListOf DiskFails trail = Unit {0}
+IsListOf (Overflows size need) trail = Unit {0}
+IsListOf (Breaks place) trail = Unit {0}
+IsListOf (Runs end config list) trail = trail ≡ list
+IsListOf Starved trail = Unit {0}
+
 -- the run ended in a way that has its cause: its records are the run of that ending, and the text of that ending went to the sink, with its status
 pub record EndsBy (Cause : Ending → Type 0) (before now : Seen) (status : ℕ) (trail : List Record) : Type 0 where
   pub ending : Ending
   pub cause : Cause ending
   pub run : entries_in trail ≡ run_to ending
+  pub list : IsListOf ending trail
   pub config : Counts
   pub own_config : IsConfig (config_of ending) config
   pub agreement : IsInAgreementOfAll config (entries_in trail)
@@ -59,6 +77,26 @@ IsInAgreementFor Cause before now trail = AgreesInItsConfig (Cause before now) t
 -- this holds of each disk before and now
 abbrev pub EachDisk : {D : Type 0} → (D → D → Type 0) → List D → List D → Type 0
 EachDisk {D} P before now = (i : ℕ) (was is : D) → slice_get before i ≡ Some was → slice_get now i ≡ Some is → P was is
+
+-- ---- disks
+
+-- the subcommand does not use the disk at this place: `log` and `upgrade` use their own one, `run` those of the nodes of the script's configuration, and the others none
+abbrev pub IsUnused : Option Subcommand → Option Counts → ℕ → Type 0
+IsUnused None config i = Unit {0}
+IsUnused (Some (Play operations)) config i = Unit {0}
+IsUnused (Some (Run limit)) None i = Unit {0}
+IsUnused (Some (Run limit)) (Some config) i = IsOther config i
+IsUnused (Some (Sim seed commands)) config i = Unit {0}
+IsUnused (Some (Drive acceptors learners commands)) config i = Unit {0}
+IsUnused (Some (Log k)) config i = i ≢ k
+IsUnused (Some (Upgrade k)) config i = i ≢ k
+
+-- the run ended in a way that has its cause, and each disk that it does not use is as before
+pub record KeepsUnused {D : Type 0} (sub : Option Subcommand) (Cause : Ending → Type 0) (old new : List D) : Type 0 where
+  pub ending : Ending
+  pub cause : Cause ending
+  pub count : length new ≡ length old
+  pub unused : (i : ℕ) → IsUnused sub (config_of ending) i → slice_get new i ≡ slice_get old i
 
 -- ---- what statuses say
 

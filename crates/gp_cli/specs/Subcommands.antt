@@ -8,8 +8,9 @@ use Rattle.gp_words.specs.Numbers.{number_of}
 use Rattle.gp_random.specs.declared.workload.TheConstants.{MOST_COMMANDS}
 use Rattle.gp_sim.specs.declared.driving.TheConstants.{MOST_DRIVEN}
 use Rattle.gp_cli.specs.declared.subcommand.Operations.TheVariants.{Store, Bank}
+use Rattle.gp_cli.specs.declared.subcommand.TheConstants.{LEAST_LIMIT, MOST_LIMIT}
 use Rattle.gp_cli.specs.declared.subcommand.Subcommand.{Subcommand}
-use Rattle.gp_cli.specs.declared.subcommand.Subcommand.TheVariants.{Play, Sim, Drive, Log, Upgrade}
+use Rattle.gp_cli.specs.declared.subcommand.Subcommand.TheVariants.{Play, Run, Sim, Drive, Log, Upgrade}
 
 -- the words, each as its bytes
 abbrev pub texts_of : List (String Global) → List (List ℕ)
@@ -28,9 +29,16 @@ drive_named acceptors learners commands =
 abbrev pub sim_named : List ℕ → List ℕ → Option Subcommand
 sim_named seed commands = option_and_then (λ s. option_map (λ n. Sim s n) (number_within 1 MOST_COMMANDS commands)) (number_of seed)
 
--- `play` and `bank`, which play a script of the key store and one of accounts
+-- `play` and `bank`, which play a script of the key store and one of accounts, and `run` with the greatest limit
 abbrev pub named_by_one : List ℕ → Option Subcommand
-named_by_one word = if bytes_eq word (codes "play") then Some (Play Store) else if bytes_eq word (codes "bank") then Some (Play Bank) else None
+named_by_one word =
+    if bytes_eq word (codes "play") then Some (Play Store)
+    else if bytes_eq word (codes "bank") then Some (Play Bank)
+    else if bytes_eq word (codes "run") then Some (Run MOST_LIMIT) else None
+
+-- the limit of each log of nodes that run
+abbrev pub run_named : List ℕ → Option Subcommand
+run_named limit = option_map (λ n. Run n) (number_within LEAST_LIMIT MOST_LIMIT limit)
 
 -- the number of a disk
 abbrev pub disk_named : List ℕ → Option ℕ
@@ -41,9 +49,12 @@ abbrev pub log_named : List ℕ → ℕ → Option Subcommand
 log_named word k = if bytes_eq word (codes "log") then Some (Log k) else if bytes_eq word (codes "upgrade") then Some (Upgrade k) else None
 
 -- `log K` and `upgrade K`
+abbrev pub logged_disk : List ℕ → List ℕ → Option Subcommand
+logged_disk word number = option_and_then (log_named word) (disk_named number)
+
+-- `run LIMIT`, `log K` and `upgrade K`
 abbrev pub named_by_two : List ℕ → List ℕ → Option Subcommand
-named_by_two word number =
-    option_and_then (log_named word) (disk_named number)
+named_by_two word number = if bytes_eq word (codes "run") then run_named number else logged_disk word number
 
 -- the subcommand that the words name
 abbrev pub named : List (List ℕ) → Option Subcommand
@@ -57,6 +68,7 @@ named (word ∷ x ∷ y ∷ z ∷ other ∷ others) = None
 -- the numbers of a subcommand are in range
 abbrev pub IsWithin : Subcommand → Type 0
 IsWithin (Play operations) = Unit {0}
+IsWithin (Run limit) = (LEAST_LIMIT ≤ limit) × (limit ≤ MOST_LIMIT)
 IsWithin (Sim seed commands) = (1 ≤ commands) × (commands ≤ MOST_COMMANDS)
 IsWithin (Drive acceptors learners commands) = (bad_count acceptors 3 learners ≡ None) × (commands ≤ MOST_DRIVEN)
 IsWithin (Log disk) = disk < 12

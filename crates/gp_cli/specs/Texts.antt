@@ -15,6 +15,10 @@ read_fault = codes "read fault\n"
 abbrev pub disk_fault : List ℕ
 disk_fault = codes "disk fault\n"
 
+-- what is printed if a log holds neither part that it may hold
+abbrev pub log_changed : List ℕ
+log_changed = codes "log changed\n"
+
 -- what is printed if a log of this size has no room for an entry of this need
 abbrev pub full_text : ℕ → ℕ → List ℕ
 full_text size need = codes "log full: size " ++ decimal size ++ codes " need " ++ decimal need ++ codes "\n"

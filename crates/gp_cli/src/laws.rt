@@ -1,25 +1,28 @@
 //! What the exit statuses of a run say. Each function does nothing, and its contract is the law.
-ghost use Rattle.std.specs.Prelude.{◌≡◌, ◌⊎◌, List, [], ℕ, true, false, None, Some, IfSome};
+ghost use Rattle.std.specs.Prelude.{◌≡◌, ◌≢◌, ◌⊎◌, List, [], ℕ, true, false, None, Some, IfSome};
 ghost use Rattle.gp_edge.specs.Faults.{Rose};
 ghost use Rattle.gp_msg.specs.declared.record.Record.{Record};
+ghost use Rattle.gp_offers.specs.declared.script.Offers.{Offers};
 ghost use Rattle.gp_cli.specs.declared.subcommand.Operations.{Operations};
-ghost use Rattle.gp_cli.specs.declared.subcommand.Subcommand.TheVariants.{Play, Sim, Drive, Log, Upgrade};
+ghost use Rattle.gp_cli.specs.declared.subcommand.Subcommand.TheVariants.{Play, Run, Sim, Drive, Log, Upgrade};
 ghost use Rattle.gp_cli.specs.Subcommands.{named};
 ghost use Rattle.gp_cli.specs.Outside.{Outside};
 ghost use Rattle.gp_cli.specs.Causes.{IsCause, seen_at, driven_config, disk_used};
 ghost use Rattle.gp_cli.specs.Serving.{Ends, HoldsScript, HoldsBadLine, PlaysWhole, StopsAtLine, PrintsDriven, PrintsSimulated};
 ghost use Rattle.gp_cli.specs.LogRuns.{HoldsLog, HoldsRoomyLog, HoldsFullLog, HoldsNoLog, ShowsLog, ShowsTakenOn, HasNoSpace, IsBrokenAt};
+ghost use Rattle.gp_cli.specs.Run.{SomeFailed};
+ghost use Rattle.gp_cli.specs.NodesRuns.{HoldsOffers, HoldsBadOffers, HasRoomForNext, OffersAll, PrintsNodes, RefusesOffers, FillsLog, LosesLog, DiskFailed};
 ghost use Rattle.gp_cli.specs.Program.{Arguments, AreWords, IsProgramCause};
 
 /// With status 0 a script, of the key store for `play` and of accounts for `bank`, was read to its end and
 /// played, and all that it prints was written, with no fault of the source or the sink. With status 3 a
-/// line of such a script was refused, and nothing else was printed than which, and why. With status 5 too
-/// the script was read to its end.
+/// line of such a script, or of one of `run`, was refused, and nothing else was printed than which, and why.
+/// With status 5 too the script was read to its end.
 pub fn a_script_was_played_or_refused()
     ensures played { (words : List (List ℕ)) (before now : Outside) (status : ℕ) (trail : List Record) → Ends (IsCause words) before now status trail → (operations : Operations)
         → named words ≡ Some (Play operations) → status ≡ 0 → PlaysWhole operations before now trail }
     ensures refused { (words : List (List ℕ)) (before now : Outside) (status : ℕ) (trail : List Record) → Ends (IsCause words) before now status trail
-        → status ≡ 3 → StopsAtLine words before now status trail }
+        → status ≡ 3 → StopsAtLine words before now status trail ⊎ RefusesOffers words before now status trail }
     ensures read_to_end { (words : List (List ℕ)) (before now : Outside) (status : ℕ) (trail : List Record) → Ends (IsCause words) before now status trail → (operations : Operations)
         → named words ≡ Some (Play operations) → (status ≡ 0) ⊎ (status ≡ 5) → IfSome now.source.bytes (λ rest. rest ≡ []) }
 {}
@@ -30,6 +33,29 @@ pub fn a_script_has_its_status()
         → HoldsScript operations before.source → ¬ Rose before.source.faults now.source.faults → ¬ Rose before.sink.faults now.sink.faults → (status ≡ 0) ⊎ (status ≡ 1) }
     ensures refuses { (words : List (List ℕ)) (before now : Outside) (status : ℕ) (trail : List Record) → Ends (IsCause words) before now status trail → (operations : Operations) → named words ≡ Some (Play operations)
         → HoldsBadLine operations before.source → ¬ Rose before.source.faults now.source.faults → (status ≡ 3) ⊎ (status ≡ 1) }
+{}
+
+/// With status 0 of `run` the script was read to its end, each proposer made its own of the script's offers,
+/// in their order, and nothing else, every learner holds every offered command, and the trace of all records
+/// and the report were written whole. Each disk of a node that reveals its content holds a log whose last
+/// entry is the durable part of the node. If no disk failed, the run ended when nothing was left to do, and it
+/// was settled exactly if a learner still lacked an offered command.
+///
+/// The status is 0 if the script is right, nothing fails, there is memory, and no event that may come next
+/// needs more bytes of a log than its limit leaves. It is 3 if a line is refused. Whatever it is, the
+/// records are those of a run with the offers of the script, or there are none; and but for 1, 3 and 4 the
+/// script was read to its end.
+pub fn nodes_run_until_all_is_learned()
+    ensures ran { (words : List (List ℕ)) (before now : Outside) (status : ℕ) (trail : List Record) → Ends (IsCause words) before now status trail → (limit : ℕ)
+        → named words ≡ Some (Run limit) → status ≡ 0 → PrintsNodes limit before now trail }
+    ensures complete { (words : List (List ℕ)) (before now : Outside) (status : ℕ) (trail : List Record) → Ends (IsCause words) before now status trail → (limit : ℕ) (offers : Offers) → named words ≡ Some (Run limit) → HoldsOffers offers before.source
+        → ¬ Rose before.source.faults now.source.faults → ¬ Rose before.sink.faults now.sink.faults → ¬ SomeFailed before.disks now.disks → HasRoomForNext offers.config limit trail → (status ≡ 0) ⊎ (status ≡ 1) }
+    ensures refuses { (words : List (List ℕ)) (before now : Outside) (status : ℕ) (trail : List Record) → Ends (IsCause words) before now status trail → (limit : ℕ) → named words ≡ Some (Run limit)
+        → HoldsBadOffers before.source → ¬ Rose before.source.faults now.source.faults → (status ≡ 3) ⊎ (status ≡ 1) }
+    ensures offered { (words : List (List ℕ)) (before now : Outside) (status : ℕ) (trail : List Record) → Ends (IsCause words) before now status trail → (limit : ℕ)
+        → named words ≡ Some (Run limit) → (trail ≡ []) ⊎ ((offers : Offers) × OffersAll before now trail offers) }
+    ensures read_to_end { (words : List (List ℕ)) (before now : Outside) (status : ℕ) (trail : List Record) → Ends (IsCause words) before now status trail → (limit : ℕ)
+        → named words ≡ Some (Run limit) → status ≢ 1 → status ≢ 3 → status ≢ 4 → IfSome now.source.bytes (λ rest. rest ≡ []) }
 {}
 
 /// `drive` and `sim` end with status 0 or 5, or because memory ran out; without a fault of the sink they do
@@ -63,12 +89,14 @@ pub fn a_log_is_shown()
 
 /// Status 7 of `upgrade` is for a log with entries of version 1 that has no room for its last entry, and
 /// status 8 of `log` and `upgrade` for bytes that are no log. Such a log and such bytes have no other
-/// status there, unless the disk fails or memory runs out.
+/// status there, unless the disk fails or memory runs out. Status 7 of `run` is for an event that may come
+/// next and whose durable part needs more bytes than the limit leaves beside an empty log, and status 8 for a disk
+/// that failed and then held other bytes than were written.
 pub fn a_log_was_full_or_broken()
     ensures full { (words : List (List ℕ)) (before now : Outside) (status : ℕ) (trail : List Record) → Ends (IsCause words) before now status trail
-        → status ≡ 7 → HasNoSpace words before now status }
+        → status ≡ 7 → HasNoSpace words before now status ⊎ FillsLog words before now status trail }
     ensures broken { (words : List (List ℕ)) (before now : Outside) (status : ℕ) (trail : List Record) → Ends (IsCause words) before now status trail
-        → status ≡ 8 → IsBrokenAt words before now status }
+        → status ≡ 8 → IsBrokenAt words before now status ⊎ LosesLog words before now status trail }
     ensures no_room { (words : List (List ℕ)) (before now : Outside) (status : ℕ) (trail : List Record) → Ends (IsCause words) before now status trail → (k : ℕ) → named words ≡ Some (Upgrade k)
         → HoldsFullLog k before → ¬ Rose (seen_at k before.disks).faults (seen_at k now.disks).faults → (status ≡ 7) ⊎ (status ≡ 1) }
     ensures no_log { (words : List (List ℕ)) (before now : Outside) (status : ℕ) (trail : List Record) → Ends (IsCause words) before now status trail → (k : ℕ) → disk_used (named words) ≡ Some k
@@ -84,14 +112,14 @@ pub fn the_usage_is_for_words_that_name_nothing()
 {}
 
 /// Status 4 comes only if the source failed, status 5 only if the sink did, and status 6 only if the disk
-/// of the subcommand did.
+/// of the subcommand did, or with `run` some disk.
 pub fn a_fault_was_counted()
     ensures unread { (words : List (List ℕ)) (before now : Outside) (status : ℕ) (trail : List Record) → Ends (IsCause words) before now status trail
         → status ≡ 4 → Rose before.source.faults now.source.faults }
     ensures unwritten { (words : List (List ℕ)) (before now : Outside) (status : ℕ) (trail : List Record) → Ends (IsCause words) before now status trail
         → status ≡ 5 → Rose before.sink.faults now.sink.faults }
     ensures disk_failed { (words : List (List ℕ)) (before now : Outside) (status : ℕ) (trail : List Record) → Ends (IsCause words) before now status trail
-        → status ≡ 6 → (k : ℕ) × (disk_used (named words) ≡ Some k) × Rose (seen_at k before.disks).faults (seen_at k now.disks).faults }
+        → status ≡ 6 → DiskFailed (named words) before now }
 {}
 
 /// The program ends as the words after its name lead to, if there was memory for its disks. Without it, and

@@ -4,7 +4,9 @@
 mod disks;
 pub mod laws;
 mod logs;
+mod nodes;
 mod program;
+mod ran;
 mod runs;
 mod serving;
 mod status;
@@ -13,5 +15,6 @@ mod telling;
 
 pub use disks::file_disks;
 pub use program::{Ended, run_program};
-pub use serving::{Ran, serve};
-pub use subcommand::DISKS;
+pub use ran::{Ran, Trail};
+pub use serving::serve;
+pub use subcommand::{DISKS, LEAST_LIMIT, MOST_LIMIT};

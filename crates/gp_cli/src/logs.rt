@@ -24,7 +24,7 @@ fn tell_unopened<K: Sink>(alloc: Global, why: OpenFault, sink: &mut K) -> u8
     ensures never_falls { K.faults sink.old ≤ K.faults sink.new }
 {
     match why {
-        OpenFault::NotLog { at } => tell_of(sink, broken_text(alloc, at), NO_LOG),
+        OpenFault::NotLog { at } => tell_of(sink, broken_text(alloc, at), NO_LOG, NO_LOG),
         OpenFault::Disk => tell(sink, DISK_FAULT, DISK_FAILED, DISK_FAILED),
         OpenFault::NoMemory => NO_MEMORY,
     }
@@ -37,7 +37,7 @@ fn tell_unrenewed<K: Sink>(alloc: Global, why: AppendFault, sink: &mut K) -> u8
 {
     match why {
         AppendFault::Full { size, need } => {
-            tell_of(sink, full_text(alloc, size, need), LOG_FULL)
+            tell_of(sink, full_text(alloc, size, need), LOG_FULL, LOG_FULL)
         }
         AppendFault::Disk => tell(sink, DISK_FAULT, DISK_FAILED, DISK_FAILED),
         AppendFault::NoMemory => NO_MEMORY,

@@ -2,16 +2,19 @@
 ghost use Rattle.std.specs.Prelude.{◌≡◌, ◌≤◌, [], true, IfOk, OnErr, is_ok, length};
 ghost use Rattle.std.specs.Process.{exit_status};
 ghost use Rattle.gp_cli.specs.Subcommands.{texts_of};
-ghost use Rattle.gp_cli.specs.Outside.{outside, AllBut};
-ghost use Rattle.gp_cli.specs.Causes.{IsReader, disk_used};
+ghost use Rattle.gp_cli.specs.declared.ran.Trail.TheVariants.{Folded};
+ghost use Rattle.gp_cli.specs.Outside.{outside};
+ghost use Rattle.gp_cli.specs.Causes.{IsReader, RunsNodes};
 ghost use Rattle.gp_cli.specs.Logs.{KeepsLast};
-ghost use Rattle.gp_cli.specs.Serving.{Ends, IsInAgreementFor, EachDisk};
+ghost use Rattle.gp_cli.specs.Serving.{Ends, IsInAgreementFor, EachDisk, KeepsUnused};
+ghost use Rattle.gp_cli.specs.Trails.{records_in, IsMadeFor};
 ghost use Rattle.gp_cli.specs.Program.{IsNoText, AreWords, subcommand_in, given_disks, IsProgramCause};
 
-use crate::serving::{Ran, serve};
+use crate::ran::{Ran, Trail};
+use crate::serving::serve;
 use crate::status::NO_MEMORY;
 use gp_command::NoMemory;
-use gp_edge::{Disk, Sink, Source};
+use gp_edge::{Disk, Gate, Sink, Source};
 use gp_msg::Records;
 use std::alloc::Global;
 use std::env::Args;
@@ -19,6 +22,7 @@ use std::io::{self, ErrorKind};
 use std::marker::Model;
 use std::process::{ExitCode, Termination};
 use std::sync::Wait;
+use std::thread::Threads;
 
 /// How the program ended. Only `run_program` makes one, so a `main` that returns one ends with the status
 /// of that run. A contract sees the run.
@@ -28,7 +32,7 @@ pub struct Ended<D: Disk> {
 }
 
 impl<D: Disk> Model for Ended<D> {
-    ghost use Rattle.gp_cli.specs.declared.serving.Ran.{Ran};
+    ghost use Rattle.gp_cli.specs.declared.ran.Ran.{Ran};
 
     ghost Value = { Ran D };
 
@@ -59,39 +63,42 @@ fn words_after_name(alloc: Global, arguments: io::Result<Args>) -> Result<Vec<St
 // A run without memory, which left everything as it was.
 fn starved<D: Disk>(alloc: Global, disks: Vec<D>) -> Ran<D>
     ensures status { result.status ≡ 1 }
-    ensures trail { result.trail ≡ [] }
+    ensures trail { result.trail ≡ Folded [] }
     ensures disks { result.disks.items ≡ disks.items }
 {
     Ran {
         status: NO_MEMORY,
-        trail: Records::new(alloc),
+        trail: Trail::Folded(Records::new(alloc)),
         disks,
     }
 }
 
 // The subcommand that the arguments name runs over these disks.
-fn run_arguments<W: Wait, S: Source, K: Sink, D: Disk>(
+fn run_arguments<W: Threads + Wait + Sync, S: Source, K: Sink, D: Disk + Send, G: Gate + Sync>(
     rt: &W,
     alloc: Global,
     arguments: io::Result<Args>,
     source: &mut S,
     sink: &mut K,
     disks: Vec<D>,
+    gate: &G,
 ) -> Ran<D>
     requires twelve { length disks.items ≡ 12 }
     ensures agreement { IsInAgreementFor (IsProgramCause arguments true) (outside S.rest S.faults K.written K.faults D.content D.faults source.old sink.old disks.items)
-        (outside S.rest S.faults K.written K.faults D.content D.faults source.new sink.new result.disks.items) result.trail }
+        (outside S.rest S.faults K.written K.faults D.content D.faults source.new sink.new result.disks.items) (records_in result.trail) }
     ensures ends { Ends (IsProgramCause arguments true) (outside S.rest S.faults K.written K.faults D.content D.faults source.old sink.old disks.items)
-        (outside S.rest S.faults K.written K.faults D.content D.faults source.new sink.new result.disks.items) result.status result.trail }
-    ensures crash { EachDisk (KeepsLast D.content D.image D.moment D.since) disks.items result.disks.items }
+        (outside S.rest S.faults K.written K.faults D.content D.faults source.new sink.new result.disks.items) result.status (records_in result.trail) }
+    ensures posted { IsMadeFor (subcommand_in arguments) result.status result.trail }
+    ensures crash { ¬ RunsNodes (subcommand_in arguments) → EachDisk (KeepsLast D.content D.image D.moment D.since) disks.items result.disks.items }
     ensures untouched { ¬ IsReader (subcommand_in arguments) → source.new ≡ source.old }
-    ensures others { AllBut (disk_used (subcommand_in arguments)) disks.items result.disks.items }
+    ensures others { KeepsUnused (subcommand_in arguments) (IsProgramCause arguments true (outside S.rest S.faults K.written K.faults D.content D.faults source.old sink.old disks.items)
+        (outside S.rest S.faults K.written K.faults D.content D.faults source.new sink.new result.disks.items)) disks.items result.disks.items }
     ensures source_never_falls { S.faults source.old ≤ S.faults source.new }
     ensures sink_never_falls { K.faults sink.old ≤ K.faults sink.new }
     ensures disks_never_fall { EachDisk (λ was is. D.faults was ≤ D.faults is) disks.items result.disks.items }
 {
     match words_after_name(alloc, arguments) {
-        Ok(words) => serve(rt, alloc, &words, source, sink, disks),
+        Ok(words) => serve(rt, alloc, &words, source, sink, disks, gate),
         Err(NoMemory) => starved(alloc, disks),
     }
 }
@@ -102,36 +109,41 @@ fn run_arguments<W: Wait, S: Source, K: Sink, D: Disk>(
 /// words that `serve` gets. If an argument is no text there is no subcommand, which ends with the usage
 /// and status 2. After any other error of `std::env::args`, and if memory runs out for the words or ran out
 /// for the disks, nothing is read or written, and the status is 1. What each exit status says is in `laws`.
-pub fn run_program<W: Wait, S: Source, K: Sink, D: Disk>(
+pub fn run_program<W: Threads + Wait + Sync, S: Source, K: Sink, D: Disk + Send, G: Gate + Sync>(
     rt: &W,
     alloc: Global,
     arguments: io::Result<Args>,
     source: &mut S,
     sink: &mut K,
     disks: Result<Vec<D>, NoMemory>,
+    gate: &G,
 ) -> Ended<D>
     requires twelve { IfOk disks (λ d. length d.items ≡ 12) }
 
     // Whatever the status is: the records are a legal run of the configuration of the script or the subcommand, what learners showed at any moments agrees, and so do replicas.
     ensures agreement { IsInAgreementFor (IsProgramCause arguments (is_ok disks)) (outside S.rest S.faults K.written K.faults D.content D.faults source.old sink.old (given_disks disks))
-        (outside S.rest S.faults K.written K.faults D.content D.faults source.new sink.new result.disks.items) result.trail }
+        (outside S.rest S.faults K.written K.faults D.content D.faults source.new sink.new result.disks.items) (records_in result.trail) }
 
     // The run ends in one way, which has its cause: its records, its text and its status are those of that ending.
     ensures ends { Ends (IsProgramCause arguments (is_ok disks)) (outside S.rest S.faults K.written K.faults D.content D.faults source.old sink.old (given_disks disks))
-        (outside S.rest S.faults K.written K.faults D.content D.faults source.new sink.new result.disks.items) result.status result.trail }
+        (outside S.rest S.faults K.written K.faults D.content D.faults source.new sink.new result.disks.items) result.status (records_in result.trail) }
 
-    // A crash at any moment leaves of each disk what it might have left before the call, or a log with all its entries or with the last one.
-    ensures crash { EachDisk (KeepsLast D.content D.image D.moment D.since) (given_disks disks) result.disks.items }
+    // The records of `run` are those that nodes in threads posted. There are none if it ended before their list was closed.
+    ensures posted { IsMadeFor (subcommand_in arguments) result.status result.trail }
+
+    // But for `run`, a crash at any moment leaves of each disk what it might have left before the call, or a log with all its entries or with the last one.
+    ensures crash { ¬ RunsNodes (subcommand_in arguments) → EachDisk (KeepsLast D.content D.image D.moment D.since) (given_disks disks) result.disks.items }
 
     ensures untouched { ¬ IsReader (subcommand_in arguments) → source.new ≡ source.old }
-    ensures others { AllBut (disk_used (subcommand_in arguments)) (given_disks disks) result.disks.items }
+    ensures others { KeepsUnused (subcommand_in arguments) (IsProgramCause arguments (is_ok disks) (outside S.rest S.faults K.written K.faults D.content D.faults source.old sink.old (given_disks disks))
+        (outside S.rest S.faults K.written K.faults D.content D.faults source.new sink.new result.disks.items)) (given_disks disks) result.disks.items }
     ensures source_never_falls { S.faults source.old ≤ S.faults source.new }
     ensures sink_never_falls { K.faults sink.old ≤ K.faults sink.new }
     ensures disks_never_fall { EachDisk (λ was is. D.faults was ≤ D.faults is) (given_disks disks) result.disks.items }
 {
     match disks {
         Ok(disks) => Ended {
-            ran: run_arguments(rt, alloc, arguments, source, sink, disks),
+            ran: run_arguments(rt, alloc, arguments, source, sink, disks, gate),
         },
         Err(NoMemory) => Ended {
             ran: starved(alloc, Vec::new(alloc)),

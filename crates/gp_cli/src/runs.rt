@@ -37,8 +37,8 @@ pub(crate) struct Outcome {
     pub(crate) trail: Records,
 }
 
-// A run without records.
-fn without_run(alloc: Global, status: u8) -> Outcome
+/// A run without records.
+pub(crate) fn without_run(alloc: Global, status: u8) -> Outcome
     ensures status { result.status ≡ status }
     ensures trail { result.trail ≡ [] }
 {
@@ -96,7 +96,7 @@ fn play_script<K: Sink>(
                 records,
             },
         ) => Outcome {
-            status: tell_of(sink, refusal_text(alloc, line, reason), REFUSED),
+            status: tell_of(sink, refusal_text(alloc, line, reason), REFUSED, REFUSED),
             trail: records,
         },
         Err(Unplayed::NoMemory) => without_run(alloc, NO_MEMORY),

@@ -3,33 +3,24 @@ ghost use Rattle.std.specs.Prelude.{◌≡◌, ◌≤◌, ◌<◌, Some, length,
 ghost use Rattle.std.specs.List.{insert};
 ghost use Rattle.gp_cli.specs.Subcommands.{texts_of, named};
 ghost use Rattle.gp_cli.specs.Outside.{seen, disks_seen, outside, AllBut};
-ghost use Rattle.gp_cli.specs.Causes.{IsCause, IsMisuse, IsReader, log_cause, seen_at, disk_used};
+ghost use Rattle.gp_cli.specs.declared.ran.Trail.TheVariants.{Folded};
+ghost use Rattle.gp_cli.specs.Causes.{IsCause, IsMisuse, IsReader, RunsNodes, log_cause, seen_at};
 ghost use Rattle.gp_cli.specs.Logs.{KeepsLast};
-ghost use Rattle.gp_cli.specs.Serving.{EndsBy, Ends, IsInAgreementFor, EachDisk};
+ghost use Rattle.gp_cli.specs.Serving.{EndsBy, Ends, IsInAgreementFor, EachDisk, KeepsUnused};
+ghost use Rattle.gp_cli.specs.Trails.{records_in, IsFolded, IsMadeFor};
 
 use crate::logs::use_disk;
+use crate::nodes::read_and_run;
+use crate::ran::{Ran, Trail};
 use crate::runs::{Outcome, drive_and_report, read_and_play, simulate_and_summarize};
 use crate::status::MISUSED;
 use crate::subcommand::{Subcommand, subcommand_of};
 use crate::telling::{USAGE, tell};
-use gp_edge::{Disk, Sink, Source};
+use gp_edge::{Disk, Gate, Sink, Source};
 use gp_msg::Records;
 use std::alloc::Global;
 use std::sync::Wait;
-
-/// How a run of the program ended.
-#[derive(Drop)]
-pub struct Ran<D: Disk> {
-    /// The exit status: 0 if the input was read to its end and all was written, 1 if memory ran out, 2 if
-    /// the words name no subcommand, 3 if a line of the input is refused, 4 if the source failed, 5 if the
-    /// sink failed, 6 if a disk failed, 7 if a log has no room for an entry, 8 if the bytes of a disk are
-    /// no log.
-    pub status: u8,
-    /// The records of the run, the oldest first. There are none if it ended before any event.
-    pub trail: Records,
-    /// The disks, in the order in which they were given.
-    pub disks: Vec<D>,
-}
+use std::thread::Threads;
 
 // Prints the usage.
 fn misuse<K: Sink>(alloc: Global, sink: &mut K) -> Outcome
@@ -58,12 +49,12 @@ fn put_back<D: Disk>(disks: &mut Vec<D>, index: usize, disk: D)
 // Gives the disks back beside how a run ended that used none of them.
 fn with_disks<D: Disk>(outcome: Outcome, disks: Vec<D>) -> Ran<D>
     ensures status { result.status ≡ outcome.status }
-    ensures trail { result.trail ≡ outcome.trail }
+    ensures trail { result.trail ≡ Folded outcome.trail }
     ensures disks { result.disks.items ≡ disks.items }
 {
     Ran {
         status: outcome.status,
-        trail: outcome.trail,
+        trail: Trail::Folded(outcome.trail),
         disks,
     }
 }
@@ -78,7 +69,8 @@ fn use_log<D: Disk, K: Sink>(
 ) -> Ran<D>
     requires within { number < length disks.items }
     ensures ends { EndsBy (log_cause upgrades number (seen_at number (disks_seen D.content D.faults disks.items)) (seen_at number (disks_seen D.content D.faults result.disks.items)))
-        (seen (K.written sink.old) (K.faults sink.old)) (seen (K.written sink.new) (K.faults sink.new)) result.status result.trail }
+        (seen (K.written sink.old) (K.faults sink.old)) (seen (K.written sink.new) (K.faults sink.new)) result.status (records_in result.trail) }
+    ensures folded { IsFolded result.trail }
     ensures others { AllBut (Some number) disks.items result.disks.items }
     ensures crash { EachDisk (KeepsLast D.content D.image D.moment D.since) disks.items result.disks.items }
     ensures disks_never_fall { EachDisk (λ was is. D.faults was ≤ D.faults is) disks.items result.disks.items }
@@ -91,7 +83,7 @@ fn use_log<D: Disk, K: Sink>(
     put_back(&mut disks, index, disk);
     Ran {
         status,
-        trail: Records::new(alloc),
+        trail: Trail::Folded(Records::new(alloc)),
         disks,
     }
 }
@@ -102,34 +94,45 @@ fn use_log<D: Disk, K: Sink>(
 /// `play` reads a script to its end, or to one byte past the most that a script may have, plays it, and
 /// prints what its `show` lines ask for and the report. If a read fails the script is not played. If a
 /// line is refused only the refusal is printed. `bank` does the same with a script whose operations are on
-/// accounts, and its report has the totals of each learner's accounts. `sim` makes the workload of a seed, settles it, and
+/// accounts, and its report has the totals of each learner's accounts. `run` reads a script of offers, makes
+/// new logs on the disks of the nodes of its configuration, and runs the nodes in threads until each learner
+/// holds each offered command. It prints the trace of what they posted, a line `--` and the report, or why
+/// they ended before. Each step of a node calls the gate. `sim` makes the workload of a seed, settles it, and
 /// prints a summary. `drive` drives commands one by one in a multi round of which one coordinator takes no
 /// part, and prints the report. `log` prints the entries of the log of a disk, and changes no byte of it;
 /// `upgrade` does the same after it has renewed a log with entries of version 1 of the format. Words that
 /// name no subcommand get the usage. What each exit status says is in `laws`.
-pub fn serve<W: Wait, S: Source, K: Sink, D: Disk>(
+pub fn serve<W: Threads + Wait + Sync, S: Source, K: Sink, D: Disk + Send, G: Gate + Sync>(
     rt: &W,
     alloc: Global,
     words: &[String],
     source: &mut S,
     sink: &mut K,
     disks: Vec<D>,
+    gate: &G,
 ) -> Ran<D>
     requires twelve { length disks.items ≡ 12 }
 
     // Whatever the status is: the records are a legal run of the configuration of the script or the subcommand, what learners showed at any moments agrees, and so do replicas.
     ensures agreement { IsInAgreementFor (IsCause (texts_of words.now)) (outside S.rest S.faults K.written K.faults D.content D.faults source.old sink.old disks.items)
-        (outside S.rest S.faults K.written K.faults D.content D.faults source.new sink.new result.disks.items) result.trail }
+        (outside S.rest S.faults K.written K.faults D.content D.faults source.new sink.new result.disks.items) (records_in result.trail) }
 
     // The run ends in one way, which has its cause: its records, its text and its status are those of that ending.
     ensures ends { Ends (IsCause (texts_of words.now)) (outside S.rest S.faults K.written K.faults D.content D.faults source.old sink.old disks.items)
-        (outside S.rest S.faults K.written K.faults D.content D.faults source.new sink.new result.disks.items) result.status result.trail }
+        (outside S.rest S.faults K.written K.faults D.content D.faults source.new sink.new result.disks.items) result.status (records_in result.trail) }
 
-    // A crash at any moment leaves of each disk what it might have left before the call, or a log with all its entries or with the last one.
-    ensures crash { EachDisk (KeepsLast D.content D.image D.moment D.since) disks.items result.disks.items }
+    // The records of `run` are those that nodes in threads posted. There are none if it ended before their list was closed.
+    ensures posted { IsMadeFor (named (texts_of words.now)) result.status result.trail }
+
+    // But for `run`, a crash at any moment leaves of each disk what it might have left before the call, or a log with all its entries or with the last one.
+    ensures crash { ¬ RunsNodes (named (texts_of words.now)) → EachDisk (KeepsLast D.content D.image D.moment D.since) disks.items result.disks.items }
 
     ensures untouched { ¬ IsReader (named (texts_of words.now)) → source.new ≡ source.old }
-    ensures others { AllBut (disk_used (named (texts_of words.now))) disks.items result.disks.items }
+
+    // The disks that the subcommand does not use are as before: all but that of `log` and `upgrade`, and with `run` those of no node of the script's configuration.
+    ensures others { KeepsUnused (named (texts_of words.now)) (IsCause (texts_of words.now) (outside S.rest S.faults K.written K.faults D.content D.faults source.old sink.old disks.items)
+        (outside S.rest S.faults K.written K.faults D.content D.faults source.new sink.new result.disks.items)) disks.items result.disks.items }
+
     ensures source_never_falls { S.faults source.old ≤ S.faults source.new }
     ensures sink_never_falls { K.faults sink.old ≤ K.faults sink.new }
     ensures disks_never_fall { EachDisk (λ was is. D.faults was ≤ D.faults is) disks.items result.disks.items }
@@ -137,6 +140,9 @@ pub fn serve<W: Wait, S: Source, K: Sink, D: Disk>(
     match subcommand_of(words) {
         Some(Subcommand::Play { operations }) => {
             with_disks(read_and_play(alloc, operations, source, sink), disks)
+        }
+        Some(Subcommand::Run { limit }) => {
+            read_and_run(rt, alloc, limit, source, sink, disks, gate)
         }
         Some(Subcommand::Sim { seed, commands }) => {
             with_disks(

@@ -1,6 +1,6 @@
 //! The subcommands, and the words that name them.
 ghost use Rattle.std.specs.Prelude.{◌≡◌, IfSome};
-ghost use Rattle.gp_cli.specs.Subcommands.{texts_of, number_within, drive_named, sim_named, disk_named, named_by_one, named_by_two, named, IsWithin};
+ghost use Rattle.gp_cli.specs.Subcommands.{texts_of, number_within, drive_named, sim_named, run_named, logged_disk, named_by_one, named_by_two, named, IsWithin};
 
 use gp_random::MOST_COMMANDS;
 use gp_sim::MOST_DRIVEN;
@@ -8,6 +8,12 @@ use gp_words::number_of;
 
 /// The number of disks: one for each acceptor, 0 to 6, and one for each coordinator, 7 to 11.
 pub const DISKS: u32 = 12;
+
+/// The least limit of a log, in bytes.
+pub const LEAST_LIMIT: u32 = 64;
+
+/// The greatest limit of a log, in bytes.
+pub const MOST_LIMIT: u32 = 67_108_864;
 
 /// The machine that the operations of a script are for.
 #[derive(Clone, Copy, Debug, PartialEq, Eq)]
@@ -25,6 +31,11 @@ pub enum Subcommand {
     Play {
         /// The machine that the script's operations are for.
         operations: Operations,
+    },
+    /// Read a configuration and offers, run the nodes in threads, and print their trace and report.
+    Run {
+        /// The limit of each log, in bytes, 64 to 67,108,864.
+        limit: u32,
     },
     /// Make a workload from a seed, play and settle it, and print a summary.
     Sim {
@@ -97,6 +108,27 @@ fn of_one(word: &str) -> Option<Subcommand>
         "bank" => Some(Subcommand::Play {
             operations: Operations::Bank,
         }),
+        "run" => Some(Subcommand::Run { limit: MOST_LIMIT }),
+        _ => None,
+    }
+}
+
+fn run_of(limit: &str) -> Option<Subcommand>
+    ensures { result ≡ run_named limit.now }
+{
+    Some(Subcommand::Run {
+        limit: number_within(LEAST_LIMIT, MOST_LIMIT, limit)?,
+    })
+}
+
+// What is done with the log of a disk.
+fn of_disk(word: &str, number: &str) -> Option<Subcommand>
+    ensures { result ≡ logged_disk word.now number.now }
+{
+    let disk = number_within(0, DISKS - 1, number)?;
+    match word {
+        "log" => Some(Subcommand::Log { disk }),
+        "upgrade" => Some(Subcommand::Upgrade { disk }),
         _ => None,
     }
 }
@@ -105,11 +137,9 @@ fn of_one(word: &str) -> Option<Subcommand>
 fn of_two(word: &str, number: &str) -> Option<Subcommand>
     ensures { result ≡ named_by_two word.now number.now }
 {
-    let disk = number_within(0, DISKS - 1, number)?;
     match word {
-        "log" => Some(Subcommand::Log { disk }),
-        "upgrade" => Some(Subcommand::Upgrade { disk }),
-        _ => None,
+        "run" => run_of(number),
+        _ => of_disk(word, number),
     }
 }
 

@@ -20,6 +20,10 @@ pub const READ_FAULT: &[u8] = b"read fault\n";
 /// What is printed if a disk failed.
 pub const DISK_FAULT: &[u8] = b"disk fault\n";
 
+/// What is printed if, after a fault of its disk, the log of a node has neither the durable part before its
+/// last move nor that after it.
+pub const LOG_CHANGED: &[u8] = b"log changed\n";
+
 fn reason_text(reason: Reason) -> &'static [u8]
     ensures { result.now ≡ reason_text reason }
 {
@@ -75,17 +79,22 @@ pub fn broken_text(alloc: Global, place: u64) -> Result<Vec<u8>, NoMemory>
     Ok(text)
 }
 
-/// Writes a text that may not have been made for want of memory, with the same status whether all of it
-/// is written or the sink fails.
-pub fn tell_of<K: Sink>(sink: &mut K, text: Result<Vec<u8>, NoMemory>, status: u8) -> u8
+/// Writes a text that may not have been made for want of memory, and answers the status as `tell` does: 1 too
+/// if the text was not made.
+pub fn tell_of<K: Sink>(
+    sink: &mut K,
+    text: Result<Vec<u8>, NoMemory>,
+    whole: u8,
+    at_fault: u8,
+) -> u8
     ensures told { IfOk text (λ t. Told (seen (K.written sink.old) (K.faults sink.old)) (seen (K.written sink.new) (K.faults sink.new))
-        t.items status status result) }
+        t.items whole at_fault result) }
     ensures untold { IfErr text (λ _. (meant : List ℕ) → 0 < length meant → Told (seen (K.written sink.old) (K.faults sink.old)) (seen (K.written sink.new) (K.faults sink.new))
-        meant status status result) }
+        meant whole at_fault result) }
     ensures never_falls { K.faults sink.old ≤ K.faults sink.new }
 {
     match text {
-        Ok(text) => tell(sink, &text, status, status),
+        Ok(text) => tell(sink, &text, whole, at_fault),
         Err(NoMemory) => NO_MEMORY,
     }
 }

@@ -13,4 +13,4 @@ returns-clause-ends g c =
     let now = seen (g.K.Sink.written c.print.new.sink) (g.K.Sink.faults c.print.new.sink) in
     let P : Counts → Type 0 = λ config. EndsBy (IsRunCause (Drives config c.args.commands)) before now c.print.result.status c.print.result.trail in
     subst P c.driven_config.ensures
-    (printed_ends (Drives c.driven_config.result c.args.commands) c.driven_config.result before now _ _ c.driven-made.result refl refl c.driven-made.ensures.run c.driven-made.ensures.text c.driven-made.ensures.agreement c.print.ensures.made c.print.ensures.starved)
+    (printed_ends (Drives c.driven_config.result c.args.commands) c.driven_config.result before now _ _ c.driven-made.result tt refl refl c.driven-made.ensures.run c.driven-made.ensures.text c.driven-made.ensures.agreement c.print.ensures.made c.print.ensures.starved)

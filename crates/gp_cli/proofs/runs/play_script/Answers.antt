@@ -9,7 +9,7 @@ returns-in-Ok-clause-ends g c = played_ends c.args.operations _ c.in-Ok.played _
 pub returns-in-Err-Bad-clause-ends : goal.returns-in-Err-Bad-clause-ends
 returns-in-Err-Bad-clause-ends g c =
     refused_ends c.args.operations _ _ _ _ _ _ _ _ _ _ c.in-Err-Bad.is c.in-Err-Bad.field-0-is c.play_for.ensures.plays c.play_for.ensures.legal refl
-    (told_of _ _ 3 c.tell_of.result (refusal_text c.in-Err-Bad.line c.in-Err-Bad.reason) c.refusal_text.result (omega arith) c.refusal_text.ensures c.tell_of.ensures.told c.tell_of.ensures.untold)
+    (told_of _ _ 3 3 c.tell_of.result (refusal_text c.in-Err-Bad.line c.in-Err-Bad.reason) c.refusal_text.result (omega arith) c.refusal_text.ensures c.tell_of.ensures.told c.tell_of.ensures.untold)
 
 pub returns-in-Err-NoMemory-clause-ends : goal.returns-in-Err-NoMemory-clause-ends
 returns-in-Err-NoMemory-clause-ends g c = starved _ _ _ _ tt c.without_run.ensures.status c.without_run.ensures.trail

@@ -1,0 +1,93 @@
+-- What the statuses say of runs of nodes in threads.
+use Rattle.std.specs.Prelude.{◌≡◌, ◌⊎◌, ℕ, List, [], take, Option, Some, None}
+use Rattle.gp_round.specs.Counts.{Counts}
+use Rattle.gp_msg.specs.declared.record.Record.{Record}
+use Rattle.gp_run.specs.Runs.{entries_in}
+use Rattle.gp_edge.specs.Faults.{Rose}
+use Rattle.gp_edge.specs.Writes.{AppendsWhole}
+use Rattle.gp_script.specs.declared.reason.Reason.{Reason}
+use Rattle.gp_offers.specs.declared.script.Offers.{Offers}
+use Rattle.gp_offers.specs.Offering.{Offered, RefusedAt, offers_reading}
+use Rattle.gp_offers.specs.Offered.{AreOffered}
+use Rattle.gp_cluster.specs.Runs.{IsRunOf, IsOverLimit}
+use Rattle.gp_retelling.specs.Texts.{run_text}
+use Rattle.gp_cli.specs.declared.runs.TheConstants.{MOST_READ}
+use Rattle.gp_cli.specs.declared.subcommand.Subcommand.{Subcommand}
+use Rattle.gp_cli.specs.declared.subcommand.Subcommand.TheVariants.{Play, Run, Sim, Drive, Log, Upgrade}
+use Rattle.gp_cli.specs.Subcommands.{named}
+use Rattle.gp_cli.specs.Texts.{log_changed, full_text, broken_text, refusal_text}
+use Rattle.gp_cli.specs.Machines.{IsInAgreementOfAll}
+use Rattle.gp_cli.specs.Outside.{Seen, Outside, Told}
+use Rattle.gp_cli.specs.Causes.{seen_at}
+use Rattle.gp_cli.specs.Run.{SomeFailed, HasLearned, HasReadOffers}
+
+-- the source reveals its bytes, and up to one more than a script may have they say these offers
+abbrev pub HoldsOffers : Offers → Seen → Type 0
+HoldsOffers offers source = (rest : List ℕ) × (source.bytes ≡ Some rest) × (offers_reading (take MOST_READ rest) ≡ Offered offers)
+
+-- the source reveals its bytes, and up to one more than a script may have a line of them is refused
+abbrev pub HoldsBadOffers : Seen → Type 0
+HoldsBadOffers source = (rest : List ℕ) × (line : ℕ) × (reason : Reason) × (source.bytes ≡ Some rest) × (offers_reading (take MOST_READ rest) ≡ RefusedAt line reason)
+
+-- a script was read whole that says offers, which are within its limits, and the trail is a legal run, in agreement, in which each proposer made its own of them
+pub record OffersAll (before now : Outside) (trail : List Record) (offers : Offers) : Type 0 where
+  pub read : HasReadOffers before.source now.source (λ read. read ≡ Offered offers)
+  pub right : AreOffered offers
+  pub run : IsRunOf offers.config offers.list trail
+  pub agreement : IsInAgreementOfAll offers.config (entries_in trail)
+
+-- such nodes ran until all was learned, and their trace and report were written whole without a fault
+pub record PrintsNodes (limit : ℕ) (before now : Outside) (trail : List Record) : Type 0 where
+  pub offers : Offers
+  pub whole : OffersAll before now trail offers
+  pub learned : HasLearned limit before.disks now.disks offers trail
+  pub steady : now.sink.faults ≡ before.sink.faults
+  pub written : AppendsWhole before.sink.bytes now.sink.bytes (run_text offers.config trail)
+
+-- `run` was to read a script, a line of which is refused, as was told; no node ran
+pub record RefusesOffers (words : List (List ℕ)) (before now : Outside) (status : ℕ) (trail : List Record) : Type 0 where
+  pub limit : ℕ
+  pub is_run : named words ≡ Some (Run limit)
+  pub line : ℕ
+  pub reason : Reason
+  pub read : HasReadOffers before.source now.source (λ read. read ≡ RefusedAt line reason)
+  pub no_trail : trail ≡ []
+  pub told : Told before.sink now.sink (refusal_text line reason) 3 3 status
+
+-- no event that may come next at a node with a log needs more bytes than the limit leaves
+abbrev pub HasRoomForNext : Counts → ℕ → List Record → Type 0
+HasRoomForNext config limit trail = (size need : ℕ) → ¬ IsOverLimit config limit (entries_in trail) size need
+
+-- `run` ended since an event that may come next at a node with a log needs more bytes than the limit leaves, as was told
+pub record FillsLog (words : List (List ℕ)) (before now : Outside) (status : ℕ) (trail : List Record) : Type 0 where
+  pub limit : ℕ
+  pub is_run : named words ≡ Some (Run limit)
+  pub offers : Offers
+  pub whole : OffersAll before now trail offers
+  pub size : ℕ
+  pub need : ℕ
+  pub over : IsOverLimit offers.config limit (entries_in trail) size need
+  pub told : Told before.sink now.sink (full_text size need) 7 7 status
+
+-- how it was told that a disk held other bytes than were written
+abbrev pub TellsChange : Outside → Outside → ℕ → Type 0
+TellsChange before now status = ((place : ℕ) × Told before.sink now.sink (broken_text place) 8 8 status) ⊎ Told before.sink now.sink log_changed 8 8 status
+
+-- `run` ended since a disk failed and then held other bytes than were written, as was told
+pub record LosesLog (words : List (List ℕ)) (before now : Outside) (status : ℕ) (trail : List Record) : Type 0 where
+  pub limit : ℕ
+  pub is_run : named words ≡ Some (Run limit)
+  pub offers : Offers
+  pub whole : OffersAll before now trail offers
+  pub failed : SomeFailed before.disks now.disks
+  pub told : TellsChange before now status
+
+-- a disk that the subcommand uses failed: the one of `log` and `upgrade`, or some disk of `run`
+abbrev pub DiskFailed : Option Subcommand → Outside → Outside → Type 0
+DiskFailed None before now = ⊥
+DiskFailed (Some (Play operations)) before now = ⊥
+DiskFailed (Some (Run limit)) before now = SomeFailed before.disks now.disks
+DiskFailed (Some (Sim seed commands)) before now = ⊥
+DiskFailed (Some (Drive acceptors learners commands)) before now = ⊥
+DiskFailed (Some (Log k)) before now = Rose (seen_at k before.disks).faults (seen_at k now.disks).faults
+DiskFailed (Some (Upgrade k)) before now = Rose (seen_at k before.disks).faults (seen_at k now.disks).faults

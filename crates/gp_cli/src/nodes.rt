@@ -1,0 +1,170 @@
+//! The subcommand that runs nodes in threads.
+ghost use Rattle.std.specs.Prelude.{◌≡◌, ◌≤◌, [], Some, length};
+ghost use Rattle.gp_run.specs.Legal.{Legal};
+ghost use Rattle.gp_run.specs.Runs.{entries_in};
+ghost use Rattle.gp_offers.specs.Offering.{Offered, offers_reading};
+ghost use Rattle.gp_offers.specs.Offered.{AreOffered};
+ghost use Rattle.gp_cli.specs.declared.subcommand.Subcommand.TheVariants.{Run};
+ghost use Rattle.gp_cli.specs.declared.ran.Trail.TheVariants.{Folded};
+ghost use Rattle.gp_cli.specs.Outside.{seen, disks_seen};
+ghost use Rattle.gp_cli.specs.Endings.{Runs};
+ghost use Rattle.gp_cli.specs.Run.{IsOffersCause, IsNodesCause};
+ghost use Rattle.gp_cli.specs.Logs.{TellsEnding};
+ghost use Rattle.gp_cli.specs.Serving.{EndsBy, EachDisk, KeepsUnused};
+ghost use Rattle.gp_cli.specs.Trails.{records_in, IsOfNodes};
+
+use crate::ran::{Ran, Trail};
+use crate::runs::MOST_READ;
+use crate::status::{DISK_FAILED, DONE, LOG_FULL, NO_LOG, NO_MEMORY, REFUSED, UNREAD, UNWRITTEN};
+use crate::telling::{
+    DISK_FAULT, LOG_CHANGED, READ_FAULT, broken_text, full_text, refusal_text, tell, tell_of,
+};
+use gp_cluster::run_nodes;
+use gp_edge::{Disk, Gate, Refused, Sink, Source, read_up_to};
+use gp_ending::RunEnd;
+use gp_msg::{Record, Records};
+use gp_offers::{Offers, Unread, read_offers};
+use gp_retelling::run_text;
+use gp_round::Config;
+use std::alloc::Global;
+use std::sync::Wait;
+use std::thread::Threads;
+
+// No node ran, and the disks are as they were.
+fn without_nodes<D: Disk>(alloc: Global, status: u8, disks: Vec<D>) -> Ran<D>
+    ensures status { result.status ≡ status }
+    ensures trail { result.trail ≡ Folded [] }
+    ensures disks { result.disks.items ≡ disks.items }
+{
+    Ran {
+        status,
+        trail: Trail::Folded(Records::new(alloc)),
+        disks,
+    }
+}
+
+// Prints how a run of nodes ended that posted these records.
+fn tell_end<K: Sink>(
+    alloc: Global,
+    config: &Config,
+    end: RunEnd,
+    records: &[Record],
+    sink: &mut K,
+) -> u8
+    requires legal { Legal config.now (entries_in records.now) }
+    ensures told { TellsEnding (Runs end config.now records.now) (seen (K.written sink.old) (K.faults sink.old)) (seen (K.written sink.new) (K.faults sink.new)) result }
+    ensures never_falls { K.faults sink.old ≤ K.faults sink.new }
+{
+    match end {
+        RunEnd::Learned => tell_of(sink, run_text(alloc, config, records), DONE, UNWRITTEN),
+        RunEnd::NoMemory => NO_MEMORY,
+        RunEnd::Disk => tell(sink, DISK_FAULT, DISK_FAILED, DISK_FAILED),
+        RunEnd::Full { size, need } => {
+            tell_of(sink, full_text(alloc, size, need), LOG_FULL, LOG_FULL)
+        }
+        RunEnd::NotLog { at } => tell_of(sink, broken_text(alloc, at), NO_LOG, NO_LOG),
+        RunEnd::Changed => tell(sink, LOG_CHANGED, NO_LOG, NO_LOG),
+    }
+}
+
+// Runs the nodes of a configuration, and prints how they ended.
+fn run_offers<K: Sink, D: Disk + Send, W: Threads + Wait + Sync, G: Gate + Sync>(
+    rt: &W,
+    alloc: Global,
+    limit: u32,
+    offers: &Offers,
+    sink: &mut K,
+    disks: Vec<D>,
+    gate: &G,
+) -> Ran<D>
+    requires twelve { length disks.items ≡ 12 }
+    requires low { 64 ≤ limit }
+    requires high { limit ≤ 67108864 }
+    requires right { AreOffered offers.now }
+    ensures ends { EndsBy (IsOffersCause limit (Offered offers.now) (disks_seen D.content D.faults disks.items) (disks_seen D.content D.faults result.disks.items))
+        (seen (K.written sink.old) (K.faults sink.old)) (seen (K.written sink.new) (K.faults sink.new)) result.status (records_in result.trail) }
+    ensures posted { IsOfNodes result.status result.trail }
+    ensures others { KeepsUnused (Some (Run limit)) (IsOffersCause limit (Offered offers.now) (disks_seen D.content D.faults disks.items) (disks_seen D.content D.faults result.disks.items))
+        disks.items result.disks.items }
+    ensures disks_never_fall { EachDisk (λ was is. D.faults was ≤ D.faults is) disks.items result.disks.items }
+    ensures never_falls { K.faults sink.old ≤ K.faults sink.new }
+{
+    let run = run_nodes(rt, alloc, offers.config, limit, &offers.list, disks, gate);
+    let trail = Trail::of(alloc, run.posted);
+    let status = tell_end(alloc, &offers.config, run.end, trail.records(), sink);
+    Ran {
+        status,
+        trail,
+        disks: run.disks,
+    }
+}
+
+// Runs the nodes of a script, or prints its first refused line.
+fn run_script<K: Sink, D: Disk + Send, W: Threads + Wait + Sync, G: Gate + Sync>(
+    rt: &W,
+    alloc: Global,
+    limit: u32,
+    script: &[u8],
+    sink: &mut K,
+    disks: Vec<D>,
+    gate: &G,
+) -> Ran<D>
+    requires twelve { length disks.items ≡ 12 }
+    requires low { 64 ≤ limit }
+    requires high { limit ≤ 67108864 }
+    ensures ends { EndsBy (IsOffersCause limit (offers_reading script.now) (disks_seen D.content D.faults disks.items) (disks_seen D.content D.faults result.disks.items))
+        (seen (K.written sink.old) (K.faults sink.old)) (seen (K.written sink.new) (K.faults sink.new)) result.status (records_in result.trail) }
+    ensures posted { IsOfNodes result.status result.trail }
+    ensures others { KeepsUnused (Some (Run limit)) (IsOffersCause limit (offers_reading script.now) (disks_seen D.content D.faults disks.items) (disks_seen D.content D.faults result.disks.items))
+        disks.items result.disks.items }
+    ensures disks_never_fall { EachDisk (λ was is. D.faults was ≤ D.faults is) disks.items result.disks.items }
+    ensures never_falls { K.faults sink.old ≤ K.faults sink.new }
+{
+    match read_offers(alloc, script) {
+        Ok(offers) => run_offers(rt, alloc, limit, &offers, sink, disks, gate),
+        Err(Unread::Bad { line, reason }) => {
+            let text = refusal_text(alloc, line, reason);
+            let status = tell_of(sink, text, REFUSED, REFUSED);
+            without_nodes(alloc, status, disks)
+        }
+        Err(Unread::NoMemory) => without_nodes(alloc, NO_MEMORY, disks),
+    }
+}
+
+/// Reads a script of offers, and runs its nodes in threads over logs of this limit.
+pub(crate) fn read_and_run<
+    S: Source,
+    K: Sink,
+    D: Disk + Send,
+    W: Threads + Wait + Sync,
+    G: Gate + Sync,
+>(
+    rt: &W,
+    alloc: Global,
+    limit: u32,
+    source: &mut S,
+    sink: &mut K,
+    disks: Vec<D>,
+    gate: &G,
+) -> Ran<D>
+    requires twelve { length disks.items ≡ 12 }
+    requires low { 64 ≤ limit }
+    requires high { limit ≤ 67108864 }
+    ensures ends { EndsBy (IsNodesCause limit (seen (S.rest source.old) (S.faults source.old)) (seen (S.rest source.new) (S.faults source.new)) (disks_seen D.content D.faults disks.items) (disks_seen D.content D.faults result.disks.items))
+        (seen (K.written sink.old) (K.faults sink.old)) (seen (K.written sink.new) (K.faults sink.new)) result.status (records_in result.trail) }
+    ensures posted { IsOfNodes result.status result.trail }
+    ensures others { KeepsUnused (Some (Run limit)) (IsNodesCause limit (seen (S.rest source.old) (S.faults source.old)) (seen (S.rest source.new) (S.faults source.new)) (disks_seen D.content D.faults disks.items) (disks_seen D.content D.faults result.disks.items))
+        disks.items result.disks.items }
+    ensures disks_never_fall { EachDisk (λ was is. D.faults was ≤ D.faults is) disks.items result.disks.items }
+    ensures source_never_falls { S.faults source.old ≤ S.faults source.new }
+    ensures sink_never_falls { K.faults sink.old ≤ K.faults sink.new }
+{
+    match read_up_to(alloc, source, MOST_READ) {
+        Ok(script) => run_script(rt, alloc, limit, &script, sink, disks, gate),
+        Err(Refused::Failed) => {
+            let status = tell(sink, READ_FAULT, UNREAD, UNREAD);
+            without_nodes(alloc, status, disks)
+        }
+        Err(Refused::NoMemory) => without_nodes(alloc, NO_MEMORY, disks),
+    }
+}
