@@ -3,6 +3,7 @@ use crate::stage::{disks_with, served_with};
 use std::alloc::Global;
 use std::sync::Wait;
 use std::test::Fail;
+use std::thread::Threads;
 
 // a deposit, a transfer, a withdrawal that is not granted, and a balance, one after another
 const ONE_AFTER_ANOTHER: &[u8] = b"\
@@ -45,7 +46,7 @@ const TOO_GREAT_LATER: &[u8] =
 const PUT: &[u8] = b"nodes 3 1 1\noffer p0 put a 5\n";
 
 // Whether a word with this script ends with this status and so many records, and prints this.
-fn ends<W: Wait>(
+fn ends<W: Threads + Wait + Sync>(
     rt: &W,
     alloc: Global,
     word: &str,
@@ -58,7 +59,7 @@ fn ends<W: Wait>(
     let finished = served_with(rt, alloc, &[word], script, disks)?;
     Ok(
         finished.ran.status == status
-            && finished.ran.trail.as_slice().len() == records
+            && finished.ran.trail.records().len() == records
             && finished.sink.written() == text,
     )
 }

@@ -3,6 +3,7 @@ use crate::stage::{disks_with, prints, served};
 use std::alloc::Global;
 use std::sync::Wait;
 use std::test::Fail;
+use std::thread::Threads;
 
 const FOUR_COMMANDS: &[u8] = b"\
 l0 learned 4: p0.1 p0.2 p0.3 p0.4
@@ -72,7 +73,11 @@ static ROWS: [Row; 7] = [
     },
 ];
 
-fn ends_with_totals(rt: &impl Wait, alloc: Global, row: &Row) -> Result<bool, Fail> {
+fn ends_with_totals(
+    rt: &(impl Threads + Wait + Sync),
+    alloc: Global,
+    row: &Row,
+) -> Result<bool, Fail> {
     let served = served(rt, alloc, &row.words, disks_with(alloc, 0, b"", &[])?)?;
     Ok(served.ran.status == 0 && served.sink.written().ends_with(row.totals))
 }

@@ -3,6 +3,7 @@ use crate::stage::{content_of, disks_with, served};
 use std::alloc::Global;
 use std::sync::Wait;
 use std::test::Fail;
+use std::thread::Threads;
 
 /// The header of a log of version 1, with the greatest limit, and its first gate, which is open.
 const HEADER: [u8; 17] = *b"MCGPLOG1\x00\x00\x00\x04\x00\x00\x00\x00\x01";
@@ -47,7 +48,7 @@ acceptor epoch 0 1.single.0 voted 1.single.0: p0.1
 ";
 
 // Whether the log of disk 3 with these bytes is shown so, and left as it is.
-fn shows<W: Wait>(
+fn shows<W: Threads + Wait + Sync>(
     rt: &W,
     alloc: Global,
     bytes: &[u8],

@@ -5,6 +5,7 @@ use crate::stage::{disks_with, prints, served};
 use std::alloc::Global;
 use std::sync::Wait;
 use std::test::Fail;
+use std::thread::Threads;
 
 const SEED_7: &[u8] = b"sim 7 96\nlearned 96 96\nsame yes\nsum 11653\nevents 772 messages 148\n";
 
@@ -34,7 +35,12 @@ fn the_last_seed_and_the_most_commands_have_one(rt: HostRuntime) -> Result<(), F
 }
 
 // Whether both learners hold all commands of this seed, and show the same.
-fn is_learned<W: Wait>(rt: &W, alloc: Global, seed: u32, commands: u32) -> Result<bool, Fail> {
+fn is_learned<W: Threads + Wait + Sync>(
+    rt: &W,
+    alloc: Global,
+    seed: u32,
+    commands: u32,
+) -> Result<bool, Fail> {
     let seed_word = format!(in alloc; "{seed}")?;
     let commands_word = format!(in alloc; "{commands}")?;
     let words = ["sim", seed_word.as_str(), commands_word.as_str()];

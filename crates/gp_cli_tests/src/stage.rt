@@ -2,10 +2,11 @@
 ghost use Rattle.std.specs.Prelude.{◌≡◌, IfOk, length};
 
 use gp_cli::{Ran, serve};
-use gp_edge::{CalmSink, CalmSource, Disk, MemDisk};
+use gp_edge::{CalmSink, CalmSource, Disk, Idle, MemDisk};
 use std::alloc::Global;
 use std::sync::Wait;
 use std::test::Fail;
+use std::thread::Threads;
 
 /// Twelve disks in memory. One of them has these bytes, and these calls of it fail.
 pub fn disks_with(
@@ -45,7 +46,7 @@ pub struct Finished<D: Disk> {
 }
 
 /// A command with this input over these disks.
-pub fn served_with<W: Wait, D: Disk>(
+pub fn served_with<W: Threads + Wait + Sync, D: Disk + Send>(
     rt: &W,
     alloc: Global,
     words: &[&str],
@@ -63,12 +64,13 @@ pub fn served_with<W: Wait, D: Disk>(
         &mut source,
         &mut sink,
         disks,
+        &Idle,
     );
     Ok(Finished { ran, sink })
 }
 
 /// A command without input over these disks.
-pub fn served<W: Wait, D: Disk>(
+pub fn served<W: Threads + Wait + Sync, D: Disk + Send>(
     rt: &W,
     alloc: Global,
     words: &[&str],
@@ -80,7 +82,7 @@ pub fn served<W: Wait, D: Disk>(
 }
 
 /// Whether a command without input and logs ends with this status and prints this.
-pub fn prints<W: Wait>(
+pub fn prints<W: Threads + Wait + Sync>(
     rt: &W,
     alloc: Global,
     words: &[&str],

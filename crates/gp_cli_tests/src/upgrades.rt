@@ -6,6 +6,7 @@ use gp_edge::MemDisk;
 use std::alloc::Global;
 use std::sync::Wait;
 use std::test::Fail;
+use std::thread::Threads;
 
 // A log whose last entry is in the second area, in version 2.
 const TAKEN_ON: &[u8] = b"\
@@ -13,7 +14,7 @@ log 3 entries 1 size 70
 acceptor epoch 0 1.single.0 voted 1.single.0: p0.1
 ";
 
-fn upgraded<W: Wait>(
+fn upgraded<W: Threads + Wait + Sync>(
     rt: &W,
     alloc: Global,
     bytes: &[u8],
@@ -54,14 +55,14 @@ fn a_log_without_room_for_its_last_entry_is_full(rt: HostRuntime) -> Result<(), 
 }
 
 // Whether a log is whole: `log` shows both entries, or the last one.
-fn is_whole<W: Wait>(rt: &W, alloc: Global, bytes: &[u8]) -> Result<bool, Fail> {
+fn is_whole<W: Threads + Wait + Sync>(rt: &W, alloc: Global, bytes: &[u8]) -> Result<bool, Fail> {
     let shown = served(rt, alloc, &["log", "3"], disks_with(alloc, 3, bytes, &[])?)?;
     let text = shown.sink.written();
     Ok(shown.ran.status == 0 && (text == OLD_LOG || text == TAKEN_ON))
 }
 
 // Whether a failure of this call is a disk fault, and leaves the log whole.
-fn stops_at<W: Wait>(rt: &W, alloc: Global, call: u64) -> Result<bool, Fail> {
+fn stops_at<W: Threads + Wait + Sync>(rt: &W, alloc: Global, call: u64) -> Result<bool, Fail> {
     let bytes = old_log(alloc, 128)?;
     let ended = upgraded(rt, alloc, &bytes, &[call])?;
     let fault = ended.ran.status == 6 && ended.sink.written() == b"disk fault\n".as_slice();

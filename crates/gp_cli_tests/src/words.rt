@@ -4,13 +4,14 @@ ghost use Rattle.std.specs.Prelude.{◌≡◌, IfOk, length};
 use crate::stage::{disks_with, owned};
 use gp_cli::{run_program, serve};
 use gp_command::NoMemory;
-use gp_edge::{CalmSink, CalmSource, MemDisk};
+use gp_edge::{CalmSink, CalmSource, Idle, MemDisk};
 use std::alloc::Global;
 use std::env::Args;
 use std::io::{self, ErrorKind};
 use std::process::{ExitCode, Termination};
 use std::sync::Wait;
 use std::test::Fail;
+use std::thread::Threads;
 
 const USAGE: &[u8] =
     b"usage: mcgp play | run [LIMIT] | sim SEED COMMANDS | drive A L K | log K | upgrade K | bank\n";
@@ -20,13 +21,17 @@ const SCRIPT: &[u8] = b"nodes 3 1 1\n";
 const PRINTS: &[u8] = b"l0 learned 0: -\nl0 state: -\nl0 replies: -\nevents 0 messages 0\n";
 
 // Whether these words end with status 2 and the usage line, and leave the input unread.
-fn are_refused<W: Wait>(rt: &W, alloc: Global, words: &[&str]) -> Result<bool, Fail> {
+fn are_refused<W: Threads + Wait + Sync>(
+    rt: &W,
+    alloc: Global,
+    words: &[&str],
+) -> Result<bool, Fail> {
     let mut source = CalmSource::new(alloc, SCRIPT)?;
     let mut sink = CalmSink::new(alloc)?;
     let disks = disks_with(alloc, 0, b"", &[])?;
     let words = owned(alloc, words)?;
-    let ran = serve(rt, alloc, &words, &mut source, &mut sink, disks);
-    Ok(ran.status == 2 && ran.trail.as_slice().is_empty() && sink.written() == USAGE)
+    let ran = serve(rt, alloc, &words, &mut source, &mut sink, disks, &Idle);
+    Ok(ran.status == 2 && ran.trail.records().is_empty() && sink.written() == USAGE)
 }
 
 #[test]
@@ -34,7 +39,10 @@ fn unknown_words_print_the_usage(rt: HostRuntime) -> Result<(), Fail> {
     let alloc = rt.alloc();
     assert!(rt; are_refused(&rt, alloc, &[])?);
     assert!(rt; are_refused(&rt, alloc, &["play", "now"])?);
-    assert!(rt; are_refused(&rt, alloc, &["run"])?);
+    assert!(rt; are_refused(&rt, alloc, &["run", "63"])?);
+    assert!(rt; are_refused(&rt, alloc, &["run", "67108865"])?);
+    assert!(rt; are_refused(&rt, alloc, &["run", "064"])?);
+    assert!(rt; are_refused(&rt, alloc, &["run", "64", "64"])?);
     assert!(rt; are_refused(&rt, alloc, &["log", "12"])?);
     assert!(rt; are_refused(&rt, alloc, &["upgrade", "12"])?);
     assert!(rt; are_refused(&rt, alloc, &["log", "00"])?);
@@ -59,7 +67,7 @@ fn disks_for(alloc: Global) -> Result<Result<Vec<MemDisk>, NoMemory>, Fail>
 }
 
 // Whether the program ends with this status, and prints this.
-fn ends<R: Eprint + Wait>(
+fn ends<R: Eprint + Threads + Wait + Sync>(
     rt: &R,
     alloc: Global,
     arguments: io::Result<Args>,
@@ -69,12 +77,12 @@ fn ends<R: Eprint + Wait>(
     let mut source = CalmSource::new(alloc, SCRIPT)?;
     let mut sink = CalmSink::new(alloc)?;
     let disks = disks_for(alloc)?;
-    let ended = run_program(rt, alloc, arguments, &mut source, &mut sink, disks);
+    let ended = run_program(rt, alloc, arguments, &mut source, &mut sink, disks, &Idle);
     Ok(ended.report(rt) == ExitCode::from(status) && sink.written() == prints)
 }
 
 // The same, where the environment gives these arguments.
-fn given<R: Eprint + Wait>(
+fn given<R: Eprint + Threads + Wait + Sync>(
     rt: &R,
     alloc: Global,
     words: &[&str],
@@ -120,7 +128,7 @@ fn no_memory_for_the_disks_ends_with_1(rt: HostRuntime) -> Result<(), Fail> {
     let mut sink = CalmSink::new(alloc)?;
     let arguments = Ok(owned(alloc, &["mcgp", "play"])?.into_iter());
     let disks: Result<Vec<MemDisk>, NoMemory> = Err(NoMemory);
-    let ended = run_program(&rt, alloc, arguments, &mut source, &mut sink, disks);
+    let ended = run_program(&rt, alloc, arguments, &mut source, &mut sink, disks, &Idle);
     assert!(rt; ended.report(&rt) == ExitCode::from(1));
     assert!(rt; sink.written().is_empty());
     Ok(())

@@ -6,11 +6,12 @@
 ghost use Rattle.std.specs.Prelude.{◌≡◌, IfOk, length};
 
 use gp_cli::{DISKS, serve};
-use gp_edge::{CalmDisk, ReadSource, WriteSink};
+use gp_edge::{CalmDisk, Idle, ReadSource, WriteSink};
 use std::alloc::Global;
 use std::fs::{self, File};
 use std::io::ErrorKind;
 use std::sync::Wait;
+use std::thread::Threads;
 use std::{env, io};
 
 // The names of the examples in a folder, in byte order, without the ending of their files.
@@ -42,7 +43,7 @@ fn disks_with(alloc: Global, bytes: &[u8]) -> io::Result<Vec<CalmDisk>>
 
 // The words with which a page gives the exit status and the output of a command.
 fn passage(
-    wait: &impl Wait,
+    wait: &(impl Threads + Wait + Sync),
     alloc: Global,
     words: &[String],
     input: File,
@@ -53,13 +54,18 @@ fn passage(
     let mut source = ReadSource::new(input);
     let mut output = Vec::new(alloc);
     let mut sink = WriteSink::new(&mut output);
-    let status = serve(wait, alloc, words, &mut source, &mut sink, disks).status;
+    let status = serve(wait, alloc, words, &mut source, &mut sink, disks, &Idle).status;
     let text = String::from_utf8_lossy(alloc, &output)?;
     Ok(format!(in alloc; "ends with status {status}:\n\n```text\n{text}```\n")?)
 }
 
 // The passage of a script, which this word plays.
-fn played(rt: &HostRuntime, wait: &impl Wait, word: &str, path: &str) -> io::Result<String> {
+fn played(
+    rt: &HostRuntime,
+    wait: &(impl Threads + Wait + Sync),
+    word: &str,
+    path: &str,
+) -> io::Result<String> {
     let alloc = rt.alloc();
     let words = [String::from_str(alloc, word)?];
     let disks = disks_with(alloc, b"")?;
@@ -67,7 +73,7 @@ fn played(rt: &HostRuntime, wait: &impl Wait, word: &str, path: &str) -> io::Res
 }
 
 // The passage of a log, which is shown as that of disk 0.
-fn shown(rt: &HostRuntime, wait: &impl Wait, path: &str) -> io::Result<String> {
+fn shown(rt: &HostRuntime, wait: &(impl Threads + Wait + Sync), path: &str) -> io::Result<String> {
     let alloc = rt.alloc();
     let words = [
         String::from_str(alloc, "log")?,
@@ -90,7 +96,7 @@ fn compare(rt: &HostRuntime, folder: &str, name: &str, passage: &str) -> io::Res
 // The same for each script of a folder whose name has this ending, which this word plays.
 fn compare_scripts(
     rt: &HostRuntime,
-    wait: &impl Wait,
+    wait: &(impl Threads + Wait + Sync),
     folder: &str,
     ending: &str,
     word: &str,
@@ -103,7 +109,11 @@ fn compare_scripts(
     Ok(())
 }
 
-fn compare_all(rt: &HostRuntime, wait: &impl Wait, folder: &str) -> io::Result<()> {
+fn compare_all(
+    rt: &HostRuntime,
+    wait: &(impl Threads + Wait + Sync),
+    folder: &str,
+) -> io::Result<()> {
     compare_scripts(rt, wait, folder, ".txt", "play")?;
     compare_scripts(rt, wait, folder, ".bank", "bank")?;
     for name in names_in(rt, folder, ".log")? {

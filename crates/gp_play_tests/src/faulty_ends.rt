@@ -8,9 +8,10 @@ use std::alloc::Global;
 use std::io::Cursor;
 use std::sync::Wait;
 use std::test::Fail;
+use std::thread::Threads;
 
 // Whether a failure of the n-th read, each of 64 bytes, ends in a read fault.
-fn read_fails(rt: &impl Wait, alloc: Global, n: u64) -> Result<bool, Fail> {
+fn read_fails(rt: &(impl Threads + Wait + Sync), alloc: Global, n: u64) -> Result<bool, Fail> {
     let mut source = MemSource::new(alloc, ONE_PUT, 64, &[n])?;
     let mut sink = CalmSink::new(alloc)?;
     let status = play_over(rt, alloc, &mut source, &mut sink)?;
@@ -18,7 +19,7 @@ fn read_fails(rt: &impl Wait, alloc: Global, n: u64) -> Result<bool, Fail> {
 }
 
 // Whether a failure of the n-th write, each of 16 bytes, ends in a write fault after what was written before.
-fn write_fails(rt: &impl Wait, alloc: Global, n: u8) -> Result<bool, Fail> {
+fn write_fails(rt: &(impl Threads + Wait + Sync), alloc: Global, n: u8) -> Result<bool, Fail> {
     let mut source = CalmSource::new(alloc, ONE_PUT)?;
     let mut sink = MemSink::new(alloc, 16, &[u64::from(n)])?;
     let status = play_over(rt, alloc, &mut source, &mut sink)?;
@@ -44,7 +45,7 @@ fn each_write_may_fail(rt: HostRuntime) -> Result<(), Fail> {
 
 // Whether a script prints this where each read and each write is of one byte.
 fn prints_in_pieces(
-    rt: &impl Wait,
+    rt: &(impl Threads + Wait + Sync),
     alloc: Global,
     script: &[u8],
     prints: &[u8],

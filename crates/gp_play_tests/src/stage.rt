@@ -2,10 +2,11 @@
 ghost use Rattle.std.specs.Prelude.{◌≡◌, IfOk, length};
 
 use gp_cli::{DISKS, serve};
-use gp_edge::{CalmDisk, CalmSink, CalmSource, Sink, Source};
+use gp_edge::{CalmDisk, CalmSink, CalmSource, Idle, Sink, Source};
 use std::alloc::Global;
 use std::sync::Wait;
 use std::test::Fail;
+use std::thread::Threads;
 
 // Twelve disks in memory without bytes.
 fn disks(alloc: Global) -> Result<Vec<CalmDisk>, Fail>
@@ -20,18 +21,18 @@ fn disks(alloc: Global) -> Result<Vec<CalmDisk>, Fail>
 
 /// The status with which `play` ends over this source and sink.
 pub fn play_over<S: Source, K: Sink>(
-    rt: &impl Wait,
+    rt: &(impl Threads + Wait + Sync),
     alloc: Global,
     source: &mut S,
     sink: &mut K,
 ) -> Result<u8, Fail> {
     let words = [String::from_str(alloc, "play")?];
-    Ok(serve(rt, alloc, &words, source, sink, disks(alloc)?).status)
+    Ok(serve(rt, alloc, &words, source, sink, disks(alloc)?, &Idle).status)
 }
 
 /// Whether `play` ends with this status on this script, and prints this.
 pub fn plays(
-    rt: &impl Wait,
+    rt: &(impl Threads + Wait + Sync),
     alloc: Global,
     script: &[u8],
     status: u8,
@@ -45,7 +46,7 @@ pub fn plays(
 
 /// Whether a script that goes on with these lines is played to its end, and prints this.
 pub fn goes_on(
-    rt: &impl Wait,
+    rt: &(impl Threads + Wait + Sync),
     alloc: Global,
     script: &[u8],
     more: &[u8],
@@ -57,7 +58,12 @@ pub fn goes_on(
 }
 
 /// Whether `play` refuses this script with this line, after which it prints a line feed.
-pub fn refuses(rt: &impl Wait, alloc: Global, script: &[u8], line: &[u8]) -> Result<bool, Fail> {
+pub fn refuses(
+    rt: &(impl Threads + Wait + Sync),
+    alloc: Global,
+    script: &[u8],
+    line: &[u8],
+) -> Result<bool, Fail> {
     let mut prints = Vec::from_slice(alloc, line)?;
     prints.push(b'\n')?;
     plays(rt, alloc, script, 3, &prints)

@@ -2,7 +2,7 @@
 #![tactic(auto)]
 
 use gp_cli::{Ended, file_disks, run_program};
-use gp_edge::{FileDisk, ReadSource, WriteSink};
+use gp_edge::{FileDisk, Idle, ReadSource, WriteSink};
 use std::{env, io};
 
 fn main(rt: HostRuntime) -> Ended<FileDisk<HostRuntime>> {
@@ -16,5 +16,6 @@ fn main(rt: HostRuntime) -> Ended<FileDisk<HostRuntime>> {
         &mut source,
         &mut sink,
         disks,
+        &Idle,
     )
 }
