@@ -8,6 +8,8 @@ mod driven_runs;
 #[cfg(test)]
 mod logs;
 #[cfg(test)]
+mod nodes;
+#[cfg(test)]
 mod simulated_runs;
 #[cfg(test)]
 mod stage;

@@ -13,7 +13,7 @@ use gp_text::trace;
 use std::alloc::Global;
 
 /// The trace of the records, a line `--`, and the report of their run. The records are a legal run of the configuration.
-/// `NoMemory` is also the answer if there are 2^31 records or more.
+/// `NoMemory` is also the answer if there are more than 2^31 records.
 pub fn run_text(alloc: Global, config: &Config, records: &[Record]) -> Result<Vec<u8>, NoMemory>
     requires { Legal config.now (entries_in records.now) }
     ensures { IfOk result (λ text. text.items ≡ run_text config.now records.now) }

@@ -11,17 +11,17 @@ use gp_round::Config;
 use gp_world::World;
 use std::alloc::Global;
 
-// One more than the most records of a world.
-const TOO_MANY: usize = 2_147_483_648;
+// The most records of a world.
+const MOST_RECORDS: usize = 2_147_483_648;
 
 /// The world in which the events of these records happen, in their order. The records are a legal run of the configuration.
-/// `NoMemory` is also the answer if there are 2^31 records or more, which a world does not hold.
+/// `NoMemory` is also the answer if there are more than 2^31 records, which a world does not hold.
 pub fn world_of(alloc: Global, config: Config, records: &[Record]) -> Result<World, NoMemory>
     requires { Legal config (entries_in records.now) }
     ensures config { IfOk result (λ world. world.config ≡ config) }
     ensures entries { IfOk result (λ world. entries_of world ≡ entries_in records.now) }
 {
-    if records.len() >= TOO_MANY {
+    if records.len() > MOST_RECORDS {
         return Err(NoMemory);
     }
     let mut world = World::new(alloc, config)?;

@@ -1,0 +1,183 @@
+//! Nodes that run in threads.
+use crate::stage::{disks_with, served_with};
+use gp_cli::{Ran, Trail};
+use gp_edge::MemDisk;
+use std::alloc::Global;
+use std::sync::Wait;
+use std::test::Fail;
+use std::thread::Threads;
+
+// Eight commands of which no two conflict.
+const EIGHT: &[u8] =
+    b"nodes 3 3 2\noffer p0 put a 1\noffer p1 add b 2\noffer p2 add b 3\noffer p3 get z\noffer p4 put c 4\noffer p5 del d\noffer p6 cas e 1 2\noffer p7 copy f g\n";
+
+// What each learner of these shows, behind its name.
+const EIGHT_LEARNED: [&[u8]; 3] = [
+    b" learned 8: p0.1 p1.1 p2.1 p3.1 p4.1 p5.1 p6.1 p7.1",
+    b" state: a=1 b=5 c=4",
+    b" replies: p0.1=ok p1.1=ok p2.1=ok p3.1=none p4.1=ok p5.1=none p6.1=no p7.1=none",
+];
+
+// Two commands that conflict, which a coordinator with an odd number takes in the other order.
+const TWO: &[u8] = b"nodes 3 2 1\noffer p0 put a 1\noffer p0 put a 2\n";
+
+// What a run of nodes printed before and after the line `--`.
+#[derive(Drop)]
+struct Printed {
+    trace: Vec<u8>,
+    report: Vec<u8>,
+}
+
+// The lines before and after the line `--`.
+fn parts_of(alloc: Global, text: &[u8]) -> Result<Printed, Fail> {
+    let mut trace = Vec::new(alloc);
+    let mut report = Vec::new(alloc);
+    let mut behind = false;
+    for line in text.split(|byte| *byte == b'\n') {
+        if !behind && line == b"--".as_slice() {
+            behind = true;
+        } else if behind {
+            report.extend_from_slice(line)?;
+            report.push(b'\n')?;
+        } else {
+            trace.extend_from_slice(line)?;
+            trace.push(b'\n')?;
+        }
+    }
+    let _behind_the_last = report.pop();
+    Ok(Printed { trace, report })
+}
+
+// How many lines of a text are this one.
+fn count(text: &[u8], wanted: &[u8]) -> usize {
+    text.split(|byte| *byte == b'\n')
+        .filter(|line| **line == *wanted)
+        .count()
+}
+
+// Whether the report has each of these lines of a learner.
+fn shows(alloc: Global, report: &[u8], learner: &[u8], lines: &[&[u8]]) -> Result<bool, Fail> {
+    for line in lines {
+        let mut whole = Vec::from_slice(alloc, learner)?;
+        whole.extend_from_slice(line)?;
+        if count(report, &whole) != 1 {
+            return Ok(false);
+        }
+    }
+    Ok(true)
+}
+
+// Whether nodes in threads posted the records.
+fn is_posted(ran: &Ran<MemDisk>) -> bool {
+    match ran.trail {
+        Trail::Posted(_) => true,
+        Trail::Folded(_) => false,
+    }
+}
+
+// Whether both learners of the eight commands show them.
+fn show_eight(alloc: Global, report: &[u8]) -> Result<bool, Fail> {
+    Ok(shows(alloc, report, b"l0", &EIGHT_LEARNED)? && shows(alloc, report, b"l1", &EIGHT_LEARNED)?)
+}
+
+// Whether `play` prints the report of a run from its trace.
+fn plays_again<W: Threads + Wait + Sync>(
+    rt: &W,
+    alloc: Global,
+    printed: &Printed,
+) -> Result<bool, Fail> {
+    let disks = disks_with(alloc, 0, b"", &[])?;
+    let played = served_with(rt, alloc, &["play"], &printed.trace, disks)?;
+    Ok(played.ran.status == 0 && *played.sink.written() == *printed.report)
+}
+
+#[test]
+fn commands_that_commute_are_learned_by_all(rt: HostRuntime) -> Result<(), Fail> {
+    let alloc = rt.alloc();
+    let disks = disks_with(alloc, 0, b"", &[])?;
+    let finished = served_with(&rt, alloc, &["run"], EIGHT, disks)?;
+    assert!(rt; finished.ran.status == 0);
+    assert!(rt; is_posted(&finished.ran));
+    let printed = parts_of(alloc, finished.sink.written())?;
+    assert!(rt; show_eight(alloc, &printed.report)?);
+    assert!(rt; plays_again(&rt, alloc, &printed)?);
+    Ok(())
+}
+
+#[test]
+fn a_log_has_no_room_for_all_commands(rt: HostRuntime) -> Result<(), Fail> {
+    let alloc = rt.alloc();
+    let disks = disks_with(alloc, 0, b"", &[])?;
+    let finished = served_with(&rt, alloc, &["run", "128"], EIGHT, disks)?;
+    assert!(rt; finished.ran.status == 7);
+    assert!(rt; is_posted(&finished.ran));
+    assert!(rt;
+        finished
+            .sink
+            .written()
+            .starts_with(b"log full: size 17 need ")
+    );
+    Ok(())
+}
+
+#[test]
+fn a_clash_is_answered_by_a_single_round(rt: HostRuntime) -> Result<(), Fail> {
+    let alloc = rt.alloc();
+    let disks = disks_with(alloc, 0, b"", &[])?;
+    let finished = served_with(&rt, alloc, &["run"], TWO, disks)?;
+    assert!(rt; finished.ran.status == 0);
+    let printed = parts_of(alloc, finished.sink.written())?;
+    for line in [
+        b"begin c0 1 multi".as_slice(),
+        b"begin c0 2 single",
+        b"take c0 0",
+    ] {
+        assert!(rt; count(&printed.trace, line) == 1);
+    }
+    let lines: [&[u8]; 3] = [
+        b" learned 2: p0.1 p0.2",
+        b" state: a=2",
+        b" replies: p0.1=ok p0.2=ok",
+    ];
+    assert!(rt; shows(alloc, &printed.report, b"l0", &lines)?);
+    Ok(())
+}
+
+// The calls of a disk are those that make the log, a cut, a write and a sync, and then those of the first entry,
+// the first of which is the second write.
+#[test]
+fn a_coordinator_that_falls_is_settled(rt: HostRuntime) -> Result<(), Fail> {
+    let alloc = rt.alloc();
+    let disks = disks_with(alloc, 7, b"", &[3])?;
+    let finished = served_with(&rt, alloc, &["run"], EIGHT, disks)?;
+    assert!(rt; finished.ran.status == 0);
+    let printed = parts_of(alloc, finished.sink.written())?;
+    assert!(rt; count(&printed.trace, b"fall c0") == 1);
+    assert!(rt; count(&printed.trace, b"begin c0 1 single") == 1);
+    assert!(rt; show_eight(alloc, &printed.report)?);
+    Ok(())
+}
+
+#[test]
+fn a_disk_that_fails_while_its_log_is_made_ends_the_run(rt: HostRuntime) -> Result<(), Fail> {
+    let alloc = rt.alloc();
+    let disks = disks_with(alloc, 0, b"", &[0])?;
+    let finished = served_with(&rt, alloc, &["run"], EIGHT, disks)?;
+    assert!(rt; finished.ran.status == 6);
+    assert!(rt; !is_posted(&finished.ran));
+    assert!(rt; finished.ran.trail.records().is_empty());
+    assert!(rt; finished.sink.written() == b"disk fault\n".as_slice());
+    Ok(())
+}
+
+#[test]
+fn a_script_of_run_has_offers_alone(rt: HostRuntime) -> Result<(), Fail> {
+    let alloc = rt.alloc();
+    let disks = disks_with(alloc, 0, b"", &[])?;
+    let script = b"nodes 3 1 1\nbegin c0 1 single\n";
+    let finished = served_with(&rt, alloc, &["run", "64"], script, disks)?;
+    assert!(rt; finished.ran.status == 3);
+    assert!(rt; !is_posted(&finished.ran));
+    assert!(rt; finished.sink.written() == b"line 2: bad line\n".as_slice());
+    Ok(())
+}
