@@ -2,6 +2,7 @@ pub mod Machines
 pub mod Causes
 pub mod NodesCauses
 pub mod Told
+pub mod ScriptOrder
 pub mod NodesStatuses
 pub mod Statuses
 pub mod Arguments

@@ -30,9 +30,10 @@ use Rattle.gp_cli.specs.Logs.{TellsEnding}
 use Rattle.gp_cli.specs.Serving.{IsConfig, IsListOf, Ends, HoldsScript, HoldsBadLine, PlaysWhole, StopsAtLine, Prints, PrintsDriven, PrintsSimulated}
 use Rattle.gp_cli.specs.LogRuns.{HoldsLog, HoldsRoomyLog, HoldsFullLog, HoldsNoLog, ShowsLog, ShowsTakenOn, HasNoSpace, IsBrokenAt}
 use Rattle.gp_cli.specs.Run.{SomeFailed, HasReadOffers}
-use Rattle.gp_cli.specs.NodesRuns.{RefusesOffers, FillsLog, LosesLog, PrintsNodes, HoldsOffers, HoldsBadOffers, HasRoomForNext, OffersAll, DiskFailed}
+use Rattle.gp_cli.specs.NodesRuns.{RefusesOffers, FillsLog, LosesLog, PrintsNodes, HoldsOffers, HoldsBadOffers, HasRoomForNext, OffersAll, AllCommute, RunsInScriptOrder, DiskFailed}
 use Rattle.gp_cli.proofs.Causes.{read_legal}
 use Rattle.gp_cli.proofs.NodesStatuses.{nodes_offered, nodes_left, ran_to_fault, fills_log, breaks_log, changes_log, prints_nodes, nodes_complete, nodes_refuse}
+use Rattle.gp_cli.proofs.ScriptOrder.{in_script_order}
 use Rattle.gp_cli.proofs.Told.{no_records, nothing_left, same_status, one_status, starved_status, done, own_status, sink_failed, no_run_status, never_five}
 
 -- after a whole script nothing is left
@@ -640,3 +641,9 @@ module _ (words : List (List ℕ)) (before now : Outside) (status : ℕ) (trail 
 
   pub offers_read : (limit : ℕ) → named words ≡ Some (Run limit) → status ≢ 1 → status ≢ 3 → status ≢ 4 → IfSome now.source.bytes (λ rest. rest ≡ [])
   offers_read limit is no_one no_three no_four = nodes_left before now status trail limit ends.ending (by_name (Some (Run limit)) is) ends.told no_one no_three no_four
+
+  pub script_order : (limit : ℕ) → named words ≡ Some (Run limit) → status ≡ 0 → (offers : Offers) × OffersAll before now trail offers × (AllCommute offers.list → RunsInScriptOrder offers trail)
+  script_order limit is none_failed =
+      let printed = nodes_printed limit is none_failed in
+      let learned = printed.learned in
+      (printed.offers, printed.whole, λ commute. in_script_order before now trail printed.offers printed.whole learned.all commute)

@@ -1,5 +1,14 @@
 -- What the statuses say of runs of nodes in threads.
-use Rattle.std.specs.Prelude.{◌≡◌, ◌⊎◌, ℕ, List, [], take, Option, Some, None}
+use Rattle.std.specs.Prelude.{◌≡◌, ◌⊎◌, ◌<◌, ℕ, false, List, [], take, Option, Some, None}
+use Rattle.std.specs.List.{Contains}
+use Rattle.std.specs.Map.{lookup}
+use Rattle.gp_command.specs.declared.command.Command.{Command}
+use Rattle.gp_command.specs.declared.command.CommandId.{CommandId}
+use Rattle.gp_command.specs.Conflict.{conflict}
+use Rattle.gp_replica.specs.Machines.{state_of, state_after, reply_of, replies_to, is_named}
+use Rattle.gp_store.specs.Effects.{store_rules}
+use Rattle.gp_run.specs.Learned.{learned_at}
+use Rattle.gp_held.specs.Offers.{commands_of}
 use Rattle.gp_round.specs.Counts.{Counts}
 use Rattle.gp_msg.specs.declared.record.Record.{Record}
 use Rattle.gp_run.specs.Runs.{entries_in}
@@ -7,7 +16,7 @@ use Rattle.gp_edge.specs.Faults.{Rose}
 use Rattle.gp_edge.specs.Writes.{AppendsWhole}
 use Rattle.gp_script.specs.declared.reason.Reason.{Reason}
 use Rattle.gp_offers.specs.declared.script.Offers.{Offers}
-use Rattle.gp_offers.specs.Offering.{Offered, RefusedAt, offers_reading}
+use Rattle.gp_offers.specs.Offering.{Offer, Offered, RefusedAt, offers_reading}
 use Rattle.gp_offers.specs.Offered.{AreOffered}
 use Rattle.gp_cluster.specs.Runs.{IsRunOf, IsOverLimit}
 use Rattle.gp_retelling.specs.Texts.{run_text}
@@ -43,6 +52,15 @@ pub record PrintsNodes (limit : ℕ) (before now : Outside) (trail : List Record
   pub learned : HasLearned limit before.disks now.disks offers trail
   pub steady : now.sink.faults ≡ before.sink.faults
   pub written : AppendsWhole before.sink.bytes now.sink.bytes (run_text offers.config trail)
+
+-- no two of the commands that the offers make conflict
+abbrev pub AllCommute : List Offer → Type 0
+AllCommute offers = (c d : Command) → Contains (commands_of offers) c → Contains (commands_of offers) d → conflict c d ≡ false
+
+-- the key store of each learner is in the state, and gave to each command the reply, of one that ran the offers in the order of the script
+pub record RunsInScriptOrder (offers : Offers) (trail : List Record) : Type 0 where
+  pub state : (l : ℕ) → l < offers.config.learners → state_of store_rules (learned_at offers.config l (entries_in trail)) ≡ state_after store_rules (commands_of offers.list)
+  pub replies : (l : ℕ) → l < offers.config.learners → (id : CommandId) → reply_of store_rules (learned_at offers.config l (entries_in trail)) id ≡ lookup (is_named id) (replies_to store_rules (commands_of offers.list))
 
 -- `run` was to read a script, a line of which is refused, as was told; no node ran
 pub record RefusesOffers (words : List (List ℕ)) (before now : Outside) (status : ℕ) (trail : List Record) : Type 0 where

@@ -11,7 +11,7 @@ ghost use Rattle.gp_cli.specs.Causes.{IsCause, seen_at, driven_config, disk_used
 ghost use Rattle.gp_cli.specs.Serving.{Ends, HoldsScript, HoldsBadLine, PlaysWhole, StopsAtLine, PrintsDriven, PrintsSimulated};
 ghost use Rattle.gp_cli.specs.LogRuns.{HoldsLog, HoldsRoomyLog, HoldsFullLog, HoldsNoLog, ShowsLog, ShowsTakenOn, HasNoSpace, IsBrokenAt};
 ghost use Rattle.gp_cli.specs.Run.{SomeFailed};
-ghost use Rattle.gp_cli.specs.NodesRuns.{HoldsOffers, HoldsBadOffers, HasRoomForNext, OffersAll, PrintsNodes, RefusesOffers, FillsLog, LosesLog, DiskFailed};
+ghost use Rattle.gp_cli.specs.NodesRuns.{HoldsOffers, HoldsBadOffers, HasRoomForNext, AllCommute, RunsInScriptOrder, OffersAll, PrintsNodes, RefusesOffers, FillsLog, LosesLog, DiskFailed};
 ghost use Rattle.gp_cli.specs.Program.{Arguments, AreWords, IsProgramCause};
 
 /// With status 0 a script, of the key store for `play` and of accounts for `bank`, was read to its end and
@@ -56,6 +56,14 @@ pub fn nodes_run_until_all_is_learned()
         → named words ≡ Some (Run limit) → (trail ≡ []) ⊎ ((offers : Offers) × OffersAll before now trail offers) }
     ensures read_to_end { (words : List (List ℕ)) (before now : Outside) (status : ℕ) (trail : List Record) → Ends (IsCause words) before now status trail → (limit : ℕ)
         → named words ≡ Some (Run limit) → status ≢ 1 → status ≢ 3 → status ≢ 4 → IfSome now.source.bytes (λ rest. rest ≡ []) }
+{}
+
+/// If no two of the commands that a script of `run` offers conflict, then with status 0 the key store of each
+/// learner is in the state, and gave to each command the reply, of one that ran the offers in the order of the
+/// script.
+pub fn commands_that_commute_run_as_in_the_script()
+    ensures { (words : List (List ℕ)) (before now : Outside) (status : ℕ) (trail : List Record) → Ends (IsCause words) before now status trail → (limit : ℕ) → named words ≡ Some (Run limit)
+        → status ≡ 0 → (offers : Offers) × OffersAll before now trail offers × (AllCommute offers.list → RunsInScriptOrder offers trail) }
 {}
 
 /// `drive` and `sim` end with status 0 or 5, or because memory ran out; without a fault of the sink they do
