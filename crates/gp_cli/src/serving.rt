@@ -97,8 +97,8 @@ fn use_log<D: Disk, K: Sink>(
 /// accounts, and its report has the totals of each learner's accounts. `run` reads a script of offers, makes
 /// new logs on the disks of the nodes of its configuration, and runs the nodes in threads until each learner
 /// holds each offered command. It prints the trace of what they posted, a line `--` and the report, or why
-/// they ended before. Each step of a node calls the gate. `sim` makes the workload of a seed, settles it, and
-/// prints a summary. `drive` drives commands one by one in a multi round of which one coordinator takes no
+/// they ended before. The gate is for their steps; no contract speaks of it. `sim` makes the workload of a
+/// seed, settles it, and prints a summary. `drive` drives commands one by one in a multi round of which one coordinator takes no
 /// part, and prints the report. `log` prints the entries of the log of a disk, and changes no byte of it;
 /// `upgrade` does the same after it has renewed a log with entries of version 1 of the format. Words that
 /// name no subcommand get the usage. What each exit status says is in `laws`.
