@@ -6,6 +6,8 @@ mod accounts;
 #[cfg(test)]
 mod driven_runs;
 #[cfg(test)]
+mod failing_disks;
+#[cfg(test)]
 mod logs;
 #[cfg(test)]
 mod nodes;
@@ -13,6 +15,8 @@ mod nodes;
 mod simulated_runs;
 #[cfg(test)]
 mod stage;
+#[cfg(test)]
+mod steps_at_once;
 #[cfg(test)]
 mod upgrades;
 #[cfg(test)]

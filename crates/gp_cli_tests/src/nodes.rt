@@ -7,8 +7,8 @@ use std::sync::Wait;
 use std::test::Fail;
 use std::thread::Threads;
 
-// Eight commands of which no two conflict.
-const EIGHT: &[u8] =
+/// Eight commands of which no two conflict.
+pub const EIGHT: &[u8] =
     b"nodes 3 3 2\noffer p0 put a 1\noffer p1 add b 2\noffer p2 add b 3\noffer p3 get z\noffer p4 put c 4\noffer p5 del d\noffer p6 cas e 1 2\noffer p7 copy f g\n";
 
 // What each learner of these shows, behind its name.
@@ -21,15 +21,18 @@ const EIGHT_LEARNED: [&[u8]; 3] = [
 // Two commands that conflict, which a coordinator with an odd number takes in the other order.
 const TWO: &[u8] = b"nodes 3 2 1\noffer p0 put a 1\noffer p0 put a 2\n";
 
-// What a run of nodes printed before and after the line `--`.
+// A checkpoint between two commands that conflict.
+const CHECKPOINT: &[u8] = b"nodes 3 3 2\noffer p0 put a 1\noffer p0 checkpoint\noffer p0 add a 2\n";
+
+/// What a run of nodes printed before and after the line `--`.
 #[derive(Drop)]
-struct Printed {
-    trace: Vec<u8>,
-    report: Vec<u8>,
+pub struct Printed {
+    pub trace: Vec<u8>,
+    pub report: Vec<u8>,
 }
 
-// The lines before and after the line `--`.
-fn parts_of(alloc: Global, text: &[u8]) -> Result<Printed, Fail> {
+/// The lines before and after the line `--`.
+pub fn parts_of(alloc: Global, text: &[u8]) -> Result<Printed, Fail> {
     let mut trace = Vec::new(alloc);
     let mut report = Vec::new(alloc);
     let mut behind = false;
@@ -48,8 +51,8 @@ fn parts_of(alloc: Global, text: &[u8]) -> Result<Printed, Fail> {
     Ok(Printed { trace, report })
 }
 
-// How many lines of a text are this one.
-fn count(text: &[u8], wanted: &[u8]) -> usize {
+/// How many lines of a text are this one.
+pub fn count(text: &[u8], wanted: &[u8]) -> usize {
     text.split(|byte| *byte == b'\n')
         .filter(|line| **line == *wanted)
         .count()
@@ -80,8 +83,8 @@ fn show_eight(alloc: Global, report: &[u8]) -> Result<bool, Fail> {
     Ok(shows(alloc, report, b"l0", &EIGHT_LEARNED)? && shows(alloc, report, b"l1", &EIGHT_LEARNED)?)
 }
 
-// Whether `play` prints the report of a run from its trace.
-fn plays_again<W: Threads + Wait + Sync>(
+/// Whether `play` prints the report of a run from its trace.
+pub fn plays_again<W: Threads + Wait + Sync>(
     rt: &W,
     alloc: Global,
     printed: &Printed,
@@ -140,6 +143,24 @@ fn a_clash_is_answered_by_a_single_round(rt: HostRuntime) -> Result<(), Fail> {
         b" replies: p0.1=ok p0.2=ok",
     ];
     assert!(rt; shows(alloc, &printed.report, b"l0", &lines)?);
+    Ok(())
+}
+
+#[test]
+fn a_checkpoint_is_learned_between_the_others(rt: HostRuntime) -> Result<(), Fail> {
+    let alloc = rt.alloc();
+    let disks = disks_with(alloc, 0, b"", &[])?;
+    let finished = served_with(&rt, alloc, &["run"], CHECKPOINT, disks)?;
+    assert!(rt; finished.ran.status == 0);
+    let printed = parts_of(alloc, finished.sink.written())?;
+    let lines: [&[u8]; 3] = [
+        b" learned 3: p0.1 p0.2 p0.3",
+        b" state: a=3",
+        b" replies: p0.1=ok p0.2=ok p0.3=ok",
+    ];
+    assert!(rt; shows(alloc, &printed.report, b"l0", &lines)?);
+    assert!(rt; shows(alloc, &printed.report, b"l1", &lines)?);
+    assert!(rt; plays_again(&rt, alloc, &printed)?);
     Ok(())
 }
 

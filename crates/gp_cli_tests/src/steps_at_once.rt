@@ -1,0 +1,82 @@
+//! Steps of two nodes at one time.
+use crate::nodes::EIGHT;
+use crate::stage::{disks_with, owned};
+use gp_cli::serve;
+use gp_edge::{CalmSink, CalmSource, Gate};
+use gp_msg::Node;
+use std::sync::atomic::{AtomicU64, Ordering};
+use std::test::Fail;
+use std::thread;
+
+// How often a step looks whether the other one has come.
+const LOOKS: u32 = 1_000_000;
+
+// Whether a step has come, and whether it has seen that the other one has.
+#[derive(Drop)]
+struct Visitor {
+    came: AtomicU64,
+    met: AtomicU64,
+}
+
+impl Visitor {
+    fn new() -> Visitor {
+        Visitor {
+            came: AtomicU64::new(0),
+            met: AtomicU64::new(0),
+        }
+    }
+
+    // The first step looks for the other one, and yields between looks.
+    fn look_for(&self, other: &Visitor) {
+        if self.came.swap(1, Ordering::SeqCst) == 1 {
+            return;
+        }
+        for _ in 0..LOOKS {
+            if other.came.load(Ordering::SeqCst) == 1 {
+                self.met.store(1, Ordering::SeqCst);
+                return;
+            }
+            thread::yield_now();
+        }
+    }
+
+    fn has_met(&self) -> bool {
+        self.met.load(Ordering::SeqCst) == 1
+    }
+}
+
+// A gate at which acceptors 0 and 1 look for each other in their first steps.
+#[derive(Drop)]
+struct Meeting {
+    first: Visitor,
+    second: Visitor,
+}
+
+impl Gate for Meeting {
+    fn at(&self, node: Node, _turn: u64) {
+        match node {
+            Node::Acceptor(0) => self.first.look_for(&self.second),
+            Node::Acceptor(1) => self.second.look_for(&self.first),
+            _ => {}
+        }
+    }
+}
+
+// A run that handles one node after another, or holds a lock round whole steps, lets only one of them see the other.
+#[test]
+fn two_steps_at_once(rt: HostRuntime) -> Result<(), Fail> {
+    let alloc = rt.alloc();
+    let gate = Meeting {
+        first: Visitor::new(),
+        second: Visitor::new(),
+    };
+    let mut source = CalmSource::new(alloc, EIGHT)?;
+    let mut sink = CalmSink::new(alloc)?;
+    let words = owned(alloc, &["run"])?;
+    let disks = disks_with(alloc, 0, b"", &[])?;
+    let ran = serve(&rt, alloc, &words, &mut source, &mut sink, disks, &gate);
+    assert!(rt; ran.status == 0);
+    assert!(rt; gate.first.has_met());
+    assert!(rt; gate.second.has_met());
+    Ok(())
+}
