@@ -10,6 +10,8 @@ mod failing_disks;
 #[cfg(test)]
 mod logs;
 #[cfg(test)]
+mod many_runs;
+#[cfg(test)]
 mod nodes;
 #[cfg(test)]
 mod simulated_runs;
