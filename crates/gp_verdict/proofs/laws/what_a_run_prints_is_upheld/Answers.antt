@@ -1,0 +1,8 @@
+use Rattle.gp_verdict.proofs.PrintedRuns.{run_upheld, run_audited}
+use Rattle.gp_verdict.proofs.laws.what_a_run_prints_is_upheld.Goals as goal
+
+pub returns-clause-upheld : goal.returns-clause-upheld
+returns-clause-upheld c = run_upheld
+
+pub returns-clause-audited : goal.returns-clause-audited
+returns-clause-audited c = run_audited

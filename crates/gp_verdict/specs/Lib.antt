@@ -1,0 +1,5 @@
+pub mod Parts
+pub mod Verdicts
+pub mod Answers
+pub mod Certified
+pub mod Printed

@@ -1,0 +1,44 @@
+-- The parts of what a run prints: the lines of a trace, a line `--`, and the lines of a report.
+use Rattle.std.specs.Prelude.{ℕ, ◌+◌, Bool, false, ◌||◌, List, [], ◌∷◌, length, map, Option, Some, None, if◌then◌else◌, codes}
+use Rattle.std.specs.Str.{bytes_eq}
+use Rattle.gp_words.specs.Lines.{text_of}
+use Rattle.gp_words.specs.Tokens.{tokens_of}
+use Rattle.gp_text.specs.Reading.{holds_limit}
+
+-- the texts of some lines
+abbrev pub texts_of : List (List ℕ) → List (List ℕ)
+texts_of lines = map text_of lines
+
+-- the text of the line between a trace and a report
+abbrev pub is_divider : List ℕ → Bool
+is_divider text = bytes_eq text (codes "--")
+
+abbrev pub is_show : List (List ℕ) → Bool
+is_show [] = false
+is_show (word ∷ words) = bytes_eq word (codes "show")
+
+-- a line with this text is no line of a trace: it is the divider, or it shows something
+abbrev pub ends_trace : List ℕ → Bool
+ends_trace text = is_divider text || is_show (tokens_of text)
+
+-- the lines before the first that is no line of a trace
+unfoldable pub trace_lines : List (List ℕ) → List (List ℕ)
+trace_lines [] = []
+trace_lines (line ∷ lines) = if ends_trace (text_of line) then [] else line ∷ trace_lines lines
+
+-- that line and the lines after it
+unfoldable pub after_trace : List (List ℕ) → List (List ℕ)
+after_trace [] = []
+after_trace (line ∷ lines) = if ends_trace (text_of line) then line ∷ lines else after_trace lines
+
+-- the lines, from this place of the input on, before the first that holds the byte after the most bytes of a script
+unfoldable pub short_lines : ℕ → List (List ℕ) → List (List ℕ)
+short_lines place [] = []
+short_lines place (line ∷ lines) = if holds_limit place line then [] else line ∷ short_lines (place + length line) lines
+
+-- the number of the first text that differs from the one beside it, or that has none beside it; the first ones have this number
+unfoldable pub first_difference : ℕ → List (List ℕ) → List (List ℕ) → Option ℕ
+first_difference number [] [] = None
+first_difference number [] (text ∷ texts) = Some number
+first_difference number (text ∷ texts) [] = Some number
+first_difference number (text ∷ texts) (other ∷ others) = if bytes_eq text other then first_difference (number + 1) texts others else Some number

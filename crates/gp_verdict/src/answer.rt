@@ -1,0 +1,59 @@
+//! What an audit answers.
+ghost use Rattle.std.specs.Prelude.{◌≡◌};
+ghost use Rattle.gp_verdict.specs.Answers.{unaudited_of};
+
+use crate::reason::AuditReason;
+use gp_command::NoMemory;
+use gp_msg::Records;
+use gp_text::Unplayed;
+use gp_world::World;
+
+/// What an upheld run led to: the world after its events, and the text with its certificates.
+#[derive(Drop)]
+pub struct Audited {
+    pub world: World,
+    pub text: Vec<u8>,
+}
+
+/// Why an input is not upheld.
+#[derive(Drop)]
+pub enum Unaudited {
+    /// A line, numbered from 1, is the first that is refused; the records are those of the events of
+    /// the trace before it.
+    Bad {
+        line: u64,
+        reason: AuditReason,
+        records: Records,
+    },
+    /// Memory ran out.
+    NoMemory,
+}
+
+impl From<Unplayed> for Unaudited {
+    ghost from_gives = { λ refused e. e ≡ unaudited_of refused };
+
+    fn from(refused: Unplayed) -> Unaudited {
+        match refused {
+            Unplayed::NoMemory => Unaudited::NoMemory,
+            Unplayed::Bad {
+                line,
+                reason,
+                records,
+            } => Unaudited::Bad {
+                line,
+                reason: AuditReason::Script(reason),
+                records,
+            },
+        }
+    }
+}
+
+impl From<NoMemory> for Unaudited {
+    ghost use Rattle.gp_verdict.specs.declared.answer.Unaudited.TheVariants as unaudited;
+
+    ghost from_gives = { λ _ e. e ≡ unaudited.NoMemory };
+
+    fn from(_refused: NoMemory) -> Unaudited {
+        Unaudited::NoMemory
+    }
+}

@@ -1,0 +1,29 @@
+//! The audit.
+ghost use Rattle.std.specs.Prelude.{◌≡◌, IfOk};
+ghost use Rattle.gp_world.specs.State.{entries_of};
+ghost use Rattle.gp_report.specs.Replicas.{IsInAgreement};
+ghost use Rattle.gp_verdict.specs.Verdicts.{verdict, RulesLegally};
+ghost use Rattle.gp_verdict.specs.Answers.{Audits};
+
+use crate::answer::{Audited, Unaudited};
+use crate::certificates::certificates;
+use crate::judging::judge;
+use std::alloc::Global;
+
+/// Audits what a run printed: the lines of a trace, a line `--`, and the lines of a report.
+///
+/// The trace is read as a script of the key store without `show` lines. If it is a legal run and the report
+/// is that of this run, the text is the word `legal` and then, for each learner and each of its commands in
+/// canonical order, a line with the certificate of the command. Otherwise the first line that is not in
+/// order is refused, with the first reason in the order of `AuditReason`.
+pub fn audit(alloc: Global, bytes: &[u8]) -> Result<Audited, Unaudited>
+    ensures audits { Audits (verdict bytes.now) result }
+    ensures agreement { IfOk result (λ audited. IsInAgreement audited.world.config (entries_of audited.world)) }
+
+    // What the trace says, whole or up to the first refused line, is a legal run of its configuration and in agreement.
+    ensures legal { RulesLegally (verdict bytes.now) }
+{
+    let world = judge(alloc, bytes)?;
+    let text = certificates(alloc, &world)?;
+    Ok(Audited { world, text })
+}

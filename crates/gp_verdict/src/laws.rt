@@ -1,0 +1,31 @@
+//! Laws of the audit. Each function does nothing, and its contract is the law.
+ghost use Rattle.std.specs.Prelude.{◌≡◌, ◌≤◌, ◌↔◌, ℕ, List, length, Result, MatchResult};
+ghost use Rattle.gp_round.specs.Counts.{Counts};
+ghost use Rattle.gp_round.specs.Ranges.{AreInRange};
+ghost use Rattle.gp_msg.specs.declared.event.Event.{Event};
+ghost use Rattle.gp_msg.specs.Messages.{Entry};
+ghost use Rattle.gp_run.specs.Legal.{Legal};
+ghost use Rattle.gp_run.specs.Runs.{events_of};
+ghost use Rattle.gp_service.specs.Stores.{store_language};
+ghost use Rattle.gp_text.specs.Limits.{IsWithinScript};
+ghost use Rattle.gp_verdict.specs.declared.answer.Audited.{Audited};
+ghost use Rattle.gp_verdict.specs.declared.answer.Unaudited.{Unaudited};
+ghost use Rattle.gp_verdict.specs.declared.answer.Unaudited.TheVariants.{NoMemory};
+ghost use Rattle.gp_verdict.specs.Verdicts.{Upheld, verdict};
+ghost use Rattle.gp_verdict.specs.Answers.{Audits};
+ghost use Rattle.gp_verdict.specs.Printed.{printed, IsPrinted, IsAuditedRun};
+
+use gp_text::MOST_BYTES;
+
+/// The inputs that are upheld are just those that a run prints: a script of the key store that shows nothing, a
+/// line `--`, and the lines of the report of the script's run. The last line may lack its line feed.
+pub fn the_upheld_is_what_a_run_prints()
+    ensures { (bytes : List ℕ) (config : Counts) (events : List Event) → (verdict bytes ≡ Upheld config events) ↔ IsPrinted bytes config events }
+{}
+
+/// What a legal run prints that a script can say is upheld, if it has at most 1,048,576 bytes. Audited, it gives
+/// that run and its certificates, unless memory runs out.
+pub fn what_a_run_prints_is_upheld()
+    ensures upheld { (config : Counts) (run : List Entry) → AreInRange config.acceptors config.coordinators config.learners → Legal config run → IsWithinScript store_language (events_of run) → length (printed config run) ≤ MOST_BYTES → verdict (printed config run) ≡ Upheld config (events_of run) }
+    ensures audited { (config : Counts) (run : List Entry) (result : Result Audited Unaudited) → AreInRange config.acceptors config.coordinators config.learners → Legal config run → IsWithinScript store_language (events_of run) → length (printed config run) ≤ MOST_BYTES → Audits (verdict (printed config run)) result → MatchResult result (IsAuditedRun config run) (λ e. e ≡ NoMemory) }
+{}

@@ -1,0 +1,16 @@
+//! The audit of what a run printed: whether its trace is a legal run and its report that of this run.
+#![tactic(auto)]
+
+mod answer;
+mod auditing;
+mod certificates;
+mod judging;
+pub mod laws;
+mod parts;
+mod reason;
+mod reports;
+
+pub use answer::{Audited, Unaudited};
+pub use auditing::audit;
+pub use gp_script::Reason;
+pub use reason::AuditReason;

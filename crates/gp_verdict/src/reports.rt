@@ -1,0 +1,36 @@
+//! The lines of a report against those that were printed.
+ghost use Rattle.std.specs.Prelude.{◌≡◌, ◌<◌, ◌+◌, ◌^◌, length};
+ghost use Rattle.gp_words.specs.Lines.{lines_of};
+ghost use Rattle.gp_verdict.specs.Parts.{texts_of, first_difference};
+
+use gp_words::{first_line, text_of};
+
+/// The number of the first line of a text that differs from the one in its place of another text, or that
+/// stands where the other one has none, or that is missing where the other one has a line. The first line
+/// has this number.
+pub fn first_difference(number: u64, printed: &[u8], wanted: &[u8]) -> Option<u64>
+    requires { number + length printed.now < 2 ^ 63 }
+    ensures { result ≡ first_difference number (texts_of (lines_of printed.now)) (texts_of (lines_of wanted.now)) }
+{
+    let mut number = number;
+    let mut printed = printed;
+    let mut wanted = wanted;
+    while !printed.is_empty() {
+        let (line, after) = first_line(printed);
+        if wanted.is_empty() {
+            return Some(number);
+        }
+        let (other, more) = first_line(wanted);
+        if text_of(line) != text_of(other) {
+            return Some(number);
+        }
+        number += 1;
+        printed = after;
+        wanted = more;
+    }
+    if wanted.is_empty() {
+        None
+    } else {
+        Some(number)
+    }
+}
