@@ -1,9 +1,17 @@
 //! The lines of a report against those that were printed.
 ghost use Rattle.std.specs.Prelude.{◌≡◌, ◌<◌, ◌+◌, ◌^◌, length};
-ghost use Rattle.gp_words.specs.Lines.{lines_of};
+ghost use Rattle.std.specs.Str.{bytes_eq};
+ghost use Rattle.gp_words.specs.Lines.{lines_of, text_of};
 ghost use Rattle.gp_verdict.specs.Parts.{texts_of, first_difference};
 
 use gp_words::{first_line, text_of};
+
+// Whether two lines have the same text.
+fn are_alike(line: &[u8], other: &[u8]) -> bool
+    ensures { result ≡ bytes_eq (text_of line.now) (text_of other.now) }
+{
+    text_of(line) == text_of(other)
+}
 
 /// The number of the first line of a text that differs from the one in its place of another text, or that
 /// stands where the other one has none, or that is missing where the other one has a line. The first line
@@ -21,16 +29,15 @@ pub fn first_difference(number: u64, printed: &[u8], wanted: &[u8]) -> Option<u6
             return Some(number);
         }
         let (other, more) = first_line(wanted);
-        if text_of(line) != text_of(other) {
+        if !are_alike(line, other) {
             return Some(number);
         }
         number += 1;
         printed = after;
         wanted = more;
     }
-    if wanted.is_empty() {
-        None
-    } else {
-        Some(number)
+    match wanted {
+        [] => None,
+        [_, ..] => Some(number),
     }
 }

@@ -18,18 +18,20 @@ returns-then-is_empty c =
     let over : c.loop-printed.wanted.now ≡ [] = nil_from_length c.loop-printed.wanted.now (eqb-true _ _ (search rules)) in
     sym (wanted_over c.loop-printed.number c.loop-printed.printed.now c.loop-printed.wanted.now c.first_line.result.0.now c.first_line.result.1.now c.first_line.ensures.first over) ∙ c.loop-printed.invariant.0
 
-pub returns-then-ne : goal.returns-then-ne
-returns-then-ne c =
+pub returns-then-not-are_alike : goal.returns-then-not-are_alike
+returns-then-not-are_alike c =
     sym (lines_differ c.loop-printed.number c.loop-printed.printed.now c.loop-printed.wanted.now c.first_line.result.0.now c.first_line.result.1.now c.first_line-in-loop-printed.result.0.now c.first_line-in-loop-printed.result.1.now
     c.first_line.ensures.first c.first_line-in-loop-printed.ensures.first (search rules)) ∙ c.loop-printed.invariant.0
 
-pub returns-then-is_empty-2 : goal.returns-then-is_empty-2
-returns-then-is_empty-2 c =
+pub returns-in-empty : goal.returns-in-empty
+returns-in-empty c =
     let over : c.loop-printed.printed.now ≡ [] = nil_from_length c.loop-printed.printed.now (eqb-true _ _ (search rules)) in
-    let too : c.loop-printed.wanted.now ≡ [] = nil_from_length c.loop-printed.wanted.now (eqb-true _ _ (search rules)) in
+    let none = c.in-empty.len_below in
+    let too : c.loop-printed.wanted.now ≡ [] = nil_from_length c.loop-printed.wanted.now (omega (arith, none)) in
     sym (both_over c.loop-printed.number c.loop-printed.printed.now c.loop-printed.wanted.now over too) ∙ c.loop-printed.invariant.0
 
-pub returns-else-is_empty-2 : goal.returns-else-is_empty-2
-returns-else-is_empty-2 c =
+pub returns-in-len1-up : goal.returns-in-len1-up
+returns-in-len1-up c =
     let over : c.loop-printed.printed.now ≡ [] = nil_from_length c.loop-printed.printed.now (eqb-true _ _ (search rules)) in
-    sym (printed_over c.loop-printed.number c.loop-printed.printed.now c.loop-printed.wanted.now over (search rules)) ∙ c.loop-printed.invariant.0
+    let some = c.in-len1-up.len_at_least in
+    sym (printed_over c.loop-printed.number c.loop-printed.printed.now c.loop-printed.wanted.now over (omega (arith, some))) ∙ c.loop-printed.invariant.0
