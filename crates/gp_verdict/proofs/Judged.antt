@@ -34,7 +34,7 @@ pub no_report : (world : WorldState) (events : List Event) (number : ℕ) (rest 
 unfolding ending_verdict
 no_report world events number rest none run = record { before = said world.config events; ruled = ap (λ bs. ending_verdict world.config events number (lines_of bs)) none ∙ ap (ending_verdict world.config events number) no_lines; run = run }
 
-no_divider_at : (config : Counts) (events : List Event) (number : ℕ) (line : List ℕ) (lines : List (List ℕ)) → is_divider (text_of line) ≡ false
+pub no_divider_at : (config : Counts) (events : List Event) (number : ℕ) (line : List ℕ) (lines : List (List ℕ)) → is_divider (text_of line) ≡ false
     → ending_verdict config events number (line ∷ lines) ≡ Rejected number (reason.Script BadLine) (said config events)
 unfolding ending_verdict
 no_divider_at config events number line lines differs_there = rw differs_there refl

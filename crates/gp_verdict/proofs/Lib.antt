@@ -5,3 +5,4 @@ pub mod Judged
 pub mod Legally
 pub mod UpheldInputs
 pub mod PrintedRuns
+pub mod ReportFaults

@@ -236,3 +236,14 @@ pub parted : (lines : List (List ℕ)) (line : List ℕ) (others : List (List �
 unfolding endings trace_lines after_trace
 parted [] line others none ends = (rw ends refl, rw ends refl)
 parted (first ∷ lines) line others none ends = parted_at first lines (line ∷ others) (ends_trace (text_of first)) refl none (λ rest. parted lines line others rest ends)
+
+-- lines none of which ends a trace are the trace
+whole_at : (line : List ℕ) (lines : List (List ℕ)) (ends : Bool) → ends_trace (text_of line) ≡ ends → one_if ends + endings lines ≡ 0 → (endings lines ≡ 0 → (trace_lines lines ≡ lines) × (after_trace lines ≡ [])) → (trace_lines (line ∷ lines) ≡ line ∷ lines) × (after_trace (line ∷ lines) ≡ [])
+unfolding trace_lines after_trace
+whole_at line lines true is none ih = absurd (omega (arith, none))
+whole_at line lines false is none ih = let p = ih (omega (arith, none)) in (rw is (ap (λ (ls : List (List ℕ)). line ∷ ls) p.0), rw is p.1)
+
+pub whole_trace : (lines : List (List ℕ)) → endings lines ≡ 0 → (trace_lines lines ≡ lines) × (after_trace lines ≡ [])
+unfolding endings trace_lines after_trace
+whole_trace [] none = (refl, refl)
+whole_trace (line ∷ lines) none = whole_at line lines (ends_trace (text_of line)) refl none (whole_trace lines)

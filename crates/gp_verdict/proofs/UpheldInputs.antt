@@ -20,7 +20,7 @@ use Rattle.gp_verdict.proofs.Judged.{verdict_parts, verdict_short, divider_at}
 
 -- ---- what is printed is upheld
 
-divider_ends : (text : List ℕ) → text ≡ codes "--" → (is_divider text ≡ true) × (ends_trace text ≡ true)
+pub divider_ends : (text : List ℕ) → text ≡ codes "--" → (is_divider text ≡ true) × (ends_trace text ≡ true)
 divider_ends text is = subst (λ (t : List ℕ). (is_divider t ≡ true) × (ends_trace t ≡ true)) (sym is) (refl, refl)
 
 pub printed_upheld : (bytes : List ℕ) (config : Counts) (events : List Event) → IsPrinted bytes config events → verdict bytes ≡ Upheld config events
@@ -108,7 +108,7 @@ unfolding trace_lines after_trace
 trace_parts_at line lines true is ih = rw is refl
 trace_parts_at line lines false is ih = rw is (ap (λ (ls : List (List ℕ)). line ∷ ls) ih)
 
-trace_parts : (lines : List (List ℕ)) → lines ≡ trace_lines lines ++ after_trace lines
+pub trace_parts : (lines : List (List ℕ)) → lines ≡ trace_lines lines ++ after_trace lines
 unfolding trace_lines after_trace
 trace_parts [] = refl
 trace_parts (line ∷ lines) = trace_parts_at line lines (ends_trace (text_of line)) refl (trace_parts lines)

@@ -1,5 +1,5 @@
 -- The parts of what a run prints: the lines of a trace, a line `--`, and the lines of a report.
-use Rattle.std.specs.Prelude.{ℕ, ◌+◌, Bool, false, ◌||◌, List, [], ◌∷◌, length, map, Option, Some, None, if◌then◌else◌, codes}
+use Rattle.std.specs.Prelude.{◌≡◌, ◌≢◌, ℕ, ◌+◌, Bool, false, ◌||◌, List, [], ◌∷◌, ◌++◌, length, map, Option, Some, None, if◌then◌else◌, codes}
 use Rattle.std.specs.Str.{bytes_eq}
 use Rattle.gp_words.specs.Lines.{text_of}
 use Rattle.gp_words.specs.Tokens.{tokens_of}
@@ -42,3 +42,20 @@ first_difference number [] [] = None
 first_difference number [] (text ∷ texts) = Some number
 first_difference number (text ∷ texts) [] = Some number
 first_difference number (text ∷ texts) (other ∷ others) = if bytes_eq text other then first_difference (number + 1) texts others else Some number
+
+-- the first of these texts differ, or one of the lists has none
+abbrev pub Differ : List (List ℕ) → List (List ℕ) → Type 0
+Differ [] [] = ⊥
+Differ [] (text ∷ texts) = Unit {0}
+Differ (text ∷ texts) [] = Unit {0}
+Differ (text ∷ texts) (other ∷ others) = text ≢ other
+
+-- the texts are the same up to the one with this number, where they differ; the first ones have the number before it
+pub record PartAt (number : ℕ) (texts others : List (List ℕ)) (place : ℕ) : Type 0 where
+  pub common : List (List ℕ)
+  pub left : List (List ℕ)
+  pub right : List (List ℕ)
+  pub texts_are : texts ≡ common ++ left
+  pub others_are : others ≡ common ++ right
+  pub place_is : place ≡ number + length common
+  pub differ : Differ left right

@@ -1,19 +1,23 @@
 //! Laws of the audit. Each function does nothing, and its contract is the law.
-ghost use Rattle.std.specs.Prelude.{◌≡◌, ◌≤◌, ◌↔◌, ℕ, List, length, Result, MatchResult};
+ghost use Rattle.std.specs.Prelude.{◌≡◌, ◌≤◌, ◌↔◌, ℕ, List, length, Option, Some, None, Result, MatchResult};
 ghost use Rattle.gp_round.specs.Counts.{Counts};
 ghost use Rattle.gp_round.specs.Ranges.{AreInRange};
 ghost use Rattle.gp_msg.specs.declared.event.Event.{Event};
 ghost use Rattle.gp_msg.specs.Messages.{Entry};
 ghost use Rattle.gp_run.specs.Legal.{Legal};
 ghost use Rattle.gp_run.specs.Runs.{events_of};
+ghost use Rattle.gp_words.specs.Lines.{lines_of};
 ghost use Rattle.gp_service.specs.Stores.{store_language};
+ghost use Rattle.gp_text.specs.Reading.{Script};
 ghost use Rattle.gp_text.specs.Limits.{IsWithinScript};
 ghost use Rattle.gp_verdict.specs.declared.answer.Audited.{Audited};
 ghost use Rattle.gp_verdict.specs.declared.answer.Unaudited.{Unaudited};
 ghost use Rattle.gp_verdict.specs.declared.answer.Unaudited.TheVariants.{NoMemory};
-ghost use Rattle.gp_verdict.specs.Verdicts.{Upheld, verdict};
+ghost use Rattle.gp_verdict.specs.declared.reason.AuditReason.TheVariants as reason;
+ghost use Rattle.gp_verdict.specs.Parts.{first_difference, PartAt};
+ghost use Rattle.gp_verdict.specs.Verdicts.{Upheld, Rejected, verdict};
 ghost use Rattle.gp_verdict.specs.Answers.{Audits};
-ghost use Rattle.gp_verdict.specs.Printed.{printed, IsPrinted, IsAuditedRun};
+ghost use Rattle.gp_verdict.specs.Printed.{printed, IsPrinted, LacksReport, HasWrongReport, IsAuditedRun};
 
 use gp_text::MOST_BYTES;
 
@@ -21,6 +25,20 @@ use gp_text::MOST_BYTES;
 /// line `--`, and the lines of the report of the script's run. The last line may lack its line feed.
 pub fn the_upheld_is_what_a_run_prints()
     ensures { (bytes : List ℕ) (config : Counts) (events : List Event) → (verdict bytes ≡ Upheld config events) ↔ IsPrinted bytes config events }
+{}
+
+/// An input of at most 1,048,576 bytes has no report exactly if it is a script that shows nothing: the line after the
+/// last is refused. It has a wrong report exactly if it is such a script, a line `--`, and lines that are not those of
+/// the report of the script's run: the first one that differs is refused, or the line after the last if lines are missing.
+pub fn a_report_is_missing_or_wrong()
+    ensures missing { (bytes : List ℕ) (line : ℕ) (before : Option Script) → length bytes ≤ MOST_BYTES → (verdict bytes ≡ Rejected line reason.NoReport before) ↔ LacksReport (lines_of bytes) line before }
+    ensures wrong { (bytes : List ℕ) (line : ℕ) (before : Option Script) → length bytes ≤ MOST_BYTES → (verdict bytes ≡ Rejected line reason.WrongReport before) ↔ HasWrongReport (lines_of bytes) line before }
+{}
+
+/// Texts have no first difference exactly if they are the same, and else it is where they part.
+pub fn the_first_difference_is_where_texts_part()
+    ensures none { (number : ℕ) (texts others : List (List ℕ)) → (first_difference number texts others ≡ None) ↔ (texts ≡ others) }
+    ensures some { (number place : ℕ) (texts others : List (List ℕ)) → (first_difference number texts others ≡ Some place) ↔ PartAt number texts others place }
 {}
 
 /// What a legal run prints that a script can say is upheld, if it has at most 1,048,576 bytes. Audited, it gives
