@@ -4,5 +4,10 @@ pub mod Shown
 pub mod Judged
 pub mod Legally
 pub mod UpheldInputs
-pub mod PrintedRuns
 pub mod ReportFaults
+pub mod TraceSizes
+pub mod OfferCounts
+pub mod StoreSizes
+pub mod ReportSizes
+pub mod PrintedSizes
+pub mod PrintedRuns

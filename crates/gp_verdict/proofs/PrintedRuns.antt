@@ -1,5 +1,5 @@
 -- What a run prints is upheld.
-use Rattle.std.proofs.Common.{◌≡◌, ℕ, ◌≤◌, Bool, true, false, List, [], ◌∷◌, ◌++◌, length, Result, Ok, Err, refl, sym, ap, subst, ◌∙◌, append_assoc}
+use Rattle.std.proofs.Common.{◌≡◌, ℕ, Bool, true, false, List, [], ◌∷◌, ◌++◌, Result, Ok, Err, refl, sym, ap, subst, ◌∙◌, append_assoc}
 use Rattle.std.specs.Prelude.{codes, MatchResult}
 use Rattle.std.specs.List.{flat_map, onto_first}
 use Rattle.std.proofs.lemmas.List.{append-nil}
@@ -16,7 +16,6 @@ use Rattle.gp_service.specs.Stores.{store_language}
 use Rattle.gp_service.specs.StoreLaws.{store_spelled}
 use Rattle.gp_script.specs.Spelling.{nodes_text}
 use Rattle.gp_report.specs.Texts.{report}
-use Rattle.gp_text.specs.declared.limits.TheConstants.{MOST_BYTES}
 use Rattle.gp_text.specs.Traces.{event_line, trace}
 use Rattle.gp_text.specs.Limits.{IsWithinScript}
 use Rattle.gp_text.proofs.LineSteps.{reading_opens}
@@ -30,6 +29,7 @@ use Rattle.gp_verdict.specs.Answers.{Audits, IsAudited}
 use Rattle.gp_verdict.specs.Certified.{IsCertified}
 use Rattle.gp_verdict.specs.Printed.{printed, IsPrinted, IsAuditedRun}
 use Rattle.gp_verdict.proofs.UpheldInputs.{printed_upheld}
+use Rattle.gp_verdict.proofs.PrintedSizes.{printed_size}
 
 -- ---- a text that ends with a line feed, and another one after it
 
@@ -102,10 +102,10 @@ printed_lines config run =
     ∙ after_fed (trace config (events_of run)) (codes "--\n" ++ report config run) (trace_fed config (events_of run))
     ∙ ap (λ (ls : List (List ℕ)). lines_of (trace config (events_of run)) ++ ls) (divider_first (report config run))
 
-run_printed : (config : Counts) (run : List Entry) → AreInRange config.acceptors config.coordinators config.learners → Legal config run → IsWithinScript store_language (events_of run) → length (printed config run) ≤ MOST_BYTES
+run_printed : (config : Counts) (run : List Entry) → AreInRange config.acceptors config.coordinators config.learners → Legal config run → IsWithinScript store_language (events_of run)
     → IsPrinted (printed config run) config (events_of run)
-run_printed config run range legal within short = record {
-  short = short;
+run_printed config run range legal within = record {
+  short = printed_size config run range legal within;
   script = lines_of (trace config (events_of run));
   divider = codes "--\n";
   reported = lines_of (report config run);
@@ -115,9 +115,9 @@ run_printed config run range legal within short = record {
   reports = ap (λ es. texts_of (lines_of (report config es))) (sym (own_run config run legal));
 }
 
-pub run_upheld : (config : Counts) (run : List Entry) → AreInRange config.acceptors config.coordinators config.learners → Legal config run → IsWithinScript store_language (events_of run) → length (printed config run) ≤ MOST_BYTES
+pub run_upheld : (config : Counts) (run : List Entry) → AreInRange config.acceptors config.coordinators config.learners → Legal config run → IsWithinScript store_language (events_of run)
     → verdict (printed config run) ≡ Upheld config (events_of run)
-run_upheld config run range legal within short = printed_upheld (printed config run) config (events_of run) (run_printed config run range legal within short)
+run_upheld config run range legal within = printed_upheld (printed config run) config (events_of run) (run_printed config run range legal within)
 
 audited_run : (config : Counts) (run : List Entry) (audited : Audited) → Legal config run → IsAudited (Upheld config (events_of run)) audited → IsAuditedRun config run audited
 audited_run config run audited legal a =
@@ -139,7 +139,7 @@ refused_run config events (unaudited.Bad line why records) refuses =
     let ruled : Upheld config events ≡ Rejected line why before = refuses.ruled in
     absurd cc
 
-pub run_audited : (config : Counts) (run : List Entry) (result : Result Audited Unaudited) → AreInRange config.acceptors config.coordinators config.learners → Legal config run → IsWithinScript store_language (events_of run) → length (printed config run) ≤ MOST_BYTES
+pub run_audited : (config : Counts) (run : List Entry) (result : Result Audited Unaudited) → AreInRange config.acceptors config.coordinators config.learners → Legal config run → IsWithinScript store_language (events_of run)
     → Audits (verdict (printed config run)) result → MatchResult result (IsAuditedRun config run) (λ e. e ≡ unaudited.NoMemory)
-run_audited config run (Ok audited) range legal within short audits = audited_run config run audited legal (subst (λ v. IsAudited v audited) (run_upheld config run range legal within short) audits)
-run_audited config run (Err why) range legal within short audits = refused_run config (events_of run) why (subst (λ v. Audits v (Err why)) (run_upheld config run range legal within short) audits)
+run_audited config run (Ok audited) range legal within audits = audited_run config run audited legal (subst (λ v. IsAudited v audited) (run_upheld config run range legal within) audits)
+run_audited config run (Err why) range legal within audits = refused_run config (events_of run) why (subst (λ v. Audits v (Err why)) (run_upheld config run range legal within) audits)

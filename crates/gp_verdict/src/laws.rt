@@ -41,9 +41,10 @@ pub fn the_first_difference_is_where_texts_part()
     ensures some { (number place : ℕ) (texts others : List (List ℕ)) → (first_difference number texts others ≡ Some place) ↔ PartAt number texts others place }
 {}
 
-/// What a legal run prints that a script can say is upheld, if it has at most 1,048,576 bytes. Audited, it gives
-/// that run and its certificates, unless memory runs out.
+/// What a legal run prints that a script can say is upheld: it has at most 1,048,576 bytes. Audited, it gives that
+/// run and its certificates, unless memory runs out.
 pub fn what_a_run_prints_is_upheld()
-    ensures upheld { (config : Counts) (run : List Entry) → AreInRange config.acceptors config.coordinators config.learners → Legal config run → IsWithinScript store_language (events_of run) → length (printed config run) ≤ MOST_BYTES → verdict (printed config run) ≡ Upheld config (events_of run) }
-    ensures audited { (config : Counts) (run : List Entry) (result : Result Audited Unaudited) → AreInRange config.acceptors config.coordinators config.learners → Legal config run → IsWithinScript store_language (events_of run) → length (printed config run) ≤ MOST_BYTES → Audits (verdict (printed config run)) result → MatchResult result (IsAuditedRun config run) (λ e. e ≡ NoMemory) }
+    ensures short { (config : Counts) (run : List Entry) → AreInRange config.acceptors config.coordinators config.learners → Legal config run → IsWithinScript store_language (events_of run) → length (printed config run) ≤ MOST_BYTES }
+    ensures upheld { (config : Counts) (run : List Entry) → AreInRange config.acceptors config.coordinators config.learners → Legal config run → IsWithinScript store_language (events_of run) → verdict (printed config run) ≡ Upheld config (events_of run) }
+    ensures audited { (config : Counts) (run : List Entry) (result : Result Audited Unaudited) → AreInRange config.acceptors config.coordinators config.learners → Legal config run → IsWithinScript store_language (events_of run) → Audits (verdict (printed config run)) result → MatchResult result (IsAuditedRun config run) (λ e. e ≡ NoMemory) }
 {}

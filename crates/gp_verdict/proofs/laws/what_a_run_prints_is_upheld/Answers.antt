@@ -1,5 +1,9 @@
+use Rattle.gp_verdict.proofs.PrintedSizes.{printed_size}
 use Rattle.gp_verdict.proofs.PrintedRuns.{run_upheld, run_audited}
 use Rattle.gp_verdict.proofs.laws.what_a_run_prints_is_upheld.Goals as goal
+
+pub returns-clause-short : goal.returns-clause-short
+returns-clause-short c = printed_size
 
 pub returns-clause-upheld : goal.returns-clause-upheld
 returns-clause-upheld c = run_upheld
