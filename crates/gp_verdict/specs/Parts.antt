@@ -50,7 +50,7 @@ Differ [] (text ∷ texts) = Unit {0}
 Differ (text ∷ texts) [] = Unit {0}
 Differ (text ∷ texts) (other ∷ others) = text ≢ other
 
--- the texts are the same up to the one with this number, where they differ; the first ones have the number before it
+-- the texts are the same before this place, and differ there; the first ones are at the place of this number
 pub record PartAt (number : ℕ) (texts others : List (List ℕ)) (place : ℕ) : Type 0 where
   pub common : List (List ℕ)
   pub left : List (List ℕ)

@@ -15,7 +15,8 @@ use std::alloc::Global;
 /// The trace is read as a script of the key store without `show` lines. If it is a legal run and the report
 /// is that of this run, the text is the word `legal` and then, for each learner and each of its commands in
 /// canonical order, a line with the certificate of the command. Otherwise the first line that is not in
-/// order is refused, with the first reason in the order of `AuditReason`.
+/// order is refused. A line that is too long is refused for that before any other reason; the other
+/// reasons of a line of the trace are those of a script, in their order.
 pub fn audit(alloc: Global, bytes: &[u8]) -> Result<Audited, Unaudited>
     ensures audits { Audits (verdict bytes.now) result }
     ensures agreement { IfOk result (λ audited. IsInAgreement audited.world.config (entries_of audited.world)) }

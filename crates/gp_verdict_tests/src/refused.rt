@@ -147,7 +147,7 @@ fn a_report_is_refused_at_its_first_wrong_line(rt: HostRuntime) -> Result<(), Fa
     Ok(())
 }
 
-// The report of one put with its lines numbered from 14, with one of them in place of the right one.
+// The number of a line of what one put prints, the line, and a wrong one in its place.
 const EXCHANGED: [(u64, &[u8], &[u8]); 5] = [
     (14, b"l0 learned 1: p0.1\n", b"l0 learned 0: -\n"),
     (15, b"l0 state: a=5\n", b"l0 state: a=6\n"),
@@ -156,8 +156,8 @@ const EXCHANGED: [(u64, &[u8], &[u8]); 5] = [
     (20, b"events 11 messages 7\n", b"events 11 messages 8\n"),
 ];
 
-// The text in which the part that begins at this place is this one.
-fn with_part(alloc: Global, text: &[u8], old: &[u8], new: &[u8]) -> Result<Vec<u8>, Fail> {
+// The text, with the new line in place of the old one.
+fn with_line(alloc: Global, text: &[u8], old: &[u8], new: &[u8]) -> Result<Vec<u8>, Fail> {
     let mut changed = Vec::new(alloc);
     for line in text.split_inclusive(|byte| *byte == b'\n') {
         let part = if line == old { new } else { line };
@@ -170,7 +170,7 @@ fn with_part(alloc: Global, text: &[u8], old: &[u8], new: &[u8]) -> Result<Vec<u
 fn one_changed_line_is_the_wrong_one(rt: HostRuntime) -> Result<(), Fail> {
     let alloc = rt.alloc();
     for (number, old, new) in EXCHANGED {
-        let report = with_part(alloc, ONE_PUT_REPORT, old, new)?;
+        let report = with_line(alloc, ONE_PUT_REPORT, old, new)?;
         let input = printed(alloc, ONE_PUT, &report)?;
         assert!(rt; refuses(alloc, &input, number, AuditReason::WrongReport));
     }
