@@ -11,7 +11,7 @@ use Rattle.gp_edge.specs.Writes.{AppendsPart}
 use Rattle.std.proofs.Common.{arith}
 use Rattle.gp_cli.specs.declared.runs.TheConstants.{MOST_READ}
 use Rattle.gp_cli.specs.declared.subcommand.Subcommand.{Subcommand}
-use Rattle.gp_cli.specs.declared.subcommand.Subcommand.TheVariants.{Play, Run, Sim, Drive, Log, Upgrade}
+use Rattle.gp_cli.specs.declared.subcommand.Subcommand.TheVariants.{Play, Run, Sim, Drive, Log, Upgrade, Audit}
 use Rattle.gp_cli.specs.Subcommands.{named}
 use Rattle.gp_cli.specs.Texts.{usage}
 use Rattle.gp_cli.specs.Outside.{Outside, ForMemory}
@@ -43,6 +43,7 @@ unheard_for (Some (Sim seed n)) at status trail one none = starved (IsCauseFor (
 unheard_for (Some (Drive a l n)) at status trail one none = starved (IsCauseFor (Some (Drive a l n)) at at) at.sink status trail (inr refl) one none
 unheard_for (Some (Log k)) at status trail one none = starved (IsCauseFor (Some (Log k)) at at) at.sink status trail refl one none
 unheard_for (Some (Upgrade k)) at status trail one none = starved (IsCauseFor (Some (Upgrade k)) at at) at.sink status trail refl one none
+unheard_for (Some Audit) at status trail one none = starved (IsCauseFor (Some Audit) at at) at.sink status trail (refl, nothing_lost at.source.bytes) one none
 
 -- the program did nothing, since memory ran out for its words
 unheard : (given : Arguments) (at : Outside) (status : ℕ) (trail : List Record) → ¬ IsNoText given → status ≡ 1 → trail ≡ [] → Ends (IsProgramCause given true) at at status trail

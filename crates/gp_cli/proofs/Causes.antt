@@ -24,7 +24,7 @@ use Rattle.gp_cli.specs.declared.runs.TheConstants.{MOST_READ}
 use Rattle.gp_cli.specs.Machines.{profile_of, reading_of, IsInAgreementOfAll}
 use Rattle.gp_cli.specs.Texts.{refusal_text}
 use Rattle.gp_cli.specs.Outside.{Seen, Told, Wholly, ForMemory}
-use Rattle.gp_cli.specs.Endings.{Ending, Misused, Unread, Refuses, Plays, Drives, Simulates, Shows, DiskFails, Overflows, Breaks, Runs, Starved, status_of, status_at_fault, text_of, run_to, config_in, config_of}
+use Rattle.gp_cli.specs.Endings.{Ending, Misused, Unread, Refuses, Plays, Drives, Simulates, Shows, DiskFails, Overflows, Breaks, Runs, Rejects, Upholds, Starved, status_of, status_at_fault, text_of, run_to, config_in, config_of}
 use Rattle.gp_cli.specs.Causes.{HasRead, IsReadCause, IsScriptCause, IsRunCause}
 use Rattle.gp_cli.specs.Logs.{TellsEnding, LogEnds}
 use Rattle.gp_cli.specs.Serving.{IsConfig, IsListOf, EndsBy, AgreesInItsConfig}
@@ -63,6 +63,8 @@ unlisted DiskFails trail none = tt
 unlisted (Overflows size need) trail none = tt
 unlisted (Breaks place) trail none = tt
 unlisted (Runs end config list) trail none = cc
+unlisted (Rejects line reason said) trail none = tt
+unlisted (Upholds config events text) trail none = tt
 unlisted Starved trail none = tt
 
 -- one cause for another
@@ -91,6 +93,8 @@ script_cause operations before now bytes taken steady DiskFails cause = cause
 script_cause operations before now bytes taken steady (Overflows size need) cause = cause
 script_cause operations before now bytes taken steady (Breaks place) cause = cause
 script_cause operations before now bytes taken steady (Runs end config list) cause = cause
+script_cause operations before now bytes taken steady (Rejects line reason said) cause = cause
+script_cause operations before now bytes taken steady (Upholds config events text) cause = cause
 script_cause operations before now bytes taken steady Starved cause = (steady, loses MOST_READ before.bytes now.bytes bytes taken)
 
 -- a script that was read up to the limit ends as a script
@@ -197,12 +201,12 @@ played_ends operations read played before now status trail gives legal same told
     }
 
 -- a configuration of what was said, and the agreement of its run
-record Agreeing (said : Option Script) (run : List Entry) : Type 0 where
-  config : Counts
-  own : IsConfig (config_in said) config
-  agreement : IsInAgreementOfAll config run
+pub record Agreeing (said : Option Script) (run : List Entry) : Type 0 where
+  pub config : Counts
+  pub own : IsConfig (config_in said) config
+  pub agreement : IsInAgreementOfAll config run
 
-agreeing : (operations : Operations) (said : Option Script) (run : List Entry) → IsLegalBeforeFor (profile_of operations) said → run ≡ run_before said → Agreeing said run
+pub agreeing : (operations : Operations) (said : Option Script) (run : List Entry) → IsLegalBeforeFor (profile_of operations) said → run ≡ run_before said → Agreeing said run
 agreeing operations None run legal is = record { config = counts 3 1 1; own = tt; agreement = subst (IsInAgreementOfAll (counts 3 1 1)) (sym is) (all_agree (counts 3 1 1) (omega arith) [] tt) }
 agreeing operations (Some script) run legal is = record { config = script.config; own = refl; agreement = subst (IsInAgreementOfAll script.config) (sym is) (script_agrees operations script.config script.events legal) }
 

@@ -2,8 +2,10 @@ pub mod Machines
 pub mod Causes
 pub mod NodesCauses
 pub mod Told
+pub mod Audits
 pub mod ScriptOrder
 pub mod NodesStatuses
+pub mod AuditStatuses
 pub mod Statuses
 pub mod Arguments
 pub mod LogCauses

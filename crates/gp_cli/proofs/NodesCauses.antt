@@ -32,7 +32,7 @@ use Rattle.gp_cli.specs.declared.runs.TheConstants.{MOST_READ}
 use Rattle.gp_cli.specs.declared.subcommand.Subcommand.{Subcommand}
 use Rattle.gp_cli.specs.declared.subcommand.Subcommand.TheVariants.{Run}
 use Rattle.gp_cli.specs.Outside.{Seen, seen, disks_seen, bytes_seen, faults_seen, Told}
-use Rattle.gp_cli.specs.Endings.{Ending, Misused, Unread, Refuses, Plays, Drives, Simulates, Shows, DiskFails, Overflows, Breaks, Runs, Starved}
+use Rattle.gp_cli.specs.Endings.{Ending, Misused, Unread, Refuses, Plays, Drives, Simulates, Shows, DiskFails, Overflows, Breaks, Runs, Rejects, Upholds, Starved}
 use Rattle.gp_cli.specs.Run.{SomeFailed, MayPostNothing, HasRun, IsOffersCause, IsNodesCause}
 use Rattle.gp_cli.specs.Logs.{TellsEnding}
 use Rattle.gp_cli.specs.Serving.{EndsBy, EachDisk, KeepsUnused}
@@ -171,6 +171,8 @@ script_read limit before now old new bytes taken steady DiskFails cause = cause
 script_read limit before now old new bytes taken steady (Overflows size need) cause = cause
 script_read limit before now old new bytes taken steady (Breaks place) cause = cause
 script_read limit before now old new bytes taken steady (Runs why config list) cause = record { bytes = bytes; taken = taken; steady = steady; says = cause }
+script_read limit before now old new bytes taken steady (Rejects line reason said) cause = cause
+script_read limit before now old new bytes taken steady (Upholds config events text) cause = cause
 script_read limit before now old new bytes taken steady Starved cause = (steady, loses MOST_READ before.bytes now.bytes bytes taken)
 
 pub script_ends : (limit : ℕ) (rest left before now : Seen) (old new : List Seen) (status : ℕ) (trail : List Record) (bytes script : List ℕ) → script ≡ bytes → ReadsUpTo MOST_READ rest.bytes left.bytes bytes → left.faults ≡ rest.faults

@@ -19,10 +19,10 @@ use Rattle.gp_cluster.specs.Runs.{IsRunOf, IsOverLimit}
 use Rattle.gp_retelling.specs.Texts.{run_text}
 use Rattle.gp_cli.specs.declared.runs.TheConstants.{MOST_READ}
 use Rattle.gp_cli.specs.declared.subcommand.Subcommand.{Subcommand}
-use Rattle.gp_cli.specs.declared.subcommand.Subcommand.TheVariants.{Play, Run, Sim, Drive, Log, Upgrade}
+use Rattle.gp_cli.specs.declared.subcommand.Subcommand.TheVariants.{Play, Run, Sim, Drive, Log, Upgrade, Audit}
 use Rattle.gp_cli.specs.Subcommands.{named}
 use Rattle.gp_cli.specs.Outside.{Seen, Outside}
-use Rattle.gp_cli.specs.Endings.{Ending, Misused, Unread, Refuses, Plays, Drives, Simulates, Shows, DiskFails, Overflows, Breaks, Runs, Starved, status_of, text_of, run_to}
+use Rattle.gp_cli.specs.Endings.{Ending, Misused, Unread, Refuses, Plays, Drives, Simulates, Shows, DiskFails, Overflows, Breaks, Runs, Rejects, Upholds, Starved, status_of, text_of, run_to}
 use Rattle.gp_cli.specs.Causes.{IsRunCause, IsCauseFor, driven_config}
 use Rattle.gp_cli.specs.Run.{SomeFailed, MayPostNothing, ArePosted, HasLearned, HasRun, IsOffersCause, HasReadOffers}
 use Rattle.gp_cli.specs.Logs.{TellsEnding}
@@ -70,6 +70,7 @@ module _ (before now : Outside) (status : ℕ) (trail : List Record) where
   run_alone (Some (Drive a l n)) why config list cause = absurd (no_nodes (Drives (driven_config a l) n) why config list (λ e. cc) cause)
   run_alone (Some (Log k)) why config list cause = absurd cause
   run_alone (Some (Upgrade k)) why config list cause = absurd cause
+  run_alone (Some Audit) why config list cause = absurd cause
 
   pub ran_by : (sub : Option Subcommand) (why : RunEnd) (config : Counts) (list : List Record) → IsCauseFor sub before now (Runs why config list) → (limit : ℕ) × (sub ≡ Some (Run limit)) × NodesRan limit why config list
   ran_by sub why config list cause =
@@ -149,6 +150,8 @@ module _ (before now : Outside) (status : ℕ) (trail : List Record) where
   prints_nodes limit (Runs (end.Full size need) config records) cause list told none_failed = absurd (clash (Runs (end.Full size need) config records) (λ e. cc) told none_failed)
   prints_nodes limit (Runs (end.NotLog at) config records) cause list told none_failed = absurd (clash (Runs (end.NotLog at) config records) (λ e. cc) told none_failed)
   prints_nodes limit (Runs end.Changed config records) cause list told none_failed = absurd (clash (Runs end.Changed config records) (λ e. cc) told none_failed)
+  prints_nodes limit (Rejects line reason said) cause list told none_failed = absurd cause
+  prints_nodes limit (Upholds config events text) cause list told none_failed = absurd cause
   prints_nodes limit Starved cause list told none_failed = absurd (clash Starved (λ e. cc) told none_failed)
 
   -- ---- status 6, 7 and 8
@@ -240,6 +243,8 @@ module _ (before now : Outside) (status : ℕ) (trail : List Record) where
   nodes_complete limit offers (Breaks place) cause list told holds read_well written_well disks_well room = absurd cause
   nodes_complete limit offers (Runs why config records) cause list told holds read_well written_well disks_well room =
       ran_completes limit offers why config records (nodes_ran limit why config records cause) list told holds written_well disks_well room
+  nodes_complete limit offers (Rejects line reason said) cause list told holds read_well written_well disks_well room = absurd cause
+  nodes_complete limit offers (Upholds config events text) cause list told holds read_well written_well disks_well room = absurd cause
   nodes_complete limit offers Starved cause list told holds read_well written_well disks_well room = inr (starved_status before.sink now.sink [] status told)
 
   pub nodes_refuse : (limit : ℕ) (ending : Ending) → IsCauseFor (Some (Run limit)) before now ending → Tells ending → HoldsBadOffers before.source → ¬ Rose before.source.faults now.source.faults → (status ≡ 3) ⊎ (status ≡ 1)
@@ -256,6 +261,8 @@ module _ (before now : Outside) (status : ℕ) (trail : List Record) where
   nodes_refuse limit (Runs why config records) cause told (rest, line, reason, is, bad) read_well =
       let n = nodes_ran limit why config records cause in
       let differ = sym bad ∙ offers_are before.source now.source rest (Offered n.offers) is n.read in absurd cc
+  nodes_refuse limit (Rejects line reason said) cause told holds read_well = absurd cause
+  nodes_refuse limit (Upholds config events text) cause told holds read_well = absurd cause
   nodes_refuse limit Starved cause told holds read_well = inr (starved_status before.sink now.sink [] status told)
 
   -- ---- whatever the status is
@@ -276,6 +283,8 @@ module _ (before now : Outside) (status : ℕ) (trail : List Record) where
   nodes_offered limit (Overflows size need) cause run list = absurd cause
   nodes_offered limit (Breaks place) cause run list = absurd cause
   nodes_offered limit (Runs why config records) cause run list = let n = nodes_ran limit why config records cause in let has = n.has in offers_or_none limit why config records n list has.posted
+  nodes_offered limit (Rejects line reason said) cause run list = absurd cause
+  nodes_offered limit (Upholds config events text) cause run list = absurd cause
   nodes_offered limit Starved cause run list = inl (no_records trail run)
 
   other : (n : ℕ) → status ≢ n → status ≢ 1 → (status ≡ n) ⊎ (status ≡ 1) → ⊥
@@ -294,4 +303,6 @@ module _ (before now : Outside) (status : ℕ) (trail : List Record) where
   nodes_left limit (Overflows size need) cause told no_one no_three no_four = absurd cause
   nodes_left limit (Breaks place) cause told no_one no_three no_four = absurd cause
   nodes_left limit (Runs why config records) cause told no_one no_three no_four = script_left limit why config records (nodes_ran limit why config records cause)
+  nodes_left limit (Rejects line reason said) cause told no_one no_three no_four = absurd cause
+  nodes_left limit (Upholds config events text) cause told no_one no_three no_four = absurd cause
   nodes_left limit Starved cause told no_one no_three no_four = absurd (no_one (starved_status before.sink now.sink [] status told))

@@ -20,19 +20,22 @@ use Rattle.gp_vlog.proofs.Moments.{told as at_bytes}
 use Rattle.gp_cli.specs.declared.runs.TheConstants.{MOST_READ}
 use Rattle.gp_cli.specs.declared.subcommand.Operations.{Operations}
 use Rattle.gp_cli.specs.declared.subcommand.Subcommand.{Subcommand}
-use Rattle.gp_cli.specs.declared.subcommand.Subcommand.TheVariants.{Play, Run, Sim, Drive, Log, Upgrade}
+use Rattle.gp_cli.specs.declared.subcommand.Subcommand.TheVariants.{Play, Run, Sim, Drive, Log, Upgrade, Audit}
 use Rattle.gp_cli.specs.Subcommands.{named}
 use Rattle.gp_cli.specs.Machines.{profile_of, reading_of, IsInAgreementOfAll}
 use Rattle.gp_cli.specs.Outside.{Seen, Outside}
-use Rattle.gp_cli.specs.Endings.{Ending, Misused, Unread, Refuses, Plays, Drives, Simulates, Shows, DiskFails, Overflows, Breaks, Runs, Starved, status_of, status_at_fault, text_of, run_to, config_of}
+use Rattle.gp_cli.specs.Endings.{Ending, Misused, Unread, Refuses, Plays, Drives, Simulates, Shows, DiskFails, Overflows, Breaks, Runs, Rejects, Upholds, Starved, status_of, status_at_fault, text_of, run_to, config_of}
 use Rattle.gp_cli.specs.Causes.{HasRead, IfLog, HasRoomForLast, HasNoRoom, IsCauseFor, IsCause, IsRunCause, driven_config, seen_at, disk_used}
 use Rattle.gp_cli.specs.Logs.{TellsEnding}
 use Rattle.gp_cli.specs.Serving.{IsConfig, IsListOf, Ends, HoldsScript, HoldsBadLine, PlaysWhole, StopsAtLine, Prints, PrintsDriven, PrintsSimulated}
 use Rattle.gp_cli.specs.LogRuns.{HoldsLog, HoldsRoomyLog, HoldsFullLog, HoldsNoLog, ShowsLog, ShowsTakenOn, HasNoSpace, IsBrokenAt}
 use Rattle.gp_cli.specs.Run.{SomeFailed, HasReadOffers}
+use Rattle.gp_cli.specs.AuditRuns.{HoldsPrinted, HoldsOther, HoldsRun, AuditsRun, RejectsInput}
 use Rattle.gp_cli.specs.NodesRuns.{RefusesOffers, FillsLog, LosesLog, PrintsNodes, HoldsOffers, HoldsBadOffers, HasRoomForNext, OffersAll, AllCommute, RunsInScriptOrder, DiskFailed}
 use Rattle.gp_cli.proofs.Causes.{read_legal}
 use Rattle.gp_cli.proofs.NodesStatuses.{nodes_offered, nodes_left, ran_to_fault, fills_log, breaks_log, changes_log, prints_nodes, nodes_complete, nodes_refuse}
+use Rattle.gp_cli.proofs.Audits.{read_before_legal}
+use Rattle.gp_cli.proofs.AuditStatuses.{rejects_at, audits_run, audit_completes, run_printed, audit_refuses, audit_left}
 use Rattle.gp_cli.proofs.ScriptOrder.{in_script_order}
 use Rattle.gp_cli.proofs.Told.{no_records, nothing_left, same_status, one_status, starved_status, done, own_status, sink_failed, no_run_status, never_five}
 
@@ -88,6 +91,8 @@ module _ (before now : Outside) (status : ℕ) (trail : List Record) where
   played operations (Overflows size need) cause run told none_failed = absurd cause
   played operations (Breaks place) cause run told none_failed = absurd cause
   played operations (Runs why config list) cause run told none_failed = absurd cause
+  played operations (Rejects line reason said) cause run told none_failed = absurd cause
+  played operations (Upholds config events text) cause run told none_failed = absurd cause
   played operations Starved cause run told none_failed = absurd (clash Starved (λ e. cc) told none_failed)
 
   -- only a script that is to be played has a refused line
@@ -106,8 +111,10 @@ module _ (before now : Outside) (status : ℕ) (trail : List Record) where
   refused_at (Some (Drive a l n)) line reason said cause = elim cause [ inl is ↦ cc | inr is ↦ cc ]
   refused_at (Some (Log k)) line reason said cause = absurd cause
   refused_at (Some (Upgrade k)) line reason said cause = absurd cause
+  refused_at (Some Audit) line reason said cause = absurd cause
 
-  stops : (words : List (List ℕ)) (ending : Ending) → Causes (named words) ending → entries_in trail ≡ run_to ending → IsListOf ending trail → Tells ending → status_of ending ≡ 3 → StopsAtLine words before now status trail ⊎ RefusesOffers words before now status trail
+  stops : (words : List (List ℕ)) (ending : Ending) → Causes (named words) ending → entries_in trail ≡ run_to ending → IsListOf ending trail → Tells ending → status_of ending ≡ 3
+      → StopsAtLine words before now status trail ⊎ RefusesOffers words before now status trail ⊎ RejectsInput words before now status trail
   stops words Misused cause run list told e = cc
   stops words Unread cause run list told e = cc
   stops words (Refuses line reason said) cause run list told e = elim (refused_at (named words) line reason said cause) [
@@ -122,7 +129,7 @@ module _ (before now : Outside) (status : ℕ) (trail : List Record) where
       run = run;
       told = told;
     })
-    | inr offer ↦ inr (record {
+    | inr offer ↦ inr (inl (record {
       limit = offer.0;
       is_run = offer.1;
       line = line;
@@ -130,7 +137,7 @@ module _ (before now : Outside) (status : ℕ) (trail : List Record) where
       read = offer.3;
       no_trail = no_records trail (run ∙ ap run_before offer.2);
       told = told;
-    })
+    }))
   ]
   stops words (Plays operations config said) cause run list told e = cc
   stops words (Drives config n) cause run list told e = cc
@@ -140,6 +147,17 @@ module _ (before now : Outside) (status : ℕ) (trail : List Record) where
   stops words (Overflows size need) cause run list told e = cc
   stops words (Breaks place) cause run list told e = cc
   stops words (Runs why config records) cause run list told e = absurd (no_run_status why 3 e (omega arith) (omega arith))
+  stops words (Rejects line reason said) cause run list told e = let rejected = rejects_at before now status trail (named words) line reason said cause in inr (inr (record {
+    is_audit = rejected.0;
+    line = line;
+    reason = reason;
+    said = said;
+    read = rejected.1;
+    legal = read_before_legal before.source now.source line reason said rejected.1;
+    run = run;
+    told = told;
+  }))
+  stops words (Upholds config events text) cause run list told e = cc
   stops words Starved cause run list told e = cc
 
   -- a run that ends well, or would have, read its script to the end
@@ -155,6 +173,8 @@ module _ (before now : Outside) (status : ℕ) (trail : List Record) where
   to_its_end operations (Overflows size need) cause e = absurd cause
   to_its_end operations (Breaks place) cause e = absurd cause
   to_its_end operations (Runs why config list) cause e = absurd cause
+  to_its_end operations (Rejects line reason said) cause e = absurd cause
+  to_its_end operations (Upholds config events text) cause e = absurd cause
   to_its_end operations Starved cause e = cc
 
   completes : (operations : Operations) (ending : Ending) → Causes (Some (Play operations)) ending → Tells ending → HoldsScript operations before.source → ¬ Rose before.source.faults now.source.faults → ¬ Rose before.sink.faults now.sink.faults → (status ≡ 0) ⊎ (status ≡ 1)
@@ -170,6 +190,8 @@ module _ (before now : Outside) (status : ℕ) (trail : List Record) where
   completes operations (Overflows size need) cause told holds read_well written_well = absurd cause
   completes operations (Breaks place) cause told holds read_well written_well = absurd cause
   completes operations (Runs why config list) cause told holds read_well written_well = absurd cause
+  completes operations (Rejects line reason said) cause told holds read_well written_well = absurd cause
+  completes operations (Upholds config events text) cause told holds read_well written_well = absurd cause
   completes operations Starved cause told holds read_well written_well = inr (starved_status before.sink now.sink [] status told)
 
   refuses : (operations : Operations) (ending : Ending) → Causes (Some (Play operations)) ending → Tells ending → HoldsBadLine operations before.source → ¬ Rose before.source.faults now.source.faults → (status ≡ 3) ⊎ (status ≡ 1)
@@ -185,6 +207,8 @@ module _ (before now : Outside) (status : ℕ) (trail : List Record) where
   refuses operations (Overflows size need) cause told holds read_well = absurd cause
   refuses operations (Breaks place) cause told holds read_well = absurd cause
   refuses operations (Runs why config list) cause told holds read_well = absurd cause
+  refuses operations (Rejects line reason said) cause told holds read_well = absurd cause
+  refuses operations (Upholds config events text) cause told holds read_well = absurd cause
   refuses operations Starved cause told holds read_well = inr (starved_status before.sink now.sink [] status told)
 
   -- ---- a run without input
@@ -232,6 +256,8 @@ module _ (before now : Outside) (status : ℕ) (trail : List Record) where
   shows_log k (Overflows size need) cause told none_failed = absurd cause
   shows_log k (Breaks place) cause told none_failed = absurd (clash (Breaks place) (λ e. cc) told none_failed)
   shows_log k (Runs why config list) cause told none_failed = absurd cause
+  shows_log k (Rejects line reason said) cause told none_failed = absurd cause
+  shows_log k (Upholds config events text) cause told none_failed = absurd cause
   shows_log k Starved cause told none_failed = absurd (clash Starved (λ e. cc) told none_failed)
 
   shows_taken_on : (k : ℕ) (ending : Ending) → Causes (Some (Upgrade k)) ending → Tells ending → status ≡ 0 → ShowsTakenOn k before now
@@ -252,6 +278,8 @@ module _ (before now : Outside) (status : ℕ) (trail : List Record) where
   shows_taken_on k (Overflows size need) cause told none_failed = absurd (clash (Overflows size need) (λ e. cc) told none_failed)
   shows_taken_on k (Breaks place) cause told none_failed = absurd (clash (Breaks place) (λ e. cc) told none_failed)
   shows_taken_on k (Runs why config list) cause told none_failed = absurd cause
+  shows_taken_on k (Rejects line reason said) cause told none_failed = absurd cause
+  shows_taken_on k (Upholds config events text) cause told none_failed = absurd cause
   shows_taken_on k Starved cause told none_failed = absurd (clash Starved (λ e. cc) told none_failed)
 
   no_clash : (bytes : Option (List ℕ)) (s : List ℕ) (log : Contents) (place : ℕ) → bytes ≡ Some s → read_log is_limit s ≡ Ok log → IfRevealed bytes (λ t. read_log is_limit t ≡ Err place) → ⊥
@@ -269,6 +297,8 @@ module _ (before now : Outside) (status : ℕ) (trail : List Record) where
   log_completes k (Overflows size need) cause told holds disk_well written_well = absurd cause
   log_completes k (Breaks place) cause told (s, log, is, reads) disk_well written_well = absurd (no_clash (seen_at k before.disks).bytes s log place is reads cause.1)
   log_completes k (Runs why config list) cause told holds disk_well written_well = absurd cause
+  log_completes k (Rejects line reason said) cause told holds disk_well written_well = absurd cause
+  log_completes k (Upholds config events text) cause told holds disk_well written_well = absurd cause
   log_completes k Starved cause told holds disk_well written_well = inr (starved_status before.sink now.sink [] status told)
 
   -- a log has room for its last entry, or has none
@@ -300,6 +330,8 @@ module _ (before now : Outside) (status : ℕ) (trail : List Record) where
       absurd (room_clash log size need room (one_log (seen_at k before.disks).bytes s log (λ l. HasNoRoom size need l.limit l.entries) is reads cause.1))
   upgrade_completes k (Breaks place) cause told (s, log, is, reads, room) disk_well written_well = absurd (no_clash (seen_at k before.disks).bytes s log place is reads cause.1)
   upgrade_completes k (Runs why config list) cause told holds disk_well written_well = absurd cause
+  upgrade_completes k (Rejects line reason said) cause told holds disk_well written_well = absurd cause
+  upgrade_completes k (Upholds config events text) cause told holds disk_well written_well = absurd cause
   upgrade_completes k Starved cause told holds disk_well written_well = inr (starved_status before.sink now.sink [] status told)
 
   overflows_if_full : (k : ℕ) (ending : Ending) → Causes (Some (Upgrade k)) ending → Tells ending → HoldsFullLog k before → ¬ Rose (seen_at k before.disks).faults (seen_at k now.disks).faults → (status ≡ 7) ⊎ (status ≡ 1)
@@ -315,6 +347,8 @@ module _ (before now : Outside) (status : ℕ) (trail : List Record) where
   overflows_if_full k (Overflows size need) cause told holds well = same_status before.sink now.sink (text_of (Overflows size need)) 7 status told
   overflows_if_full k (Breaks place) cause told (s, log, size, need, is, reads, none) well = absurd (no_clash (seen_at k before.disks).bytes s log place is reads cause.1)
   overflows_if_full k (Runs why config list) cause told holds well = absurd cause
+  overflows_if_full k (Rejects line reason said) cause told holds well = absurd cause
+  overflows_if_full k (Upholds config events text) cause told holds well = absurd cause
   overflows_if_full k Starved cause told holds well = inr (starved_status before.sink now.sink [] status told)
 
   -- only a log that is shown or taken on overflows, breaks, or has a disk that fails
@@ -326,6 +360,7 @@ module _ (before now : Outside) (status : ℕ) (trail : List Record) where
   overflowed (Some (Drive a l n)) size need cause told = elim cause [ inl is ↦ cc | inr is ↦ cc ]
   overflowed (Some (Log k)) size need cause told = absurd cause
   overflowed (Some (Upgrade k)) size need cause told = (k, refl, cause)
+  overflowed (Some Audit) size need cause told = absurd cause
 
   broke : (sub : Option Subcommand) (place : ℕ) → Causes sub (Breaks place) → (k : ℕ) × (disk_used sub ≡ Some k) × Causes (Some (Log k)) (Breaks place)
   broke None place cause = cc
@@ -335,6 +370,7 @@ module _ (before now : Outside) (status : ℕ) (trail : List Record) where
   broke (Some (Drive a l n)) place cause = elim cause [ inl is ↦ cc | inr is ↦ cc ]
   broke (Some (Log k)) place cause = (k, refl, cause)
   broke (Some (Upgrade k)) place cause = (k, refl, cause)
+  broke (Some Audit) place cause = absurd cause
 
   disk_failed : (sub : Option Subcommand) → Causes sub DiskFails → DiskFailed sub before now
   disk_failed None cause = cc
@@ -344,6 +380,7 @@ module _ (before now : Outside) (status : ℕ) (trail : List Record) where
   disk_failed (Some (Drive a l n)) cause = elim cause [ inl is ↦ cc | inr is ↦ cc ]
   disk_failed (Some (Log k)) cause = cause.0
   disk_failed (Some (Upgrade k)) cause = cause
+  disk_failed (Some Audit) cause = absurd cause
 
   -- with status 2 the words name nothing
   named_nothing : (sub : Option Subcommand) (ending : Ending) → Causes sub ending → status_of ending ≡ 2 → sub ≡ None
@@ -356,6 +393,7 @@ module _ (before now : Outside) (status : ℕ) (trail : List Record) where
     by (Drive a l n) cause = elim cause [ inl is ↦ cc | inr is ↦ cc ]
     by (Log k) cause = cause
     by (Upgrade k) cause = cause
+    by Audit cause = cause
   named_nothing (Some sub) Unread cause two = cc
   named_nothing (Some sub) (Refuses line reason said) cause two = cc
   named_nothing (Some sub) (Plays operations config said) cause two = cc
@@ -366,6 +404,8 @@ module _ (before now : Outside) (status : ℕ) (trail : List Record) where
   named_nothing (Some sub) (Overflows size need) cause two = cc
   named_nothing (Some sub) (Breaks place) cause two = cc
   named_nothing (Some sub) (Runs why config list) cause two = absurd (no_run_status why 2 two (omega arith) (omega arith))
+  named_nothing (Some sub) (Rejects line reason said) cause two = cc
+  named_nothing (Some sub) (Upholds config events text) cause two = cc
   named_nothing (Some sub) Starved cause two = cc
 
   source_failed : (sub : Option Subcommand) → Causes sub Unread → Rose before.source.faults now.source.faults
@@ -376,6 +416,7 @@ module _ (before now : Outside) (status : ℕ) (trail : List Record) where
   source_failed (Some (Drive a l n)) cause = elim cause [ inl is ↦ cc | inr is ↦ cc ]
   source_failed (Some (Log k)) cause = absurd cause
   source_failed (Some (Upgrade k)) cause = absurd cause
+  source_failed (Some Audit) cause = cause.0
 
   usage_told : (ending : Ending) → Causes None ending → Tells ending → (status ≡ 2) ⊎ (status ≡ 1)
   usage_told ending cause told = same_status before.sink now.sink (text_of Misused) 2 status (subst Tells cause told)
@@ -393,6 +434,8 @@ module _ (before now : Outside) (status : ℕ) (trail : List Record) where
   unread_is (Overflows size need) e = cc
   unread_is (Breaks place) e = cc
   unread_is (Runs why config list) e = absurd (no_run_status why 4 e (omega arith) (omega arith))
+  unread_is (Rejects line reason said) e = cc
+  unread_is (Upholds config events text) e = cc
   unread_is Starved e = cc
 
   disk_fails_is : (ending : Ending) → status_of ending ≡ 6 → (ending ≡ DiskFails) ⊎ ((config : Counts) × (list : List Record) × (ending ≡ Runs end.Disk config list))
@@ -412,6 +455,8 @@ module _ (before now : Outside) (status : ℕ) (trail : List Record) where
   disk_fails_is (Runs (end.Full size need) config list) e = cc
   disk_fails_is (Runs (end.NotLog at) config list) e = cc
   disk_fails_is (Runs end.Changed config list) e = cc
+  disk_fails_is (Rejects line reason said) e = cc
+  disk_fails_is (Upholds config events text) e = cc
   disk_fails_is Starved e = cc
 
   overflows_is : (ending : Ending) → status_of ending ≡ 7 → (size : ℕ) × (need : ℕ) × ((ending ≡ Overflows size need) ⊎ ((config : Counts) × (list : List Record) × (ending ≡ Runs (end.Full size need) config list)))
@@ -431,6 +476,8 @@ module _ (before now : Outside) (status : ℕ) (trail : List Record) where
   overflows_is (Runs (end.Full size need) config list) e = (size, need, inr (config, list, refl))
   overflows_is (Runs (end.NotLog at) config list) e = cc
   overflows_is (Runs end.Changed config list) e = cc
+  overflows_is (Rejects line reason said) e = cc
+  overflows_is (Upholds config events text) e = cc
   overflows_is Starved e = cc
 
   -- an ending with status 8
@@ -454,6 +501,8 @@ module _ (before now : Outside) (status : ℕ) (trail : List Record) where
   breaks_is (Runs (end.Full size need) config list) e = cc
   breaks_is (Runs (end.NotLog at) config list) e = inr (inl (at, config, list, refl))
   breaks_is (Runs end.Changed config list) e = inr (inr (config, list, refl))
+  breaks_is (Rejects line reason said) e = cc
+  breaks_is (Upholds config events text) e = cc
   breaks_is Starved e = cc
 
   -- a disk that holds no log
@@ -474,6 +523,8 @@ module _ (before now : Outside) (status : ℕ) (trail : List Record) where
   unlogged k (Overflows size need) cause told holds well = absurd cause
   unlogged k (Breaks place) cause told holds well = same_status before.sink now.sink (text_of (Breaks place)) 8 status told
   unlogged k (Runs why config list) cause told holds well = absurd cause
+  unlogged k (Rejects line reason said) cause told holds well = absurd cause
+  unlogged k (Upholds config events text) cause told holds well = absurd cause
   unlogged k Starved cause told holds well = inr (starved_status before.sink now.sink [] status told)
 
   unlogged_upgrade : (k : ℕ) (ending : Ending) → Causes (Some (Upgrade k)) ending → Tells ending → HoldsNoLog k before → ¬ Rose (seen_at k before.disks).faults (seen_at k now.disks).faults → (status ≡ 8) ⊎ (status ≡ 1)
@@ -488,6 +539,8 @@ module _ (before now : Outside) (status : ℕ) (trail : List Record) where
   unlogged_upgrade k (Overflows size need) cause told (s, place, is, broken) well = absurd (no_log_shown (seen_at k before.disks).bytes s place _ is broken cause.1)
   unlogged_upgrade k (Breaks place) cause told holds well = same_status before.sink now.sink (text_of (Breaks place)) 8 status told
   unlogged_upgrade k (Runs why config list) cause told holds well = absurd cause
+  unlogged_upgrade k (Rejects line reason said) cause told holds well = absurd cause
+  unlogged_upgrade k (Upholds config events text) cause told holds well = absurd cause
   unlogged_upgrade k Starved cause told holds well = inr (starved_status before.sink now.sink [] status told)
 
 -- ---- by the words
@@ -511,7 +564,7 @@ module _ (words : List (List ℕ)) (before now : Outside) (status : ℕ) (trail 
   list_at : (ending : Ending) → ends.ending ≡ ending → IsListOf ending trail
   list_at ending is = subst (λ (x : Ending). IsListOf x trail) is ends.list
 
-  pub stops_at_line : status ≡ 3 → StopsAtLine words before now status trail ⊎ RefusesOffers words before now status trail
+  pub stops_at_line : status ≡ 3 → StopsAtLine words before now status trail ⊎ RefusesOffers words before now status trail ⊎ RejectsInput words before now status trail
   stops_at_line three = stops before now status trail words ends.ending ends.cause ends.run ends.list ends.told (own 1 three (λ e. cc))
 
   pub read_to_end : (operations : Operations) → named words ≡ Some (Play operations) → (status ≡ 0) ⊎ (status ≡ 5) → IfSome now.source.bytes (λ rest. rest ≡ [])
@@ -601,6 +654,7 @@ module _ (words : List (List ℕ)) (before now : Outside) (status : ℕ) (trail 
   no_log_for k (Some (Upgrade j)) is used holds well =
       let same : named words ≡ Some (Upgrade k) = is ∙ ap (λ (i : ℕ). Some (Upgrade i)) (let e : j ≡ k = cc in e) in
       unlogged_upgrade before now status trail k ends.ending (by_name (Some (Upgrade k)) same) ends.told holds well
+  no_log_for k (Some Audit) is used holds well = cc
 
   pub no_log : (k : ℕ) → disk_used (named words) ≡ Some k → HoldsNoLog k before → ¬ Rose (seen_at k before.disks).faults (seen_at k now.disks).faults → (status ≡ 8) ⊎ (status ≡ 1)
   no_log k used holds well = no_log_for k (named words) refl used holds well
@@ -647,3 +701,21 @@ module _ (words : List (List ℕ)) (before now : Outside) (status : ℕ) (trail 
       let printed = nodes_printed limit is none_failed in
       let learned = printed.learned in
       (printed.offers, printed.whole, λ commute. in_script_order before now trail printed.offers printed.whole learned.all commute)
+
+  -- ---- an audit
+
+  pub run_upheld : named words ≡ Some Audit → status ≡ 0 → AuditsRun before now trail
+  run_upheld is none_failed = audits_run before now status trail ends.ending (by_name (Some Audit) is) ends.run ends.told none_failed
+
+  pub audit_complete : named words ≡ Some Audit → HoldsPrinted before.source → ¬ Rose before.source.faults now.source.faults → ¬ Rose before.sink.faults now.sink.faults → (status ≡ 0) ⊎ (status ≡ 1)
+  audit_complete is holds read_well written_well = audit_completes before now status trail ends.ending (by_name (Some Audit) is) ends.told holds read_well written_well
+
+  pub audit_of_run : (config : Counts) (list : List Record) → named words ≡ Some Audit → HoldsRun config list before.source → ¬ Rose before.source.faults now.source.faults → ¬ Rose before.sink.faults now.sink.faults → (status ≡ 0) ⊎ (status ≡ 1)
+  audit_of_run config list is holds read_well written_well = audit_complete is (run_printed config list before.source holds) read_well written_well
+
+  pub audit_refused : named words ≡ Some Audit → HoldsOther before.source → ¬ Rose before.source.faults now.source.faults → (status ≡ 3) ⊎ (status ≡ 1)
+  audit_refused is holds read_well = audit_refuses before now status trail ends.ending (by_name (Some Audit) is) ends.told holds read_well
+
+  pub input_read : named words ≡ Some Audit → (status ≡ 0) ⊎ (status ≡ 5) → IfSome now.source.bytes (λ rest. rest ≡ [])
+  input_read is (inl none_failed) = audit_left before now status trail ends.ending (by_name (Some Audit) is) (done ends.ending before.sink now.sink status ends.told none_failed).well
+  input_read is (inr five) = audit_left before now status trail ends.ending (by_name (Some Audit) is) (sink_failed ends.ending before.sink now.sink status (never_five ends.ending) ends.told five).0

@@ -12,7 +12,7 @@ use Rattle.gp_ending.specs.declared.ends.RunEnd.{RunEnd}
 use Rattle.gp_ending.specs.declared.ends.RunEnd.TheVariants as end
 use Rattle.gp_cli.specs.declared.runs.TheConstants.{MOST_READ}
 use Rattle.gp_cli.specs.Outside.{Seen, Told, Wholly, AtFault, ForMemory}
-use Rattle.gp_cli.specs.Endings.{Ending, Misused, Unread, Refuses, Plays, Drives, Simulates, Shows, DiskFails, Overflows, Breaks, Runs, Starved, run_status, status_of, status_at_fault, text_of}
+use Rattle.gp_cli.specs.Endings.{Ending, Misused, Unread, Refuses, Plays, Drives, Simulates, Shows, DiskFails, Overflows, Breaks, Runs, Rejects, Upholds, Starved, run_status, status_of, status_at_fault, text_of}
 use Rattle.gp_cli.specs.Logs.{TellsEnding}
 
 -- a run without entries has no records
@@ -101,4 +101,6 @@ never_five DiskFails e = cc
 never_five (Overflows size need) e = cc
 never_five (Breaks place) e = cc
 never_five (Runs why config list) e = no_run_status why 5 e (omega arith) (omega arith)
+never_five (Rejects line reason said) e = cc
+never_five (Upholds config events text) e = cc
 never_five Starved e = cc

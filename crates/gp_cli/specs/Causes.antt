@@ -12,12 +12,13 @@ use Rattle.gp_vlog.specs.Files.{Contents, is_limit, read_log}
 use Rattle.gp_vlog.specs.Logs.{has_old}
 use Rattle.gp_cli.specs.declared.subcommand.Operations.{Operations}
 use Rattle.gp_cli.specs.declared.subcommand.Subcommand.{Subcommand}
-use Rattle.gp_cli.specs.declared.subcommand.Subcommand.TheVariants.{Play, Run, Sim, Drive, Log, Upgrade}
+use Rattle.gp_cli.specs.declared.subcommand.Subcommand.TheVariants.{Play, Run, Sim, Drive, Log, Upgrade, Audit}
 use Rattle.gp_cli.specs.declared.runs.TheConstants.{MOST_READ}
 use Rattle.gp_cli.specs.Subcommands.{named}
 use Rattle.gp_cli.specs.Machines.{reading_of}
 use Rattle.gp_cli.specs.Outside.{Seen, seen, Outside}
 use Rattle.gp_cli.specs.Run.{IsNodesCause}
+use Rattle.gp_cli.specs.Audits.{IsAuditCause}
 use Rattle.gp_cli.specs.Endings.{Shown, Ending, Misused, Unread, Refuses, Plays, Drives, Simulates, Shows, DiskFails, Overflows, Breaks, Starved}
 
 -- ---- a script
@@ -135,6 +136,7 @@ IsCauseFor (Some (Sim seed commands)) before now ending = IsRunCause (Simulates 
 IsCauseFor (Some (Drive acceptors learners commands)) before now ending = IsRunCause (Drives (driven_config acceptors learners) commands) ending
 IsCauseFor (Some (Log k)) before now ending = IsLogCause k (seen_at k before.disks) (seen_at k now.disks) ending
 IsCauseFor (Some (Upgrade k)) before now ending = IsUpgradeCause k (seen_at k before.disks) (seen_at k now.disks) ending
+IsCauseFor (Some Audit) before now ending = IsAuditCause before.source now.source ending
 
 -- the same, by the words
 abbrev pub IsCause : List (List ℕ) → Outside → Outside → Ending → Type 0
@@ -149,6 +151,7 @@ IsReader (Some (Sim seed commands)) = ⊥
 IsReader (Some (Drive acceptors learners commands)) = ⊥
 IsReader (Some (Log k)) = ⊥
 IsReader (Some (Upgrade k)) = ⊥
+IsReader (Some Audit) = Unit {0}
 
 -- nodes run in threads
 abbrev pub RunsNodes : Option Subcommand → Type 0
@@ -159,6 +162,7 @@ RunsNodes (Some (Sim seed commands)) = ⊥
 RunsNodes (Some (Drive acceptors learners commands)) = ⊥
 RunsNodes (Some (Log k)) = ⊥
 RunsNodes (Some (Upgrade k)) = ⊥
+RunsNodes (Some Audit) = ⊥
 
 -- the disk whose log the subcommand shows, if it shows one
 abbrev pub disk_used : Option Subcommand → Option ℕ
@@ -169,3 +173,4 @@ disk_used (Some (Sim seed commands)) = None
 disk_used (Some (Drive acceptors learners commands)) = None
 disk_used (Some (Log k)) = Some k
 disk_used (Some (Upgrade k)) = Some k
+disk_used (Some Audit) = None

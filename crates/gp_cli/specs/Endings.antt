@@ -1,6 +1,7 @@
 -- How a run of the program ends: its run, its text and its status.
 use Rattle.std.specs.Prelude.{ℕ, zero, suc, List, [], Option, Some, None}
 use Rattle.gp_round.specs.Counts.{Counts}
+use Rattle.gp_msg.specs.declared.event.Event.{Event}
 use Rattle.gp_msg.specs.declared.record.Record.{Record}
 use Rattle.gp_msg.specs.Messages.{Entry, EpochPart}
 use Rattle.gp_run.specs.Runs.{run_of, entries_in}
@@ -15,16 +16,17 @@ use Rattle.gp_sim.specs.Simulated.{sim_config, simulated}
 use Rattle.gp_text.specs.Reading.{Script, Sofar, run_before}
 use Rattle.gp_text.specs.Texts.{output_for}
 use Rattle.gp_text.specs.Logs.{log_text}
+use Rattle.gp_verdict.specs.declared.reason.AuditReason.{AuditReason}
 use Rattle.gp_cli.specs.declared.subcommand.Operations.{Operations}
 use Rattle.gp_cli.specs.Machines.{profile_of}
-use Rattle.gp_cli.specs.Texts.{usage, read_fault, disk_fault, log_changed, full_text, broken_text, refusal_text}
+use Rattle.gp_cli.specs.Texts.{usage, read_fault, disk_fault, log_changed, full_text, broken_text, refusal_text, rejection_text}
 
 -- the durable parts that a log holds, the oldest first, and its size
 pub record Shown : Type 0 where
   pub parts : List EpochPart
   pub size : ℕ
 
--- the words name no subcommand; the source failed; a line of the script is refused, and this is what the lines before it said; the script of a machine was played; commands were driven; the workload of a seed was settled; the log of a disk is shown; the disk failed; the renewed log, of this size, would need too much; the disk's bytes are no log, at this place; nodes ran in threads until this end, and posted these records; memory ran out before any of these was known
+-- the words name no subcommand; the source failed; a line of the script is refused, and this is what the lines before it said; the script of a machine was played; commands were driven; the workload of a seed was settled; the log of a disk is shown; the disk failed; the renewed log, of this size, would need too much; the disk's bytes are no log, at this place; nodes ran in threads until this end, and posted these records; an audit refuses a line of its input, and this is what the lines before it said; an audit upholds its input, a run of these events, with these certificates; memory ran out before any of these was known
 pub data Ending : Type 0 where
   Misused : Ending
   Unread : Ending
@@ -37,6 +39,8 @@ pub data Ending : Type 0 where
   Overflows : ℕ → ℕ → Ending
   Breaks : ℕ → Ending
   Runs : RunEnd → Counts → List Record → Ending
+  Rejects : ℕ → AuditReason → Option Script → Ending
+  Upholds : Counts → List Event → List ℕ → Ending
   Starved : Ending
 
 -- the status of a run of nodes that ended so, once its text was written
@@ -61,6 +65,8 @@ status_of DiskFails = 6
 status_of (Overflows size need) = 7
 status_of (Breaks place) = 8
 status_of (Runs end config list) = run_status end
+status_of (Rejects line reason before) = 3
+status_of (Upholds config events text) = 0
 status_of Starved = 1
 
 -- a run that would have ended well ends with 5 if the sink failed, and another one as it would have
@@ -90,6 +96,8 @@ text_of DiskFails = disk_fault
 text_of (Overflows size need) = full_text size need
 text_of (Breaks place) = broken_text place
 text_of (Runs end config list) = end_text end config list
+text_of (Rejects line reason before) = rejection_text line reason
+text_of (Upholds config events text) = text
 text_of Starved = []
 
 -- the run that it leads to, the newest entry first
@@ -105,6 +113,8 @@ run_to DiskFails = []
 run_to (Overflows size need) = []
 run_to (Breaks place) = []
 run_to (Runs end config list) = entries_in list
+run_to (Rejects line reason before) = run_before before
+run_to (Upholds config events text) = run_of config events
 run_to Starved = []
 
 -- the configuration of what was said, if anything was
@@ -125,4 +135,6 @@ config_of DiskFails = None
 config_of (Overflows size need) = None
 config_of (Breaks place) = None
 config_of (Runs end config list) = Some config
+config_of (Rejects line reason before) = config_in before
+config_of (Upholds config events text) = Some config
 config_of Starved = None

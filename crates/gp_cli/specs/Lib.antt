@@ -4,10 +4,12 @@ pub mod Machines
 pub mod Outside
 pub mod Endings
 pub mod Run
+pub mod Audits
 pub mod Causes
 pub mod Logs
 pub mod Serving
 pub mod LogRuns
 pub mod NodesRuns
+pub mod AuditRuns
 pub mod Trails
 pub mod Program

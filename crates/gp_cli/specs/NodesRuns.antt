@@ -22,7 +22,7 @@ use Rattle.gp_cluster.specs.Runs.{IsRunOf, IsOverLimit}
 use Rattle.gp_retelling.specs.Texts.{run_text}
 use Rattle.gp_cli.specs.declared.runs.TheConstants.{MOST_READ}
 use Rattle.gp_cli.specs.declared.subcommand.Subcommand.{Subcommand}
-use Rattle.gp_cli.specs.declared.subcommand.Subcommand.TheVariants.{Play, Run, Sim, Drive, Log, Upgrade}
+use Rattle.gp_cli.specs.declared.subcommand.Subcommand.TheVariants.{Play, Run, Sim, Drive, Log, Upgrade, Audit}
 use Rattle.gp_cli.specs.Subcommands.{named}
 use Rattle.gp_cli.specs.Texts.{log_changed, full_text, broken_text, refusal_text}
 use Rattle.gp_cli.specs.Machines.{IsInAgreementOfAll}
@@ -109,3 +109,4 @@ DiskFailed (Some (Sim seed commands)) before now = ⊥
 DiskFailed (Some (Drive acceptors learners commands)) before now = ⊥
 DiskFailed (Some (Log k)) before now = Rose (seen_at k before.disks).faults (seen_at k now.disks).faults
 DiskFailed (Some (Upgrade k)) before now = Rose (seen_at k before.disks).faults (seen_at k now.disks).faults
+DiskFailed (Some Audit) before now = ⊥

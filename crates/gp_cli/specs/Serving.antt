@@ -17,11 +17,11 @@ use Rattle.gp_text.specs.Texts.{output_for}
 use Rattle.gp_cli.specs.declared.runs.TheConstants.{MOST_READ}
 use Rattle.gp_cli.specs.declared.subcommand.Operations.{Operations}
 use Rattle.gp_cli.specs.declared.subcommand.Subcommand.{Subcommand}
-use Rattle.gp_cli.specs.declared.subcommand.Subcommand.TheVariants.{Play, Run, Sim, Drive, Log, Upgrade}
+use Rattle.gp_cli.specs.declared.subcommand.Subcommand.TheVariants.{Play, Run, Sim, Drive, Log, Upgrade, Audit}
 use Rattle.gp_cli.specs.Subcommands.{named}
 use Rattle.gp_cli.specs.Machines.{profile_of, reading_of, IsInAgreementOfAll}
 use Rattle.gp_cli.specs.Outside.{Seen, Outside, Told}
-use Rattle.gp_cli.specs.Endings.{Ending, Misused, Unread, Refuses, Plays, Drives, Simulates, Shows, DiskFails, Overflows, Breaks, Runs, Starved, run_to, config_of}
+use Rattle.gp_cli.specs.Endings.{Ending, Misused, Unread, Refuses, Plays, Drives, Simulates, Shows, DiskFails, Overflows, Breaks, Runs, Rejects, Upholds, Starved, run_to, config_of}
 use Rattle.gp_cli.specs.Causes.{HasRead}
 use Rattle.gp_cli.specs.Logs.{TellsEnding}
 use Rattle.gp_cli.specs.Texts.{refusal_text}
@@ -54,6 +54,8 @@ IsListOf DiskFails trail = Unit {0}
 IsListOf (Overflows size need) trail = Unit {0}
 IsListOf (Breaks place) trail = Unit {0}
 IsListOf (Runs end config list) trail = trail ≡ list
+IsListOf (Rejects line reason before) trail = Unit {0}
+IsListOf (Upholds config events text) trail = Unit {0}
 IsListOf Starved trail = Unit {0}
 
 -- the run ended in a way that has its cause: its records are the run of that ending, and the text of that ending went to the sink, with its status
@@ -90,6 +92,7 @@ IsUnused (Some (Sim seed commands)) config i = Unit {0}
 IsUnused (Some (Drive acceptors learners commands)) config i = Unit {0}
 IsUnused (Some (Log k)) config i = i ≢ k
 IsUnused (Some (Upgrade k)) config i = i ≢ k
+IsUnused (Some Audit) config i = Unit {0}
 
 -- the run ended in a way that has its cause, and each disk that it does not use is as before
 pub record KeepsUnused {D : Type 0} (sub : Option Subcommand) (Cause : Ending → Type 0) (old new : List D) : Type 0 where

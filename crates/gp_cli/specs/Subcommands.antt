@@ -10,7 +10,7 @@ use Rattle.gp_sim.specs.declared.driving.TheConstants.{MOST_DRIVEN}
 use Rattle.gp_cli.specs.declared.subcommand.Operations.TheVariants.{Store, Bank}
 use Rattle.gp_cli.specs.declared.subcommand.TheConstants.{LEAST_LIMIT, MOST_LIMIT}
 use Rattle.gp_cli.specs.declared.subcommand.Subcommand.{Subcommand}
-use Rattle.gp_cli.specs.declared.subcommand.Subcommand.TheVariants.{Play, Run, Sim, Drive, Log, Upgrade}
+use Rattle.gp_cli.specs.declared.subcommand.Subcommand.TheVariants.{Play, Run, Sim, Drive, Log, Upgrade, Audit}
 
 -- the words, each as its bytes
 abbrev pub texts_of : List (String Global) → List (List ℕ)
@@ -29,12 +29,13 @@ drive_named acceptors learners commands =
 abbrev pub sim_named : List ℕ → List ℕ → Option Subcommand
 sim_named seed commands = option_and_then (λ s. option_map (λ n. Sim s n) (number_within 1 MOST_COMMANDS commands)) (number_of seed)
 
--- `play` and `bank`, which play a script of the key store and one of accounts, and `run` with the greatest limit
+-- `play` and `bank`, which play a script of the key store and one of accounts, `run` with the greatest limit, and `audit`
 abbrev pub named_by_one : List ℕ → Option Subcommand
 named_by_one word =
     if bytes_eq word (codes "play") then Some (Play Store)
     else if bytes_eq word (codes "bank") then Some (Play Bank)
-    else if bytes_eq word (codes "run") then Some (Run MOST_LIMIT) else None
+    else if bytes_eq word (codes "run") then Some (Run MOST_LIMIT)
+    else if bytes_eq word (codes "audit") then Some Audit else None
 
 -- the limit of each log of nodes that run
 abbrev pub run_named : List ℕ → Option Subcommand
@@ -73,3 +74,4 @@ IsWithin (Sim seed commands) = (1 ≤ commands) × (commands ≤ MOST_COMMANDS)
 IsWithin (Drive acceptors learners commands) = (bad_count acceptors 3 learners ≡ None) × (commands ≤ MOST_DRIVEN)
 IsWithin (Log disk) = disk < 12
 IsWithin (Upgrade disk) = disk < 12
+IsWithin Audit = Unit {0}

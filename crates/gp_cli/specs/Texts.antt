@@ -2,10 +2,12 @@
 use Rattle.std.specs.Prelude.{ℕ, List, ◌++◌, codes, decimal}
 use Rattle.gp_script.specs.declared.reason.Reason.{Reason}
 use Rattle.gp_script.specs.declared.reason.Reason.TheVariants.{TooLong, NoNodesLine, BadLine, BadNumber, BadCount, BadKey, NoNode, BadFall, NoMessage, TooManyCommands, TooManyEvents}
+use Rattle.gp_verdict.specs.declared.reason.AuditReason.{AuditReason}
+use Rattle.gp_verdict.specs.declared.reason.AuditReason.TheVariants as audit
 
 -- what is printed if the words name no subcommand
 abbrev pub usage : List ℕ
-usage = codes "usage: mcgp play | run [LIMIT] | sim SEED COMMANDS | drive A L K | log K | upgrade K | bank\n"
+usage = codes "usage: mcgp play | run [LIMIT] | sim SEED COMMANDS | drive A L K | log K | upgrade K | audit | bank\n"
 
 -- what is printed if the source failed
 abbrev pub read_fault : List ℕ
@@ -41,6 +43,20 @@ reason_text NoMessage = codes "no message"
 reason_text TooManyCommands = codes "too many commands"
 reason_text TooManyEvents = codes "too many events"
 
+-- why an audit refuses a line
+abbrev pub audit_reason_text : AuditReason → List ℕ
+audit_reason_text (audit.Script why) = reason_text why
+audit_reason_text audit.NoReport = codes "no report"
+audit_reason_text audit.WrongReport = codes "wrong report"
+
+-- a line, and these words on it
+abbrev pub line_text : ℕ → List ℕ → List ℕ
+line_text line why = codes "line " ++ decimal line ++ codes ": " ++ why ++ codes "\n"
+
 -- the first refused line, and why
 abbrev pub refusal_text : ℕ → Reason → List ℕ
-refusal_text line reason = codes "line " ++ decimal line ++ codes ": " ++ reason_text reason ++ codes "\n"
+refusal_text line reason = line_text line (reason_text reason)
+
+-- the first line that an audit refuses, and why
+abbrev pub rejection_text : ℕ → AuditReason → List ℕ
+rejection_text line reason = line_text line (audit_reason_text reason)

@@ -4,7 +4,7 @@ use Rattle.gp_msg.specs.declared.record.Record.{Record}
 use Rattle.gp_cli.specs.declared.ran.Trail.{Trail}
 use Rattle.gp_cli.specs.declared.ran.Trail.TheVariants.{Folded, Posted}
 use Rattle.gp_cli.specs.declared.subcommand.Subcommand.{Subcommand}
-use Rattle.gp_cli.specs.declared.subcommand.Subcommand.TheVariants.{Play, Run, Sim, Drive, Log, Upgrade}
+use Rattle.gp_cli.specs.declared.subcommand.Subcommand.TheVariants.{Play, Run, Sim, Drive, Log, Upgrade, Audit}
 
 -- its records, the oldest first
 abbrev pub records_in : Trail → List Record
@@ -35,3 +35,4 @@ IsMadeFor (Some (Sim seed commands)) status trail = IsFolded trail
 IsMadeFor (Some (Drive acceptors learners commands)) status trail = IsFolded trail
 IsMadeFor (Some (Log k)) status trail = IsFolded trail
 IsMadeFor (Some (Upgrade k)) status trail = IsFolded trail
+IsMadeFor (Some Audit) status trail = IsFolded trail

@@ -2,27 +2,29 @@
 ghost use Rattle.std.specs.Prelude.{◌≡◌, ◌≢◌, ◌⊎◌, List, [], ℕ, true, false, None, Some, IfSome};
 ghost use Rattle.gp_edge.specs.Faults.{Rose};
 ghost use Rattle.gp_msg.specs.declared.record.Record.{Record};
+ghost use Rattle.gp_round.specs.Counts.{Counts};
 ghost use Rattle.gp_offers.specs.declared.script.Offers.{Offers};
 ghost use Rattle.gp_cli.specs.declared.subcommand.Operations.{Operations};
-ghost use Rattle.gp_cli.specs.declared.subcommand.Subcommand.TheVariants.{Play, Run, Sim, Drive, Log, Upgrade};
+ghost use Rattle.gp_cli.specs.declared.subcommand.Subcommand.TheVariants.{Play, Run, Sim, Drive, Log, Upgrade, Audit};
 ghost use Rattle.gp_cli.specs.Subcommands.{named};
 ghost use Rattle.gp_cli.specs.Outside.{Outside};
 ghost use Rattle.gp_cli.specs.Causes.{IsCause, seen_at, driven_config, disk_used};
 ghost use Rattle.gp_cli.specs.Serving.{Ends, HoldsScript, HoldsBadLine, PlaysWhole, StopsAtLine, PrintsDriven, PrintsSimulated};
 ghost use Rattle.gp_cli.specs.LogRuns.{HoldsLog, HoldsRoomyLog, HoldsFullLog, HoldsNoLog, ShowsLog, ShowsTakenOn, HasNoSpace, IsBrokenAt};
 ghost use Rattle.gp_cli.specs.Run.{SomeFailed};
+ghost use Rattle.gp_cli.specs.AuditRuns.{HoldsPrinted, HoldsOther, HoldsRun, AuditsRun, RejectsInput};
 ghost use Rattle.gp_cli.specs.NodesRuns.{HoldsOffers, HoldsBadOffers, HasRoomForNext, AllCommute, RunsInScriptOrder, OffersAll, PrintsNodes, RefusesOffers, FillsLog, LosesLog, DiskFailed};
 ghost use Rattle.gp_cli.specs.Program.{Arguments, AreWords, IsProgramCause};
 
 /// With status 0 a script, of the key store for `play` and of accounts for `bank`, was read to its end and
 /// played, and all that it prints was written, with no fault of the source or the sink. With status 3 a
-/// line of such a script, or of one of `run`, was refused, and nothing else was printed than which, and why.
-/// With status 5 too the script was read to its end.
+/// line of such a script, of one of `run`, or of the input of `audit` was refused, and nothing else was printed
+/// than which, and why. With status 5 too the script was read to its end.
 pub fn a_script_was_played_or_refused()
     ensures played { (words : List (List ℕ)) (before now : Outside) (status : ℕ) (trail : List Record) → Ends (IsCause words) before now status trail → (operations : Operations)
         → named words ≡ Some (Play operations) → status ≡ 0 → PlaysWhole operations before now trail }
     ensures refused { (words : List (List ℕ)) (before now : Outside) (status : ℕ) (trail : List Record) → Ends (IsCause words) before now status trail
-        → status ≡ 3 → StopsAtLine words before now status trail ⊎ RefusesOffers words before now status trail }
+        → status ≡ 3 → StopsAtLine words before now status trail ⊎ RefusesOffers words before now status trail ⊎ RejectsInput words before now status trail }
     ensures read_to_end { (words : List (List ℕ)) (before now : Outside) (status : ℕ) (trail : List Record) → Ends (IsCause words) before now status trail → (operations : Operations)
         → named words ≡ Some (Play operations) → (status ≡ 0) ⊎ (status ≡ 5) → IfSome now.source.bytes (λ rest. rest ≡ []) }
 {}
@@ -78,6 +80,26 @@ pub fn a_run_without_input_is_printed()
         → named words ≡ Some (Drive a l n) → ¬ Rose before.sink.faults now.sink.faults → (status ≡ 0) ⊎ (status ≡ 1) }
     ensures sim_complete { (words : List (List ℕ)) (before now : Outside) (status : ℕ) (trail : List Record) → Ends (IsCause words) before now status trail → (seed n : ℕ)
         → named words ≡ Some (Sim seed n) → ¬ Rose before.sink.faults now.sink.faults → (status ≡ 0) ⊎ (status ≡ 1) }
+{}
+
+/// With status 0 of `audit` the input was read to its end, and it is what a run prints: the lines of a trace,
+/// which is a legal run, a line `--`, and the lines of the report of this run. The records are this run, and
+/// a certificate for each command that its learners hold was written. With status 5 too the input was read to
+/// its end.
+///
+/// If nothing fails and there is memory, such an input has status 0, and so has what `run` prints, if its trace
+/// is within the limits of a script. Every other input has status 3.
+pub fn what_a_run_printed_is_upheld()
+    ensures upheld { (words : List (List ℕ)) (before now : Outside) (status : ℕ) (trail : List Record) → Ends (IsCause words) before now status trail
+        → named words ≡ Some Audit → status ≡ 0 → AuditsRun before now trail }
+    ensures complete { (words : List (List ℕ)) (before now : Outside) (status : ℕ) (trail : List Record) → Ends (IsCause words) before now status trail → named words ≡ Some Audit
+        → HoldsPrinted before.source → ¬ Rose before.source.faults now.source.faults → ¬ Rose before.sink.faults now.sink.faults → (status ≡ 0) ⊎ (status ≡ 1) }
+    ensures of_run { (words : List (List ℕ)) (before now : Outside) (status : ℕ) (trail : List Record) → Ends (IsCause words) before now status trail → (config : Counts) (list : List Record) → named words ≡ Some Audit
+        → HoldsRun config list before.source → ¬ Rose before.source.faults now.source.faults → ¬ Rose before.sink.faults now.sink.faults → (status ≡ 0) ⊎ (status ≡ 1) }
+    ensures refuses { (words : List (List ℕ)) (before now : Outside) (status : ℕ) (trail : List Record) → Ends (IsCause words) before now status trail → named words ≡ Some Audit
+        → HoldsOther before.source → ¬ Rose before.source.faults now.source.faults → (status ≡ 3) ⊎ (status ≡ 1) }
+    ensures read_to_end { (words : List (List ℕ)) (before now : Outside) (status : ℕ) (trail : List Record) → Ends (IsCause words) before now status trail
+        → named words ≡ Some Audit → (status ≡ 0) ⊎ (status ≡ 5) → IfSome now.source.bytes (λ rest. rest ≡ []) }
 {}
 
 /// With status 0 `log` has shown the log that its disk holds, and `upgrade` the log that it then holds: if

@@ -1,6 +1,7 @@
 //! The program, over any source, sink and disks.
 #![tactic(auto)]
 
+mod auditing;
 mod disks;
 pub mod laws;
 mod logs;

@@ -48,8 +48,8 @@ pub(crate) fn without_run(alloc: Global, status: u8) -> Outcome
     }
 }
 
-// Prints what a run that was made prints.
-fn print<K: Sink>(alloc: Global, made: Result<Played, NoMemory>, sink: &mut K) -> Outcome
+/// Prints what a run that was made prints.
+pub(crate) fn print<K: Sink>(alloc: Global, made: Result<Played, NoMemory>, sink: &mut K) -> Outcome
     ensures made { IfOk made (λ played. (result.trail ≡ played.world.records)
         × Told (seen (K.written sink.old) (K.faults sink.old)) (seen (K.written sink.new) (K.faults sink.new)) played.text.items 0 5 result.status) }
     ensures starved { IfErr made (λ _. (result.trail ≡ [])

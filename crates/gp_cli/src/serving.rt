@@ -9,6 +9,7 @@ ghost use Rattle.gp_cli.specs.Logs.{KeepsLast};
 ghost use Rattle.gp_cli.specs.Serving.{EndsBy, Ends, IsInAgreementFor, EachDisk, KeepsUnused};
 ghost use Rattle.gp_cli.specs.Trails.{records_in, IsFolded, IsMadeFor};
 
+use crate::auditing::read_and_audit;
 use crate::logs::use_disk;
 use crate::nodes::read_and_run;
 use crate::ran::{Ran, Trail};
@@ -100,8 +101,10 @@ fn use_log<D: Disk, K: Sink>(
 /// they ended before. The gate is for their steps; no contract speaks of it. `sim` makes the workload of a
 /// seed, settles it, and prints a summary. `drive` drives commands one by one in a multi round of which one coordinator takes no
 /// part, and prints the report. `log` prints the entries of the log of a disk, and changes no byte of it;
-/// `upgrade` does the same after it has renewed a log with entries of version 1 of the format. Words that
-/// name no subcommand get the usage. What each exit status says is in `laws`.
+/// `upgrade` does the same after it has renewed a log with entries of version 1 of the format. `audit` reads
+/// what `run` prints, to its end or to one byte past the most that it may have, and prints the word `legal`
+/// and a certificate for each learned command, or the first line that is not in order. Words that name no
+/// subcommand get the usage. What each exit status says is in `laws`.
 pub fn serve<W: Threads + Wait + Sync, S: Source, K: Sink, D: Disk + Send, G: Gate + Sync>(
     rt: &W,
     alloc: Global,
@@ -162,6 +165,7 @@ pub fn serve<W: Threads + Wait + Sync, S: Source, K: Sink, D: Disk + Send, G: Ga
         ),
         Some(Subcommand::Log { disk }) => use_log(alloc, disk, false, disks, sink),
         Some(Subcommand::Upgrade { disk }) => use_log(alloc, disk, true, disks, sink),
+        Some(Subcommand::Audit) => with_disks(read_and_audit(alloc, source, sink), disks),
         None => with_disks(misuse(alloc, sink), disks),
     }
 }

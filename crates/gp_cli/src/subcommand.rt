@@ -64,6 +64,8 @@ pub enum Subcommand {
         /// The number of the disk, 0 to 11.
         disk: u32,
     },
+    /// Read what `run` printed, and print whether it is right, with a certificate for each learned command.
+    Audit,
 }
 
 // The number that a word spells, if it is in the range.
@@ -109,6 +111,7 @@ fn of_one(word: &str) -> Option<Subcommand>
             operations: Operations::Bank,
         }),
         "run" => Some(Subcommand::Run { limit: MOST_LIMIT }),
+        "audit" => Some(Subcommand::Audit),
         _ => None,
     }
 }

@@ -1,18 +1,19 @@
 //! The texts that are printed, and the status that goes with each.
 ghost use Rattle.std.specs.Prelude.{ℕ, ◌≡◌, ◌≤◌, ◌<◌, List, length, IfOk, IfErr};
-ghost use Rattle.gp_cli.specs.Texts.{reason_text, refusal_text, full_text, broken_text};
+ghost use Rattle.gp_cli.specs.Texts.{reason_text, audit_reason_text, line_text, refusal_text, rejection_text, full_text, broken_text};
 ghost use Rattle.gp_cli.specs.Outside.{seen, Told};
 
 use crate::status::NO_MEMORY;
 use gp_command::NoMemory;
 use gp_edge::{Refused, Sink, write_whole};
 use gp_script::Reason;
+use gp_verdict::AuditReason;
 use gp_words::push_number;
 use std::alloc::Global;
 
 /// What is printed if the words name no subcommand.
 pub const USAGE: &[u8] =
-    b"usage: mcgp play | run [LIMIT] | sim SEED COMMANDS | drive A L K | log K | upgrade K | bank\n";
+    b"usage: mcgp play | run [LIMIT] | sim SEED COMMANDS | drive A L K | log K | upgrade K | audit | bank\n";
 
 /// What is printed if the source failed.
 pub const READ_FAULT: &[u8] = b"read fault\n";
@@ -42,17 +43,41 @@ fn reason_text(reason: Reason) -> &'static [u8]
     }
 }
 
-/// What is printed if a line, by its number from 1, is the first that is refused.
-pub fn refusal_text(alloc: Global, line: u64, reason: Reason) -> Result<Vec<u8>, NoMemory>
-    ensures { IfOk result (λ text. text.items ≡ refusal_text line reason) }
+fn audit_reason_text(reason: AuditReason) -> &'static [u8]
+    ensures { result.now ≡ audit_reason_text reason }
+{
+    match reason {
+        AuditReason::Script(why) => reason_text(why),
+        AuditReason::NoReport => b"no report",
+        AuditReason::WrongReport => b"wrong report",
+    }
+}
+
+// A line, by its number from 1, and these words on it.
+fn line_text(alloc: Global, line: u64, why: &[u8]) -> Result<Vec<u8>, NoMemory>
+    ensures { IfOk result (λ text. text.items ≡ line_text line why.now) }
 {
     let mut text = Vec::new(alloc);
     text.extend_from_slice(b"line ")?;
     push_number(line, &mut text)?;
     text.extend_from_slice(b": ")?;
-    text.extend_from_slice(reason_text(reason))?;
+    text.extend_from_slice(why)?;
     text.push(b'\n')?;
     Ok(text)
+}
+
+/// What is printed if a line, by its number from 1, is the first that is refused.
+pub fn refusal_text(alloc: Global, line: u64, reason: Reason) -> Result<Vec<u8>, NoMemory>
+    ensures { IfOk result (λ text. text.items ≡ refusal_text line reason) }
+{
+    line_text(alloc, line, reason_text(reason))
+}
+
+/// What is printed if a line, by its number from 1, is the first that an audit refuses.
+pub fn rejection_text(alloc: Global, line: u64, reason: AuditReason) -> Result<Vec<u8>, NoMemory>
+    ensures { IfOk result (λ text. text.items ≡ rejection_text line reason) }
+{
+    line_text(alloc, line, audit_reason_text(reason))
 }
 
 /// What is printed if a log of this size, in bytes, has no room for an entry of this need.

@@ -14,7 +14,7 @@ use std::test::Fail;
 use std::thread::Threads;
 
 const USAGE: &[u8] =
-    b"usage: mcgp play | run [LIMIT] | sim SEED COMMANDS | drive A L K | log K | upgrade K | bank\n";
+    b"usage: mcgp play | run [LIMIT] | sim SEED COMMANDS | drive A L K | log K | upgrade K | audit | bank\n";
 
 const SCRIPT: &[u8] = b"nodes 3 1 1\n";
 
@@ -52,6 +52,8 @@ fn unknown_words_print_the_usage(rt: HostRuntime) -> Result<(), Fail> {
     assert!(rt; are_refused(&rt, alloc, &["drive", "8", "1", "1"])?);
     assert!(rt; are_refused(&rt, alloc, &["drive", "3", "5", "1"])?);
     assert!(rt; are_refused(&rt, alloc, &["drive", "3", "1", "65"])?);
+    assert!(rt; are_refused(&rt, alloc, &["audit", "x"])?);
+    assert!(rt; are_refused(&rt, alloc, &["Audit"])?);
     assert!(rt; are_refused(&rt, alloc, &["bank", "x"])?);
     assert!(rt; are_refused(&rt, alloc, &["bank", "0"])?);
     assert!(rt; are_refused(&rt, alloc, &["Bank"])?);

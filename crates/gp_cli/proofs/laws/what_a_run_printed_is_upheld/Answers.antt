@@ -1,0 +1,18 @@
+-- The lemmas are the law.
+use Rattle.gp_cli.proofs.Statuses.{run_upheld, audit_complete, audit_of_run, audit_refused, input_read}
+use Rattle.gp_cli.proofs.laws.what_a_run_printed_is_upheld.Goals as goal
+
+pub returns-clause-upheld : goal.returns-clause-upheld
+returns-clause-upheld g = λ words before now status trail ends. run_upheld words before now status trail ends
+
+pub returns-clause-complete : goal.returns-clause-complete
+returns-clause-complete g = λ words before now status trail ends. audit_complete words before now status trail ends
+
+pub returns-clause-of_run : goal.returns-clause-of_run
+returns-clause-of_run g = λ words before now status trail ends. audit_of_run words before now status trail ends
+
+pub returns-clause-refuses : goal.returns-clause-refuses
+returns-clause-refuses g = λ words before now status trail ends. audit_refused words before now status trail ends
+
+pub returns-clause-read_to_end : goal.returns-clause-read_to_end
+returns-clause-read_to_end g = λ words before now status trail ends. input_read words before now status trail ends
