@@ -4,6 +4,8 @@
 #[cfg(test)]
 mod accounts;
 #[cfg(test)]
+mod audits;
+#[cfg(test)]
 mod driven_runs;
 #[cfg(test)]
 mod failing_disks;

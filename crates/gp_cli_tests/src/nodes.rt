@@ -21,8 +21,9 @@ const EIGHT_LEARNED: [&[u8]; 3] = [
 // Two commands that conflict, which a coordinator with an odd number takes in the other order.
 const TWO: &[u8] = b"nodes 3 2 1\noffer p0 put a 1\noffer p0 put a 2\n";
 
-// A checkpoint between two commands that conflict.
-const CHECKPOINT: &[u8] = b"nodes 3 3 2\noffer p0 put a 1\noffer p0 checkpoint\noffer p0 add a 2\n";
+/// A checkpoint between two commands that conflict.
+pub const CHECKPOINT: &[u8] =
+    b"nodes 3 3 2\noffer p0 put a 1\noffer p0 checkpoint\noffer p0 add a 2\n";
 
 /// What a run of nodes printed before and after the line `--`.
 #[derive(Drop)]
