@@ -1,6 +1,6 @@
 //! Runs the examples in the folders that its arguments name, and compares the exit status and the output of
 //! each with the page `NAME.md` beside it: a script `NAME.txt` of the key store, or `NAME.bank` of accounts, is
-//! played, and a log `NAME.log` is shown.
+//! played, what a run printed, `NAME.audit`, is audited, and a log `NAME.log` is shown.
 #![tactic(auto)]
 
 ghost use Rattle.std.specs.Prelude.{◌≡◌, IfOk, length};
@@ -59,8 +59,8 @@ fn passage(
     Ok(format!(in alloc; "ends with status {status}:\n\n```text\n{text}```\n")?)
 }
 
-// The passage of a script, which this word plays.
-fn played(
+// The passage of an input, which this word reads.
+fn served(
     rt: &HostRuntime,
     wait: &(impl Threads + Wait + Sync),
     word: &str,
@@ -93,8 +93,8 @@ fn compare(rt: &HostRuntime, folder: &str, name: &str, passage: &str) -> io::Res
     }
 }
 
-// The same for each script of a folder whose name has this ending, which this word plays.
-fn compare_scripts(
+// The same for each input of a folder whose name has this ending, which this word reads.
+fn compare_inputs(
     rt: &HostRuntime,
     wait: &(impl Threads + Wait + Sync),
     folder: &str,
@@ -102,8 +102,8 @@ fn compare_scripts(
     word: &str,
 ) -> io::Result<()> {
     for name in names_in(rt, folder, ending)? {
-        let script = format!(in rt.alloc(); "{folder}/{name}{ending}")?;
-        let passage = played(rt, wait, word, script.as_str())?;
+        let input = format!(in rt.alloc(); "{folder}/{name}{ending}")?;
+        let passage = served(rt, wait, word, input.as_str())?;
         compare(rt, folder, name.as_str(), passage.as_str())?;
     }
     Ok(())
@@ -114,8 +114,9 @@ fn compare_all(
     wait: &(impl Threads + Wait + Sync),
     folder: &str,
 ) -> io::Result<()> {
-    compare_scripts(rt, wait, folder, ".txt", "play")?;
-    compare_scripts(rt, wait, folder, ".bank", "bank")?;
+    compare_inputs(rt, wait, folder, ".txt", "play")?;
+    compare_inputs(rt, wait, folder, ".bank", "bank")?;
+    compare_inputs(rt, wait, folder, ".audit", "audit")?;
     for name in names_in(rt, folder, ".log")? {
         let log = format!(in rt.alloc(); "{folder}/{name}.log")?;
         compare(
