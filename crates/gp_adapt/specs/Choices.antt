@@ -1,8 +1,8 @@
 -- What is asked of the closure of an adapting coordinator.
-use Rattle.std.specs.Prelude.{◌≡◌, ◌≤◌}
+use Rattle.std.specs.Prelude.{◌≡◌, ◌≤◌, ℕ, cond, nat_eq}
 use Rattle.std.specs.Borrow.{Bor}
 use Rattle.gp_round.specs.declared.round.Mode.{Mode}
-use Rattle.gp_round.specs.declared.round.Mode.TheVariants.{Single}
+use Rattle.gp_round.specs.declared.round.Mode.TheVariants.{Single, Multi, Fast}
 use Rattle.gp_adapt.specs.declared.scene.TheConstants.{MOST_CLASHES}
 use Rattle.gp_adapt.specs.declared.scene.Scene.{Scene}
 use Rattle.gp_adapt.specs.Courses.{CourseState, scene_of}
@@ -14,6 +14,14 @@ TakesScenes pre = (s : Bor Scene) → pre s
 -- from two clashes on it answers a single round
 abbrev pub AnswersSingleRounds : (Bor Scene → Mode → Type 0) → Type 0
 AnswersSingleRounds post = (s : Bor Scene) (m : Mode) → MOST_CLASHES ≤ s.now.clashes → post s m → m ≡ Single
+
+-- the mode of the next round, after so many clashes
+abbrev pub mode_after : ℕ → Mode
+mode_after n = cond (nat_eq n 0) Fast (cond (nat_eq n 1) Multi Single)
+
+-- it answers the mode after the clashes that it is told
+abbrev pub AnswersModes : (Bor Scene → Mode → Type 0) → Type 0
+AnswersModes post = (s : Bor Scene) (m : Mode) → post s m → m ≡ mode_after s.now.clashes
 
 -- it answers this mode to the scene of this course
 pub record AnswersMode (post : Bor Scene → Mode → Type 0) (s : CourseState) (m : Mode) : Type 0 where

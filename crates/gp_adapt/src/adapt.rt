@@ -3,7 +3,7 @@ ghost use Rattle.std.specs.Prelude.{◌≡◌, ◌<◌, ◌≤◌, ◌+◌, ◌&
 ghost use Rattle.std.specs.Option.{is_some};
 ghost use Rattle.gp_round.specs.Configs.{is_owner, lead_of};
 ghost use Rattle.gp_round.specs.Rounds.{earlier};
-ghost use Rattle.gp_adapt.specs.Choices.{TakesScenes, AnswersSingleRounds, AnswersMode};
+ghost use Rattle.gp_adapt.specs.Choices.{TakesScenes, AnswersSingleRounds, AnswersMode, AnswersModes, mode_after};
 ghost use Rattle.gp_adapt.specs.Courses.{opening, moved, begins};
 ghost use Rattle.gp_adapt.specs.Calls.{IsAnswered};
 
@@ -32,9 +32,12 @@ pub struct Adapt {
     pub choose: ChooseMode,
     /// What it remembers of its calls.
     pub course: Course,
+    /// Whether the closure is known to answer a fast, a multi or a single round by the clashes alone. It changes no answer.
+    pub by_clashes: bool,
     pub ghost known: { coordinator < config.coordinators },
     pub ghost callable: { TakesScenes (ChooseMode.pre choose) },
     pub ghost single: { AnswersSingleRounds (ChooseMode.post choose) },
+    pub ghost modes: { by_clashes ≡ true → AnswersModes (ChooseMode.post choose) },
 }
 
 impl Adapt {
@@ -57,7 +60,42 @@ impl Adapt {
             coordinator,
             choose,
             course: Course::new(calm),
+            by_clashes: false,
         }
+    }
+
+    /// As `new`, where the closure answers a fast round without a clash, a multi round after one, and a single round after
+    /// more.
+    pub fn new_by_clashes(config: Config, coordinator: u32, calm: u32, choose: ChooseMode) -> Adapt
+        requires known { coordinator < config.coordinators }
+        requires some_calm { 1 ≤ calm }
+        requires most_calm { calm ≤ MOST_CALM }
+        requires callable { TakesScenes (ChooseMode.pre choose) }
+        requires modes { AnswersModes (ChooseMode.post choose) }
+        ensures config { result.config ≡ config }
+        ensures coordinator { result.coordinator ≡ coordinator }
+        ensures choose { result.choose ≡ choose }
+        ensures course { result.course ≡ opening calm }
+        ensures by_clashes { result.by_clashes ≡ true }
+    {
+        Adapt {
+            config,
+            coordinator,
+            choose,
+            course: Course::new(calm),
+            by_clashes: true,
+        }
+    }
+
+    /// As before the first call. It takes no memory.
+    pub fn reset(&mut self)
+        ensures course { self.new.course ≡ opening self.old.course.calm }
+        ensures config { self.new.config ≡ self.old.config }
+        ensures coordinator { self.new.coordinator ≡ self.old.coordinator }
+        ensures choose { self.new.choose ≡ self.old.choose }
+        ensures by_clashes { self.new.by_clashes ≡ self.old.by_clashes }
+    {
+        self.course.reset();
     }
 
     /// The round that the coordinator is to begin next, if it is to begin one: its count is one above that of
@@ -71,9 +109,11 @@ impl Adapt {
         ensures config { self.new.config ≡ self.old.config }
         ensures coordinator { self.new.coordinator ≡ self.old.coordinator }
         ensures choose { self.new.choose ≡ self.old.choose }
+        ensures by_clashes { self.new.by_clashes ≡ self.old.by_clashes }
         ensures when { is_some result ≡ (begins self.old.course clashed && nat_lt highest.count LAST_COUNT) }
         ensures count { IfSome result (λ r. r.count ≡ highest.count + 1) }
         ensures mode { IfSome result (λ r. AnswersMode (ChooseMode.post self.old.choose) self.new.course r.mode) }
+        ensures after { self.old.by_clashes ≡ true → IfSome result (λ r. r.mode ≡ mode_after self.new.course.clashes) }
         ensures lead { IfSome result (λ r. r.lead ≡ lead_of r.mode self.old.coordinator) }
         ensures owned { IfSome result (λ r. is_owner self.old.config.coordinators self.old.coordinator r ≡ true) }
         ensures greater { IfSome result (λ r. earlier highest r ≡ true) }

@@ -45,6 +45,17 @@ impl Course {
         }
     }
 
+    /// As before the first call. It takes no memory.
+    pub(crate) fn reset(&mut self)
+        ensures { self.new ≡ opening self.old.calm }
+    {
+        self.begun = false;
+        self.scene = Scene {
+            clashes: 0,
+            quiet: 0,
+        };
+    }
+
     /// What the closure is told. It takes no memory.
     pub fn scene(&self) -> Scene
         ensures { result ≡ scene_of self.now }

@@ -1,6 +1,7 @@
 //! Calls that ask for the next round, as tables.
 ghost use Rattle.std.specs.Prelude.{◌≡◌, ◌<◌, ◌≤◌};
 ghost use Rattle.gp_round.specs.declared.round.Mode.TheVariants.{Single};
+ghost use Rattle.gp_adapt.specs.Choices.{mode_after};
 
 use gp_adapt::{Adapt, ChooseMode, LAST_COUNT, Scene};
 use gp_round::{Config, Mode, Round};
@@ -114,4 +115,27 @@ fn no_round_follows_the_greatest_count(rt: HostRuntime) -> Result<(), Fail> {
         (Some((7, Mode::Single)), true, Some((8, Mode::Multi))),
     ];
     asks(&rt, rt.alloc(), 0, 1, &CALLS)
+}
+
+#[test]
+fn after_a_reset_the_next_call_is_the_first_one(rt: HostRuntime) -> Result<(), Fail> {
+    let choose: ChooseMode = Box::new(
+        rt.alloc(),
+        |scene: &Scene| -> Mode
+            ensures { result ≡ mode_after scene.now.clashes }
+        {
+            match scene.clashes {
+                0 => Mode::Fast,
+                1 => Mode::Multi,
+                _ => Mode::Single,
+            }
+        },
+    )?;
+    let mut adapt = Adapt::new_by_clashes(Config::new(3, 3, 1)?, 0, 2, choose);
+    assert_eq!(rt; adapt.next(ZERO, false), Some(round((1, Mode::Fast), 0)));
+    let clashed = round((1, Mode::Fast), 0);
+    assert_eq!(rt; adapt.next(clashed, true), Some(round((2, Mode::Multi), 0)));
+    adapt.reset();
+    assert_eq!(rt; adapt.next(ZERO, true), Some(round((1, Mode::Fast), 0)));
+    Ok(())
 }

@@ -1,3 +1,5 @@
 pub mod Stood
 pub mod Seeing
 pub mod Deciding
+pub mod Following
+pub mod Adapted

@@ -3,3 +3,4 @@ pub mod Standing
 pub mod Sights
 pub mod Calling
 pub mod Codes
+pub mod Adapting

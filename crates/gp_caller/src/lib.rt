@@ -1,11 +1,14 @@
 //! The rounds that coordinator 0 begins in a run: in each epoch a multi round, and a single round once the values of that
-//! round have clashed.
+//! round have clashed; or, in a run that adapts, fast rounds, and after clashes multi and then single rounds.
 #![tactic(auto)]
 
+mod adapting;
 mod policy;
 mod rounds;
 mod sight;
 mod standing;
 
-pub use policy::{FIRST_ROUND, LAST_COUNT, LEADER, next_round};
+pub use adapting::AdaptiveCaller;
+pub use policy::{CALM, FIRST_FAST_ROUND, FIRST_ROUND, LAST_COUNT, LEADER, mode_after, next_round};
 pub use rounds::RoundCaller;
+pub use sight::Sight;

@@ -24,7 +24,7 @@ use std::sync::Wait;
 
 /// A watch over one round of one epoch that sees the messages of a wire in their order.
 #[derive(Drop, Debug)]
-pub(crate) struct Sight {
+pub struct Sight {
     watch: Watch,
     // how many messages the watch saw
     looked: u64,
