@@ -1,5 +1,5 @@
 -- The values of a round in one epoch of a legal run: each sender only adds to its value.
-use Rattle.std.proofs.Common.{◌≡◌, ◌<◌, ◌⊎◌, ℕ, zero, suc, List, [], ◌∷◌, ◌++◌, Some, sym, subst}
+use Rattle.std.proofs.Common.{◌≡◌, ◌<◌, ◌⊎◌, ℕ, zero, suc, List, [], ◌∷◌, ◌++◌, Some, sym, ap, ◌∙◌, subst}
 use Rattle.std.specs.Prelude.{slice_get}
 use Rattle.std.specs.List.{Contains}
 use Rattle.gp_history.specs.History.{History, IsHistory, IsPrefix}
@@ -7,9 +7,13 @@ use Rattle.gp_round.specs.declared.round.Round.{Round}
 use Rattle.gp_round.specs.Counts.{Counts}
 use Rattle.gp_msg.specs.declared.node.Node.{Node}
 use Rattle.gp_msg.specs.declared.node.Node.TheVariants.{Proposer, Coordinator, Acceptor, Learner}
+use Rattle.gp_msg.specs.declared.record.Record.{Record}
 use Rattle.gp_msg.specs.Messages.{Proposed, Asked, Answered, Sent, Voted, Stamped, Offered, InEpoch, Final, Entry}
 use Rattle.gp_run.specs.Messages.{messages}
 use Rattle.gp_run.specs.Legal.{Legal}
+use Rattle.gp_run.specs.Runs.{entries_in}
+use Rattle.gp_run.proofs.Telling.{messages-append}
+use Rattle.gp_rules.specs.Still.{entries_append}
 use Rattle.gp_cstructs.proofs.Lists.{get_among, among_contains}
 use Rattle.gp_agreement.specs.Facts.{HasSent}
 use Rattle.gp_agreement.proofs.Facts.{all_facts}
@@ -73,7 +77,7 @@ value_more r ms more v h = record {
   there = record { message = h.there.message; there = get_more ms more h.place h.there.message h.there.there; brings = h.there.brings };
 }
 
-pub incompatible_more : (r : EpochRound) (ms more : List Stamped) → HasIncompatibleValues r ms → HasIncompatibleValues r (ms ++ more)
+incompatible_more : (r : EpochRound) (ms more : List Stamped) → HasIncompatibleValues r ms → HasIncompatibleValues r (ms ++ more)
 incompatible_more r ms more h = record {
   left = h.left;
   right = h.right;
@@ -81,3 +85,10 @@ incompatible_more r ms more h = record {
   there_right = value_more r ms more h.right h.there_right;
   incompatible = h.incompatible;
 }
+
+-- two values that the messages of some records have stand among those of more records
+pub incompatible_since : (r : EpochRound) (seen more : List Record) → HasIncompatibleValues r (messages (entries_in seen)) → HasIncompatibleValues r (messages (entries_in (seen ++ more)))
+incompatible_since r seen more h = subst (HasIncompatibleValues r) sent (incompatible_more r (messages (entries_in seen)) (messages (entries_in more)) h)
+  where
+    sent : messages (entries_in seen) ++ messages (entries_in more) ≡ messages (entries_in (seen ++ more))
+    sent = sym (ap messages (entries_append seen more) ∙ messages-append (entries_in more) (entries_in seen))

@@ -4,5 +4,10 @@ pub mod Turns
 pub mod Places
 pub mod Raising
 pub mod Following
+pub mod Walking
+pub mod Calling
 pub mod Stages
 pub mod Concluding
+pub mod LastCalls
+pub mod Courses
+pub mod Resting

@@ -1,7 +1,8 @@
 -- Places of a list of records, and what one node did before them.
-use Rattle.std.proofs.Common.{◌≡◌, ℕ, zero, suc, true, false, cond, List, [], ◌∷◌, ◌++◌, length, map, take, drop, refl, sym, ap, ◌∙◌, subst, inl, inr, Some, None, append_assoc}
+use Rattle.std.proofs.Common.{◌≡◌, ◌⊎◌, ℕ, zero, suc, ◌<◌, true, false, cond, List, [], ◌∷◌, ◌++◌, length, map, take, drop, refl, sym, ap, ◌∙◌, subst, arith, inl, inr, Some, None, append_assoc, take-append-drop}
 use Rattle.std.specs.Prelude.{slice_get}
 use Rattle.std.proofs.lemmas.List.{map-append}
+use Rattle.std.proofs.lemmas.Bool.Decides.{eqb_tells}
 use Rattle.gp_round.specs.Counts.{Counts}
 use Rattle.gp_msg.specs.declared.node.Node.{Node}
 use Rattle.gp_msg.specs.declared.event.Event.{Event}
@@ -41,6 +42,13 @@ get_place (z ∷ xs) x ys = get_place xs x ys
 pub take_place : {X : Type 0} (xs ys : List X) → take (length xs) (xs ++ ys) ≡ xs
 take_place [] ys = refl
 take_place (x ∷ xs) ys = ap (λ l. x ∷ l) (take_place xs ys)
+
+pub split_place : {X : Type 0} (xs : List X) (k : ℕ) (x : X) → slice_get xs k ≡ Some x → xs ≡ take k xs ++ x ∷ drop (suc k) xs
+split_place xs k x e = sym (take-append-drop k xs) ∙ ap (λ l. take k xs ++ l) (get_drop xs k x e)
+
+-- either before the last, or the last
+pub last_within : (i k : ℕ) → i < suc k → (i < k) ⊎ (i ≡ k)
+last_within i k l = elim (eqb_tells i k) [ inl t ↦ inr t.1 | inr t ↦ inl (omega (arith, l, t.1)) ]
 
 -- ---- legal beginnings
 

@@ -40,7 +40,7 @@ second_next : (e : ℕ) (clashed : Bool) (c : Call) → Some c ≡ option_map (c
 second_next e true c h = record { few = omega arith; call_is = some_is h; answers = λ k. refl }
 second_next e false c h = absurd (cc)
 
-differs : (n m : ℕ) → (n ≡ m → ⊥) → nat_eq n m ≡ false
+pub differs : (n m : ℕ) → (n ≡ m → ⊥) → nat_eq n m ≡ false
 differs n m other = elim (eqb_tells n m) [ inl t ↦ absurd (other t.1) | inr t ↦ t.0 ]
 
 not_none : (k : ℕ) → nat_eq (suc (suc k)) 0 ≡ false

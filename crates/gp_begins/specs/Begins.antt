@@ -15,10 +15,9 @@ use Rattle.gp_work.specs.Doing.{ProcessState}
 use Rattle.gp_collide.specs.Values.{HasIncompatibleValues}
 use Rattle.gp_phase.specs.declared.caller.Call.{Call}
 use Rattle.gp_phase.specs.Deeds.{others_in, begins}
-use Rattle.gp_phase.specs.Phases.{rounds, HasBegunAll}
+use Rattle.gp_phase.specs.Phases.{Answers, rounds, HasBegunAll}
 use Rattle.gp_caller.specs.declared.policy.TheConstants.{FIRST_ROUND, LEADER}
 use Rattle.gp_caller.specs.Standing.{StandsIn}
-use Rattle.gp_caller.specs.Calling.{IsCalled}
 
 -- the coordinator that begins the rounds of a run
 abbrev pub leader : Node
@@ -49,14 +48,14 @@ IsBegun config list e r = (place : ℕ) × BeginsAt config list place e r
 
 -- ---- a run whose leader followed its calls
 
--- the leader has begun each round that was called, as it was called, and has done nothing else than to take messages; no other coordinator has done anything else; and no further round is called for the whole list, which is a legal run
-pub record HasFollowed (p : ProcessState) (calls : List Call) : Type 0 where
+-- the leader has begun each round that a caller with these answers called, as it was called, and has done nothing else than to take messages; no other coordinator has done anything else; and no further round is called for the whole list, which is a legal run
+pub record HasFollowed (answers : Answers) (p : ProcessState) (calls : List Call) : Type 0 where
   pub node : p.node ≡ leader
   pub legal : Legal p.config (entries_in p.list)
-  pub begun : HasBegunAll IsCalled p calls
+  pub begun : HasBegunAll answers p calls
   pub acts : others_in (own_events p.node p.list) ≡ begins p.node (rounds calls)
   pub others : (c : ℕ) → c < p.config.coordinators → c ≢ LEADER → others_in (own_events (Coordinator c) p.list) ≡ []
-  pub ended : IsCalled p.config p.node calls p.list None
+  pub ended : answers p.config p.node calls p.list None
 
 -- ---- the rounds that are begun
 

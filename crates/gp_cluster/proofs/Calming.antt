@@ -15,36 +15,40 @@ use Rattle.gp_rules.specs.declared.rules.PaxosRules.{PaxosRules}
 use Rattle.gp_work.specs.declared.job.Job.{Job}
 use Rattle.gp_cell.specs.Cells.{CellState}
 use Rattle.gp_cell.specs.Refusals.{faults_of}
-use Rattle.gp_node.specs.Phases.{IsWorkedJob}
-use Rattle.gp_quiet.specs.Quiet.{IsQuietRun}
-use Rattle.gp_quiet.specs.Ended.{cells_of, nodes_of, cells_in, AreNodesOf, IsBehind, IsListOf, StaysSteady}
-use Rattle.gp_quiet.proofs.Ending.{is_quiet}
+use Rattle.gp_quiet.specs.Ended.{cells_of, cells_in, EndedRun, EndsQuietly, IsBehind, IsListOf, StaysSteady}
+use Rattle.gp_quiet.proofs.Ending.{is_quiet, is_adaptive}
 use Rattle.gp_seats.specs.Offering.{HasOffered, IsKnown, given_to}
 use Rattle.gp_shelf.specs.Lists.{disk_in}
 use Rattle.gp_shelf.specs.Making.{SomeRose}
 use Rattle.gp_ending.specs.declared.ends.RunEnd.{RunEnd}
 use Rattle.gp_ending.specs.declared.ends.RunEnd.TheVariants.{Learned}
-use Rattle.gp_ending.specs.Working.{IsCarriedJob, IsDecided, HaveOffered, EndsQuietlyFrom}
+use Rattle.gp_ending.specs.Working.{IsCarriedJob, IsDecided, EndsQuietlyFrom}
 use Rattle.gp_closing.specs.Cells.{IsKnownCell, SomeCellRose, logs_of}
 use Rattle.gp_closing.specs.Closing.{IsRunOfCells, IsConclusion, Stood, Settled, SettledTo, Leaves}
 use Rattle.gp_closing.proofs.Going.{cell_rose}
 use Rattle.gp_closing.proofs.Settled.{rose_after}
+use Rattle.gp_cluster.specs.declared.policy.RoundPolicy.{RoundPolicy}
+use Rattle.gp_cluster.specs.declared.policy.RoundPolicy.TheVariants.{Multi, Adaptive}
+use Rattle.gp_cluster.specs.Policies.{answers_of, IsQuietBy}
 use Rattle.gp_cluster.specs.Runs.{IsQuietOrSettled}
 use Rattle.gp_cluster.specs.Seated.{IsSeated, logs_in}
 use Rattle.gp_cluster.proofs.Posting.{run_keeps}
 use Rattle.gp_cluster.proofs.Failing.{first_rose, second_rose}
-use Rattle.gp_cluster.proofs.Quieting as quieting
 use Rattle.gp_cluster.proofs.Quieting.{given_at}
 use Rattle.gp_cluster.proofs.Outcome as outcome
 use Rattle.gp_cluster.proofs.Outcome.{learned_quietly}
 
-module _ {D : Type 0} (faults : D → ℕ) (config : Counts) (wire : WireState PaxosRules) (offers : List (ℕ × DraftView)) (jobs proposing worked offered : List (Job (CellState D))) (s : IsSeated config wire jobs proposing (logs_in jobs))
+-- the law of quiet runs, for each choice of rounds
+quiet_by : {D : Type 0} (policy : RoundPolicy) (faults : D → ℕ) (wire : WireState PaxosRules) (run : EndedRun D) (list : List Record) → EndsQuietly (answers_of policy) faults wire run → IsListOf wire run list → StaysSteady faults run → IsQuietBy policy wire.rules.config list
+quiet_by Multi faults wire run list q l u = is_quiet faults wire run list q l u
+quiet_by Adaptive faults wire run list q l u = is_adaptive faults wire run list q l u
+
+module _ {D : Type 0} (policy : RoundPolicy) (faults : D → ℕ) (config : Counts) (wire : WireState PaxosRules) (offers : List (ℕ × DraftView)) (jobs proposing worked offered : List (Job (CellState D))) (s : IsSeated config wire jobs proposing (logs_in jobs))
     (size : length worked ≡ length jobs) (carried : (i : ℕ) (d : Job (CellState D)) → i < length jobs → IsCarriedJob faults wire (get_or jobs i d) (get_or worked i d))
     (as_many : length offered ≡ length proposing) (has : (i : ℕ) (d : Job (CellState D)) → i < length proposing → HasOffered faults wire offers (get_or proposing i d) (get_or offered i d))
-    (did : (i : ℕ) (d : Job (CellState D)) → i < length proposing → IsWorkedJob faults wire (get_or (map (given_to offers) proposing) i d) (get_or offered i d))
     (known_worked : All IsKnownCell (cells_of worked)) (known_offered : All IsKnownCell (cells_of offered))
     (end : Option RunEnd) (decided : IfSome end (IsDecided worked)) (known_offers : All IsKnown offers) (some : 0 < config.acceptors)
-    (quiet : end ≡ None → (offering : List (Job (CellState D))) → AreNodesOf config (nodes_of jobs) (nodes_of offering) → HaveOffered faults wire offering offered → EndsQuietlyFrom faults wire offering offered jobs worked)
+    (quiet : end ≡ None → EndsQuietlyFrom (answers_of policy) faults wire (map (given_to offers) proposing) offered jobs worked)
     (e : RunEnd) (posted : Option (List Record)) (logs : List (LogState D)) (left : Leaves faults config (length offers) (cells_of worked ++ cells_of offered) end e posted logs) where
   abbrev given : List (Job (CellState D))
   given = map (given_to offers) proposing
@@ -53,8 +57,8 @@ module _ {D : Type 0} (faults : D → ℕ) (config : Counts) (wire : WireState P
   given_long = length-map proposing (given_to offers)
 
   module _ (none : end ≡ None) (calm : ¬ SomeRose faults (map disk_in (logs_in jobs)) (map disk_in logs)) where
-    ends : EndsQuietlyFrom faults wire given offered jobs worked
-    ends = quieting.ends faults config wire offers jobs proposing worked offered s size carried as_many has did known_worked known_offered end quiet none
+    ends : EndsQuietlyFrom (answers_of policy) faults wire given offered jobs worked
+    ends = quiet none
 
     no_cell : ¬ SomeCellRose faults (cells_of jobs ++ cells_of proposing) (cells_of worked ++ cells_of offered)
     no_cell r = calm (subst (λ xs. SomeRose faults (map disk_in xs) (map disk_in logs)) (outcome.logs_before faults config wire offers jobs proposing worked offered s size carried as_many has known_worked known_offered)
@@ -79,8 +83,8 @@ module _ {D : Type 0} (faults : D → ℕ) (config : Counts) (wire : WireState P
     cells_are = λ i. cells_of (ends.ended_is i) ++ cells_of (ends.offered_is i)
 
     -- a list of the cells is quiet
-    pub quiet_list : (list : List Record) → IsRunOfCells config (cells_of worked ++ cells_of offered) list → IsQuietRun config list
-    quiet_list list r = subst (λ k. IsQuietRun k list) s.rules (is_quiet faults wire ends.run list ends.quiet is_list steady)
+    pub quiet_list : (list : List Record) → IsRunOfCells config (cells_of worked ++ cells_of offered) list → IsQuietBy policy config list
+    quiet_list list r = subst (λ k. IsQuietBy policy k list) s.rules (quiet_by policy faults wire ends.run list ends.quiet is_list steady)
       where
         is_list : IsListOf wire ends.run list
         is_list = record {
@@ -88,7 +92,7 @@ module _ {D : Type 0} (faults : D → ℕ) (config : Counts) (wire : WireState P
           legal = subst (λ k. Legal k (entries_in list)) (sym s.rules) r.legal;
         }
 
-  by_conclusion : (list : List Record) → IsRunOfCells config left.after list → IsConclusion faults config (length offers) (cells_of worked ++ cells_of offered) left.after end e list → e ≡ Learned → ¬ SomeRose faults (map disk_in (logs_in jobs)) (map disk_in logs) → IsQuietOrSettled config offers list
+  by_conclusion : (list : List Record) → IsRunOfCells config left.after list → IsConclusion faults config (length offers) (cells_of worked ++ cells_of offered) left.after end e list → e ≡ Learned → ¬ SomeRose faults (map disk_in (logs_in jobs)) (map disk_in logs) → IsQuietOrSettled policy config offers list
   by_conclusion list r (Stood same st) l calm =
       let run = subst (λ cs. IsRunOfCells config cs list) same r in
       let kept = run_keeps config (cells_of worked ++ cells_of offered) list run in
@@ -109,5 +113,5 @@ module _ {D : Type 0} (faults : D → ℕ) (config : Counts) (wire : WireState P
         );
       }
 
-  pub quiet_or_settled : (list : List Record) → posted ≡ Some list → e ≡ Learned → ¬ SomeRose faults (map disk_in (logs_in jobs)) (map disk_in logs) → IsQuietOrSettled config offers list
+  pub quiet_or_settled : (list : List Record) → posted ≡ Some list → e ≡ Learned → ¬ SomeRose faults (map disk_in (logs_in jobs)) (map disk_in logs) → IsQuietOrSettled policy config offers list
   quiet_or_settled list is l calm = let c = left.concludes.some list is in by_conclusion list c.0 c.1 l calm

@@ -12,8 +12,7 @@ use Rattle.gp_wire.specs.Known.{WireState}
 use Rattle.gp_rules.specs.declared.rules.PaxosRules.{PaxosRules}
 use Rattle.gp_work.specs.declared.job.Job.{Job}
 use Rattle.gp_cell.specs.Cells.{CellState}
-use Rattle.gp_node.specs.Phases.{IsWorkedJob}
-use Rattle.gp_quiet.specs.Ended.{cells_of, nodes_of, AreNodesOf}
+use Rattle.gp_quiet.specs.Ended.{cells_of}
 use Rattle.gp_quiet.proofs.Indexing.{each_of, get_each, each_got}
 use Rattle.gp_stage.specs.Held.{AreUp}
 use Rattle.gp_seats.specs.declared.nodes.Role.TheVariants.{Learner}
@@ -21,9 +20,11 @@ use Rattle.gp_seats.specs.Nodes.{first_of, logged_nodes, proposer_nodes}
 use Rattle.gp_seats.specs.Offering.{HasOffered, IsKnown, given_to}
 use Rattle.gp_ending.specs.declared.ends.RunEnd.{RunEnd}
 use Rattle.gp_ending.specs.declared.ends.RunEnd.TheVariants.{Learned}
-use Rattle.gp_ending.specs.Working.{IsCarriedJob, IsDecided, HaveOffered, EndsQuietlyFrom}
+use Rattle.gp_ending.specs.Working.{IsCarriedJob, IsDecided, EndsQuietlyFrom}
 use Rattle.gp_closing.specs.Cells.{IsKnownCell, logs_of}
 use Rattle.gp_closing.specs.Closing.{IsRunOfCells, IsConclusion, Stood, Settled, SettledTo, Leaves}
+use Rattle.gp_cluster.specs.declared.policy.RoundPolicy.{RoundPolicy}
+use Rattle.gp_cluster.specs.Policies.{answers_of}
 use Rattle.gp_cluster.specs.Seated.{IsSeated, HaveLimit, HoldLogs, RunsFrom, logs_in}
 use Rattle.gp_cluster.proofs.Causing.{in_logs, limits_go}
 use Rattle.gp_cluster.proofs.Learning.{core_behind}
@@ -37,13 +38,12 @@ assoc : {A : Type 0} (xs ys zs : List A) → (xs ++ ys) ++ zs ≡ xs ++ (ys ++ z
 assoc [] ys zs = refl
 assoc (x ∷ xs) ys zs = ap (λ l. x ∷ l) (assoc xs ys zs)
 
-module _ {D : Type 0} (faults : D → ℕ) (content : D → Option (List ℕ)) (image : D → List ℕ → Type 0) (config : Counts) (wire : WireState PaxosRules) (offers : List (ℕ × DraftView)) (jobs proposing worked offered : List (Job (CellState D))) (s : IsSeated config wire jobs proposing (logs_in jobs))
+module _ {D : Type 0} (policy : RoundPolicy) (faults : D → ℕ) (content : D → Option (List ℕ)) (image : D → List ℕ → Type 0) (config : Counts) (wire : WireState PaxosRules) (offers : List (ℕ × DraftView)) (jobs proposing worked offered : List (Job (CellState D))) (s : IsSeated config wire jobs proposing (logs_in jobs))
     (size : length worked ≡ length jobs) (carried : (i : ℕ) (d : Job (CellState D)) → i < length jobs → IsCarriedJob faults wire (get_or jobs i d) (get_or worked i d))
     (as_many : length offered ≡ length proposing) (has : (i : ℕ) (d : Job (CellState D)) → i < length proposing → HasOffered faults wire offers (get_or proposing i d) (get_or offered i d))
-    (did : (i : ℕ) (d : Job (CellState D)) → i < length proposing → IsWorkedJob faults wire (get_or (map (given_to offers) proposing) i d) (get_or offered i d))
     (known_worked : All IsKnownCell (cells_of worked)) (known_offered : All IsKnownCell (cells_of offered))
     (end : Option RunEnd) (decided : IfSome end (IsDecided worked)) (known_offers : All IsKnown offers) (some : 0 < config.acceptors)
-    (quiet : end ≡ None → (offering : List (Job (CellState D))) → AreNodesOf config (nodes_of jobs) (nodes_of offering) → HaveOffered faults wire offering offered → EndsQuietlyFrom faults wire offering offered jobs worked)
+    (quiet : end ≡ None → EndsQuietlyFrom (answers_of policy) faults wire (map (given_to offers) proposing) offered jobs worked)
     (up : end ≡ None → AreUp (cells_of worked ++ cells_of offered))
     (e : RunEnd) (posted : Option (List Record)) (logs : List (LogState D)) (left : Leaves faults config (length offers) (cells_of worked ++ cells_of offered) end e posted logs)
     (ready : All (λ (log : LogState D). log.ready ≡ true → IsReady content image log) logs) where
@@ -73,13 +73,13 @@ module _ {D : Type 0} (faults : D → ℕ) (content : D → Option (List ℕ)) (
         (outcome.nodes_after faults config wire offers jobs proposing worked offered s size carried as_many has known_worked known_offered end decided known_offers some e posted logs left ∙ assoc (logged_nodes config) (first_of Learner config.learners) proposer_nodes)
         (logged_have config) (others_lack config) each_log)
 
-  pub runs_from : RunsFrom faults content config offers (logs_in jobs) logs posted e
+  pub runs_from : RunsFrom policy faults content config offers (logs_in jobs) logs posted e
   runs_from = record {
     going = outcome.going faults config wire offers jobs proposing worked offered s size carried as_many has known_worked known_offered end decided known_offers some e posted logs left;
-    run = if_posted _ posted (outcome.run_is faults config wire offers jobs proposing worked offered s size carried as_many has known_worked known_offered end decided known_offers some e posted logs left);
+    run = if_posted _ posted (outcome.run_is faults config wire offers jobs proposing worked offered s size carried as_many has known_worked known_offered end decided known_offers some e posted logs left policy);
     none = left.concludes.none;
     learned = λ l. if_posted _ posted (λ list is. outcome.all_learned faults config wire offers jobs proposing worked offered s size carried as_many has known_worked known_offered end decided known_offers some e posted logs left list is l);
-    quiet = λ l calm. if_posted _ posted (λ list is. calming.quiet_or_settled faults config wire offers jobs proposing worked offered s size carried as_many has did known_worked known_offered end decided known_offers some quiet e posted logs left list is l calm);
+    quiet = λ l calm. if_posted _ posted (λ list is. calming.quiet_or_settled policy faults config wire offers jobs proposing worked offered s size carried as_many has known_worked known_offered end decided known_offers some quiet e posted logs left list is l calm);
     cause = λ limit limits. faulting.cause faults config wire offers jobs proposing worked offered s size carried as_many has known_worked known_offered end decided known_offers some e posted logs left limit limits;
     parts = λ limit limits l. if_posted _ posted (λ list is. let c = left.concludes.some list is in hold limit limits list c.0 (ups list c.1 l));
   }

@@ -1,6 +1,6 @@
 -- A run that ended before its wire was closed, and the room for what is left.
-use Rattle.std.proofs.Common.{◌≡◌, ◌≤◌, ℕ, List, [], ◌∷◌, length, refl, sym, subst, arith, Option, None}
-use Rattle.std.specs.Prelude.{vec_capacity}
+use Rattle.std.proofs.Common.{◌≡◌, ◌≤◌, ◌⊎◌, inl, inr, ℕ, List, [], ◌∷◌, length, refl, sym, subst, arith, Option, Some, None}
+use Rattle.std.specs.Prelude.{vec_capacity, IfSome}
 use Rattle.std.specs.Global.{Vec}
 use Rattle.std.specs.List.{AllZip}
 use Rattle.std.proofs.lemmas.Slice.Zip.{AllZip-long}
@@ -12,6 +12,10 @@ use Rattle.gp_shelf.specs.Lists.{HasRoomFor}
 use Rattle.gp_ending.specs.declared.ends.RunEnd.{RunEnd}
 use Rattle.gp_ending.specs.declared.ends.RunEnd.TheVariants.{Learned, NoMemory}
 use Rattle.gp_closing.specs.Cells.{LogGoes}
+use Rattle.gp_held.specs.Offers.{AreOffered}
+use Rattle.gp_cluster.specs.declared.policy.RoundPolicy.{RoundPolicy}
+use Rattle.gp_cluster.specs.declared.policy.RoundPolicy.TheVariants.{Adaptive}
+use Rattle.gp_cluster.specs.Runs.{IsRunOf}
 use Rattle.gp_cluster.specs.Seated.{RunsFrom}
 
 not_learned : {P : Type 0} → NoMemory ≡ Learned → P
@@ -22,14 +26,14 @@ module _ {D : Type 0} (faults : D → ℕ) where
   still [] = tt
   still (l ∷ ls) = (record { limit = refl; later = omega arith }, still ls)
 
-  -- nothing is said to be posted, and the logs are as they were
-  pub nothing_said : (content : D → Option (List ℕ)) (config : Counts) (offers : List (ℕ × DraftView)) (first last : List (LogState D)) (posted : Option (List Record)) (end : RunEnd)
-      → posted ≡ None → end ≡ NoMemory → last ≡ first → RunsFrom faults content config offers first last posted end
-  nothing_said content config offers first last posted end none e same = subst (λ l. RunsFrom faults content config offers first l posted end) (sym same) (subst (λ p. RunsFrom faults content config offers first first p end) (sym none) (subst (RunsFrom faults content config offers first first None) (sym e) from))
+  -- nothing is said to be posted, and the logs are those of the run so far
+  pub unposted : (policy : RoundPolicy) (content : D → Option (List ℕ)) (config : Counts) (offers : List (ℕ × DraftView)) (first last : List (LogState D)) (posted : Option (List Record)) (end : RunEnd)
+      → posted ≡ None → end ≡ NoMemory → AllZip (LogGoes faults) first last → RunsFrom policy faults content config offers first last posted end
+  unposted policy content config offers first last posted end none e goes = subst (λ p. RunsFrom policy faults content config offers first last p end) (sym none) (subst (RunsFrom policy faults content config offers first last None) (sym e) from)
     where
-      from : RunsFrom faults content config offers first first None NoMemory
+      from : RunsFrom policy faults content config offers first last None NoMemory
       from = record {
-        going = still first;
+        going = goes;
         run = tt;
         none = λ n. refl;
         learned = λ l. not_learned l;
@@ -37,6 +41,32 @@ module _ {D : Type 0} (faults : D → ℕ) where
         cause = λ limit limits. tt;
         parts = λ limit limits l. not_learned l;
       }
+
+  -- nothing is said to be posted, and the logs are as they were
+  pub nothing_said : (policy : RoundPolicy) (content : D → Option (List ℕ)) (config : Counts) (offers : List (ℕ × DraftView)) (first last : List (LogState D)) (posted : Option (List Record)) (end : RunEnd)
+      → posted ≡ None → end ≡ NoMemory → last ≡ first → RunsFrom policy faults content config offers first last posted end
+  nothing_said policy content config offers first last posted end none e same = unposted policy content config offers first last posted end none e (subst (AllZip (LogGoes faults) first) (sym same) (still first))
+
+  no_offers_yet : (config : Counts) (offers : List (ℕ × DraftView)) (posted : Option (List Record)) → IfSome posted (IsRunOf Adaptive config []) → IfSome posted (IsRunOf Adaptive config offers)
+  no_offers_yet config offers None run = tt
+  no_offers_yet config offers (Some list) run = record { legal = run.legal; offered = by_choice run.offered }
+    where
+      by_choice : AreOffered [] list ⊎ AreOffered [] list → AreOffered offers list ⊎ AreOffered [] list
+      by_choice (inl none) = inr none
+      by_choice (inr none) = inr none
+
+  -- a run whose rounds adapt, which ended before any offer was made
+  pub ended_early : (content : D → Option (List ℕ)) (config : Counts) (offers : List (ℕ × DraftView)) (first last : List (LogState D)) (posted : Option (List Record)) (end : RunEnd) → ¬ (end ≡ Learned)
+      → RunsFrom Adaptive faults content config [] first last posted end → RunsFrom Adaptive faults content config offers first last posted end
+  ended_early content config offers first last posted end not from = record {
+    going = from.going;
+    run = no_offers_yet config offers posted from.run;
+    none = from.none;
+    learned = λ l. absurd (not l);
+    quiet = λ l. absurd (not l);
+    cause = from.cause;
+    parts = from.parts;
+  }
 
   -- the logs of a run fit where its first ones did
   pub as_many_logs : (first last : List (LogState D)) (room : Vec (LogState D)) → AllZip (LogGoes faults) first last → HasRoomFor (length first) room → HasRoomFor (length last) room

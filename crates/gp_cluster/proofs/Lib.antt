@@ -4,12 +4,13 @@ pub mod Posting
 pub mod Learning
 pub mod Causing
 pub mod Outcome
+pub mod Carried
 pub mod Failing
+pub mod Sitting
 pub mod Quieting
 pub mod Calming
 pub mod Faulting
 pub mod Keeping
 pub mod Finishing
-pub mod Sitting
 pub mod Left
 pub mod Shelving

@@ -34,7 +34,10 @@ use Rattle.gp_closing.specs.Cells.{IsKnownCell, AreCellsAt, HasLearned, CellsGo,
 use Rattle.gp_closing.specs.Closing.{IsRunOfCells, StoodTo, IsConclusion, Stood, Settled, SettledTo, Leaves}
 use Rattle.gp_closing.proofs.Going.{cells_on, nodes_go, logs_go}
 use Rattle.gp_closing.proofs.Settled.{configs_are}
-use Rattle.gp_cluster.specs.Runs.{IsRunOf}
+use Rattle.gp_cluster.specs.declared.policy.RoundPolicy.{RoundPolicy}
+use Rattle.gp_cluster.specs.declared.policy.RoundPolicy.TheVariants.{Multi, Adaptive}
+use Rattle.gp_cluster.specs.Policies.{MayBeOffered}
+use Rattle.gp_cluster.specs.Runs.{IsRunOf, HasLearnedAll}
 use Rattle.gp_cluster.specs.Seated.{IsSeated, logs_in}
 use Rattle.gp_cluster.proofs.Celling.{all_go, are_cells, last_nodes, first_logs, proposers_nodes, each_at_wire, all_of}
 use Rattle.gp_cluster.proofs.Posting.{KeepsProposer, run_keeps, rest_keeps, are_offered}
@@ -134,8 +137,12 @@ module _ {D : Type 0} (faults : D → ℕ) (config : Counts) (wire : WireState P
     keeps list r (Stood same st) = run_keeps config cells list (subst (λ cs. IsRunOfCells config cs list) same r)
     keeps list r (Settled none q) = rest_keeps config cells q.before q.run list q.rest
 
-    pub run_is : (list : List Record) → posted ≡ Some list → IsRunOf config offers list
-    run_is list is = let c = left.concludes.some list is in record { legal = c.0.legal; offered = offered_all list (keeps list c.0 c.1) }
+    made : (policy : RoundPolicy) (list : List Record) → AreOffered offers list → MayBeOffered policy offers list
+    made Multi list h = h
+    made Adaptive list h = inl h
+
+    pub run_is : (policy : RoundPolicy) (list : List Record) → posted ≡ Some list → IsRunOf policy config offers list
+    run_is policy list is = let c = left.concludes.some list is in record { legal = c.0.legal; offered = made policy list (offered_all list (keeps list c.0 c.1)) }
 
     -- all learners hold all that the cells hold
     pub learned_if : (list : List Record) (r : IsRunOfCells config cells list) → Each (KeepsProposer list) cells → All (HasLearned (length offers)) cells → AllLearned config (entries_in list)
@@ -155,5 +162,5 @@ module _ {D : Type 0} (faults : D → ℕ) (config : Counts) (wire : WireState P
         learned_if list run (run_keeps config cells list run) (learned_quietly worked (length offers) cells end e decided st l).1
     learned_by list r (Settled none q) l = (subst (SettledTo faults config q.before cells after list) l q.settled).1
 
-    pub all_learned : (list : List Record) → posted ≡ Some list → e ≡ Learned → AllLearned config (entries_in list)
-    all_learned list is l = let c = left.concludes.some list is in learned_by list c.0 c.1 l
+    pub all_learned : (list : List Record) → posted ≡ Some list → e ≡ Learned → HasLearnedAll config offers list
+    all_learned list is l = let c = left.concludes.some list is in record { offered = offered_all list (keeps list c.0 c.1); learned = learned_by list c.0 c.1 l }

@@ -1,5 +1,6 @@
 -- Phases that ended quietly, from the offers of the proposers.
-use Rattle.std.proofs.Common.{◌≡◌, ◌<◌, ℕ, zero, suc, true, false, List, [], ◌∷◌, ◌++◌, map, length, get_or, refl, sym, ap, ◌∙◌, subst, arith, Option, Some, None}
+use Rattle.std.proofs.Common.{◌≡◌, ◌<◌, ℕ, zero, suc, List, [], ◌∷◌, map, length, get_or, refl, sym, ap, ◌∙◌, subst, arith, Option, None}
+use Rattle.std.specs.Prelude.{IfSome}
 use Rattle.std.specs.List.{All}
 use Rattle.std.proofs.lemmas.List.{length-map}
 use Rattle.gp_command.specs.Views.{DraftView}
@@ -7,24 +8,23 @@ use Rattle.gp_round.specs.Counts.{Counts}
 use Rattle.gp_wire.specs.Known.{WireState}
 use Rattle.gp_rules.specs.declared.rules.PaxosRules.{PaxosRules}
 use Rattle.gp_work.specs.declared.job.Job.{Job}
-use Rattle.gp_work.specs.declared.moves.Move.{Move}
 use Rattle.gp_cell.specs.Cells.{CellState}
-use Rattle.gp_cell.specs.Working.{is_up}
+use Rattle.gp_cell.specs.Working.{process_of}
+use Rattle.gp_phase.specs.declared.caller.Call.{Call}
+use Rattle.gp_phase.specs.Phases.{total}
 use Rattle.gp_node.specs.Phases.{IsWorkedJob}
-use Rattle.gp_quiet.specs.Ended.{cells_of, nodes_of, AreNodesOf, IsToOffer}
-use Rattle.gp_quiet.proofs.Indexing.{get_each, each_both}
+use Rattle.gp_quiet.specs.Ended.{nodes_of, AreNodesOf, IsToOffer}
 use Rattle.gp_seats.specs.Nodes.{working_nodes, proposer_nodes}
-use Rattle.gp_seats.specs.Offering.{HasOffered, given_to}
+use Rattle.gp_seats.specs.Offering.{HasOffered, IsKnown, given_to}
 use Rattle.gp_seats.proofs.Offered.{all_offers}
 use Rattle.gp_ending.specs.declared.ends.RunEnd.{RunEnd}
-use Rattle.gp_ending.specs.Working.{IsCarriedJob, HaveOffered, EndsQuietlyFrom}
-use Rattle.gp_closing.specs.Cells.{IsKnownCell}
-use Rattle.gp_cluster.specs.Seated.{IsSeated, logs_in}
+use Rattle.gp_ending.specs.Working.{IsCarriedJob, IsDecided, HaveOffered, RestsAfter, EndsQuietlyFrom}
+use Rattle.gp_ending.proofs.Resting.{ends_quietly_from}
+use Rattle.gp_cluster.specs.declared.policy.RoundPolicy.{RoundPolicy}
+use Rattle.gp_cluster.specs.Policies.{answers_of}
+use Rattle.gp_cluster.specs.Seated.{IsSeated, IsCarriedRun, logs_in}
 use Rattle.gp_cluster.proofs.Starting.{seated_nodes, nodes_are}
-use Rattle.gp_cluster.proofs.Celling.{each_cell}
-use Rattle.gp_cluster.proofs.Outcome as outcome
-use Rattle.gp_stage.specs.Held.{AreUp}
-use Rattle.gp_cluster.proofs.Outcome.{learned_quietly}
+use Rattle.gp_cluster.proofs.Sitting as sitting
 
 -- ---- jobs with moves to make
 
@@ -38,13 +38,12 @@ module _ {D : Type 0} (offers : List (ℕ × DraftView)) where
   given_at (j ∷ js) zero d l = refl
   given_at (j ∷ js) (suc i) d l = given_at js i d (omega (arith, l))
 
-module _ {D : Type 0} (faults : D → ℕ) (config : Counts) (wire : WireState PaxosRules) (offers : List (ℕ × DraftView)) (jobs proposing worked offered : List (Job (CellState D))) (s : IsSeated config wire jobs proposing (logs_in jobs))
+module _ {D : Type 0} (policy : RoundPolicy) (faults : D → ℕ) (config : Counts) (wire : WireState PaxosRules) (offers : List (ℕ × DraftView)) (jobs proposing worked offered : List (Job (CellState D))) (s : IsSeated config wire jobs proposing (logs_in jobs))
     (size : length worked ≡ length jobs) (carried : (i : ℕ) (d : Job (CellState D)) → i < length jobs → IsCarriedJob faults wire (get_or jobs i d) (get_or worked i d))
     (as_many : length offered ≡ length proposing) (has : (i : ℕ) (d : Job (CellState D)) → i < length proposing → HasOffered faults wire offers (get_or proposing i d) (get_or offered i d))
     (did : (i : ℕ) (d : Job (CellState D)) → i < length proposing → IsWorkedJob faults wire (get_or (map (given_to offers) proposing) i d) (get_or offered i d))
-    (known_worked : All IsKnownCell (cells_of worked)) (known_offered : All IsKnownCell (cells_of offered))
-    (end : Option RunEnd)
-    (quiet : end ≡ None → (offering : List (Job (CellState D))) → AreNodesOf config (nodes_of jobs) (nodes_of offering) → HaveOffered faults wire offering offered → EndsQuietlyFrom faults wire offering offered jobs worked) where
+    (end : Option RunEnd) (some : 0 < config.acceptors) (calls : List Call)
+    (rests : end ≡ None → RestsAfter (answers_of policy) faults wire config.acceptors (total (process_of faults) 0 offered) calls jobs worked) where
   abbrev pub given : List (Job (CellState D))
   given = map (given_to offers) proposing
 
@@ -53,7 +52,7 @@ module _ {D : Type 0} (faults : D → ℕ) (config : Counts) (wire : WireState P
 
   new : (i : ℕ) (d : Job (CellState D)) → i < length proposing → IsToOffer (get_or given i d)
   new i d l =
-      let n = outcome.new_proposing faults config wire offers jobs proposing worked offered s size carried as_many has known_worked known_offered i d l in
+      let n = sitting.proposing_new faults config wire jobs proposing s i d l in
       subst IsToOffer (sym (given_at offers proposing i d l)) (record { nothing = n.nothing; risen = n.risen; offers = all_offers (get_or proposing i d).cell.node offers })
 
   nodes_start : AreNodesOf config (nodes_of jobs) (nodes_of given)
@@ -69,24 +68,19 @@ module _ {D : Type 0} (faults : D → ℕ) (config : Counts) (wire : WireState P
     unbroken = λ i d l. (has i d (omega (arith, l, as_many))).fault;
   }
 
-  pub ends : end ≡ None → EndsQuietlyFrom faults wire given offered jobs worked
-  ends none = quiet none given nodes_start have
+  pub ends : end ≡ None → EndsQuietlyFrom (answers_of policy) faults wire given offered jobs worked
+  ends none = ends_quietly_from (answers_of policy) faults wire config.acceptors calls given offered jobs worked (subst (λ (k : Counts). 0 < k.acceptors) (sym s.rules) some) (rests none)
+      (subst (λ k. AreNodesOf k (nodes_of jobs) (nodes_of given)) (sym s.rules) nodes_start) have
 
-  -- ---- all nodes are up
-
-  was_up : (c : CellState D) → is_up c.down ≡ true → c.down ≡ None
-  was_up c u = up_none c.down u
-    where
-      up_none : (o : Option Move) → is_up o ≡ true → o ≡ None
-      up_none None u = refl
-      up_none (Some m) u = absurd (let wrong : false ≡ true = u in cc)
-
-  pub up : end ≡ None → AreUp (cells_of worked ++ cells_of offered)
-  up none = get_each (λ c. c.down ≡ None) (cells_of worked ++ cells_of offered)
-      (each_both (λ c. c.down ≡ None) (cells_of worked) (cells_of offered) (each_cell (λ c. c.down ≡ None) worked worked_up) (each_cell (λ c. c.down ≡ None) offered (λ i d l. was_up (get_or offered i d).cell (has i d (omega (arith, as_many, l))).up)))
-    where
-      worked_up : (i : ℕ) (d : Job (CellState D)) → i < length worked → (get_or worked i d).cell.down ≡ None
-      worked_up i d l =
-          let q = ends none in
-          let within : i < length q.run.starting = let a = q.size in omega (arith, a, size, l) in
-          was_up (get_or worked i d).cell (subst (λ js. is_up (get_or js i d).cell.down ≡ true) q.ended_is (q.quiet.finished i d within).going.up)
+  -- **the run was carried to the end of its phases**
+  pub carried_run : All IsKnown offers → IfSome end (IsDecided worked) → IsCarriedRun faults policy config wire offers jobs proposing worked offered end
+  carried_run known decided = record {
+    seated = s;
+    size = size;
+    carried = carried;
+    as_many = as_many;
+    has = has;
+    known = known;
+    decided = decided;
+    quiet = ends;
+  }

@@ -28,6 +28,7 @@ use Rattle.gp_ending.specs.declared.ends.RunEnd.{RunEnd}
 use Rattle.gp_ending.specs.declared.ends.RunEnd.TheVariants.{Learned, NoMemory, Disk, Full, NotLog, Changed}
 use Rattle.gp_closing.specs.Cells.{LogGoes}
 use Rattle.gp_cluster.specs.Runs.{EndCause, EndsWith, HoldParts, IsQuietOrSettled}
+use Rattle.gp_cluster.specs.declared.policy.RoundPolicy.{RoundPolicy}
 use Rattle.gp_cluster.specs.Seated.{RunsFrom, HaveLimit, HoldLogs, lent_end}
 use Rattle.gp_cluster.proofs.Celling.{all_of}
 
@@ -118,9 +119,9 @@ none_posted lending.NoMemory e = absurd (let wrong : NoMemory ≡ Learned = e in
 
 -- ---- the run of the disks
 
-module _ {D : Type 0} (content : D → Option (List ℕ)) (image : D → List ℕ → Type 0) (faults : D → ℕ) (config : Counts) (limit : ℕ) (offers : List (ℕ × DraftView)) (disks : List D) (first last : List (LogState D)) (posted : Option (List Record)) (end : RunEnd)
+module _ {D : Type 0} (policy : RoundPolicy) (content : D → Option (List ℕ)) (image : D → List ℕ → Type 0) (faults : D → ℕ) (config : Counts) (limit : ℕ) (offers : List (ℕ × DraftView)) (disks : List D) (first last : List (LogState D)) (posted : Option (List Record)) (end : RunEnd)
     (acceptors : config.acceptors ≤ 7) (coordinators : config.coordinators ≤ 5) (twelve : length disks ≡ 12)
-    (made : AllZip (IsMade content image faults limit) (lent_of config disks) first) (run : RunsFrom faults content config offers first last posted end) where
+    (made : AllZip (IsMade content image faults limit) (lent_of config disks) first) (run : RunsFrom policy faults content config offers first last posted end) where
   abbrev back : List D
   back = shelved config (kept_of config disks) (map disk_in last)
 
@@ -148,7 +149,7 @@ module _ {D : Type 0} (content : D → Option (List ℕ)) (image : D → List �
   pub others : KeepsOthers config disks back
   others = others_stay config disks (map disk_in last) acceptors coordinators twelve count_back
 
-  pub quiet : end ≡ Learned → ¬ SomeRose faults disks back → IfSome posted (IsQuietOrSettled config offers)
+  pub quiet : end ≡ Learned → ¬ SomeRose faults disks back → IfSome posted (IsQuietOrSettled policy config offers)
   quiet l calm = run.quiet l (λ r. calm (rose r))
 
   pub cause : EndCause faults config limit disks back posted end

@@ -15,7 +15,6 @@ use Rattle.gp_vlog.specs.Bodies.{LogEntry, need}
 use Rattle.gp_vlog.specs.Logs.{HoldsEntries}
 use Rattle.gp_rules.specs.Cores.{opening, acts, core_at, part_in}
 use Rattle.gp_cell.specs.Crashes.{last_part}
-use Rattle.gp_quiet.specs.Quiet.{IsQuietRun}
 use Rattle.gp_driver.specs.Settling.{settle}
 use Rattle.gp_driver.specs.Settled.{AllLearned}
 use Rattle.gp_seats.specs.Nodes.{logged_nodes}
@@ -24,16 +23,23 @@ use Rattle.gp_shelf.specs.Places.{place_at}
 use Rattle.gp_shelf.specs.Making.{SomeRose}
 use Rattle.gp_ending.specs.declared.ends.RunEnd.{RunEnd}
 use Rattle.gp_ending.specs.declared.ends.RunEnd.TheVariants.{Learned, NoMemory, Disk, Full, NotLog, Changed}
+use Rattle.gp_cluster.specs.declared.policy.RoundPolicy.{RoundPolicy}
+use Rattle.gp_cluster.specs.Policies.{IsQuietBy, MayBeOffered}
 
 -- what the nodes posted is a legal run of the configuration, in which each proposer made its own offers, in their order, and did nothing else
-pub record IsRunOf (config : Counts) (offers : List (ℕ × DraftView)) (list : List Record) : Type 0 where
+pub record IsRunOf (policy : RoundPolicy) (config : Counts) (offers : List (ℕ × DraftView)) (list : List Record) : Type 0 where
   pub legal : Legal config (entries_in list)
+  pub offered : MayBeOffered policy offers list
+
+-- all was learned: each proposer made its own offers, and each learner holds every command that was offered
+pub record HasLearnedAll (config : Counts) (offers : List (ℕ × DraftView)) (list : List Record) : Type 0 where
   pub offered : AreOffered offers list
+  pub learned : AllLearned config (entries_in list)
 
 -- the run ended when nothing was left to do, and if a learner lacked an offered command then, and only then, it was settled
-pub record IsQuietOrSettled (config : Counts) (offers : List (ℕ × DraftView)) (list : List Record) : Type 0 where
+pub record IsQuietOrSettled (policy : RoundPolicy) (config : Counts) (offers : List (ℕ × DraftView)) (list : List Record) : Type 0 where
   pub before : List Record
-  pub quiet : IsQuietRun config before
+  pub quiet : IsQuietBy policy config before
   pub offered : AreOffered offers before
   pub settled : ((list ≡ before) × AllLearned config (entries_in before)) ⊎ ((¬ AllLearned config (entries_in before)) × (entries_in list ≡ settle config (entries_in before)))
 

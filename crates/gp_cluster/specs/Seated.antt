@@ -1,5 +1,6 @@
 -- A run from its first list to its last one, by the logs of its nodes.
-use Rattle.std.specs.Prelude.{◌≡◌, ℕ, List, [], map, length, Option, None, IfSome}
+use Rattle.std.specs.Prelude.{◌≡◌, ◌<◌, ℕ, List, [], map, length, slice_index_or, Option, None, IfSome}
+use Rattle.std.specs.Global.{Vec}
 use Rattle.std.specs.List.{All, AllZip}
 use Rattle.gp_command.specs.Views.{DraftView}
 use Rattle.gp_round.specs.Counts.{Counts}
@@ -13,11 +14,12 @@ use Rattle.gp_rules.specs.declared.rules.PaxosRules.{PaxosRules}
 use Rattle.gp_rules.specs.Cores.{opening, core_at, part_in}
 use Rattle.gp_work.specs.declared.job.Job.{Job}
 use Rattle.gp_cell.specs.Cells.{CellState}
-use Rattle.gp_driver.specs.Settled.{AllLearned}
 use Rattle.gp_quiet.specs.Ended.{cells_of}
 use Rattle.gp_seats.specs.Nodes.{all_nodes, logged_nodes, working_nodes, proposer_nodes}
 use Rattle.gp_seats.specs.Seats.{IsBlank, new_passes, seats}
-use Rattle.gp_shelf.specs.Lists.{disk_in}
+use Rattle.gp_seats.specs.Offering.{IsKnown, HasOffered, given_to}
+use Rattle.gp_ending.specs.Working.{IsCarriedJob, IsDecided, EndsQuietlyFrom}
+use Rattle.gp_shelf.specs.Lists.{disk_in, HasRoomFor}
 use Rattle.gp_shelf.specs.Making.{SomeRose}
 use Rattle.gp_shelf.specs.declared.making.LendFault.{LendFault}
 use Rattle.gp_shelf.specs.declared.making.LendFault.TheVariants as fault
@@ -25,7 +27,9 @@ use Rattle.gp_shelf.specs.Places.{logged}
 use Rattle.gp_ending.specs.declared.ends.RunEnd.{RunEnd}
 use Rattle.gp_ending.specs.declared.ends.RunEnd.TheVariants.{Learned, NoMemory, Disk}
 use Rattle.gp_closing.specs.Cells.{LogGoes, logs_of}
-use Rattle.gp_cluster.specs.Runs.{EndsWith, IsRunOf, IsQuietOrSettled, EndCause}
+use Rattle.gp_cluster.specs.declared.policy.RoundPolicy.{RoundPolicy}
+use Rattle.gp_cluster.specs.Policies.{answers_of}
+use Rattle.gp_cluster.specs.Runs.{EndsWith, IsRunOf, HasLearnedAll, IsQuietOrSettled, EndCause}
 
 -- nothing has happened to the nodes of a wire: these are the jobs of all nodes of a configuration, with these logs, which have no entries
 pub record IsSeated {D : Type 0} (config : Counts) (wire : WireState PaxosRules) (jobs proposers : List (Job (CellState D))) (logs : List (LogState D)) : Type 0 where
@@ -48,13 +52,34 @@ HaveLimit limit logs = All (λ log. log.limit ≡ limit) logs
 abbrev pub HoldLogs : {D : Type 0} → (D → Option (List ℕ)) → Counts → ℕ → List Entry → List (LogState D) → Type 0
 HoldLogs content config limit run logs = AllZip (λ n log. IfRevealed (content log.disk) (EndsWith limit (part_in (opening config n)) (part_in (core_at config n run)))) (logged_nodes config) logs
 
+-- the nodes of a run have worked: the jobs of those that work were carried so far, and those of the proposers have made these offers. If nothing is left to do, the phases have ended quietly, and else faults or memory say why
+pub record IsCarriedRun {D : Type 0} (faults : D → ℕ) (policy : RoundPolicy) (config : Counts) (wire : WireState PaxosRules) (offers : List (ℕ × DraftView)) (jobs proposing worked offered : List (Job (CellState D))) (end : Option RunEnd) : Type 0 where
+  pub seated : IsSeated config wire jobs proposing (logs_in jobs)
+  pub size : length worked ≡ length jobs
+  pub carried : (i : ℕ) (d : Job (CellState D)) → i < length jobs → IsCarriedJob faults wire (slice_index_or jobs i d) (slice_index_or worked i d)
+  pub as_many : length offered ≡ length proposing
+  pub has : (i : ℕ) (d : Job (CellState D)) → i < length proposing → HasOffered faults wire offers (slice_index_or proposing i d) (slice_index_or offered i d)
+  pub known : All IsKnown offers
+  pub decided : IfSome end (IsDecided worked)
+  pub quiet : end ≡ None → EndsQuietlyFrom (answers_of policy) faults wire (map (given_to offers) proposing) offered jobs worked
+
+-- the wire of such a run can be closed, with room for the logs
+pub record CanClose {D : Type 0} (faults : D → ℕ) (config : Counts) (wire : WireState PaxosRules) (worked offered : List (Job (CellState D))) (end : Option RunEnd) (commands : ℕ) (room : Vec (LogState D)) : Type 0 where
+  pub policy : RoundPolicy
+  pub offers : List (ℕ × DraftView)
+  pub jobs : List (Job (CellState D))
+  pub proposing : List (Job (CellState D))
+  pub run : IsCarriedRun faults policy config wire offers jobs proposing worked offered end
+  pub many : commands ≡ length offers
+  pub fits : HasRoomFor (length (logs_in jobs)) room
+
 -- what a run comes to that begins with these logs and ends with those
-pub record RunsFrom {D : Type 0} (faults : D → ℕ) (content : D → Option (List ℕ)) (config : Counts) (offers : List (ℕ × DraftView)) (first last : List (LogState D)) (posted : Option (List Record)) (end : RunEnd) : Type 0 where
+pub record RunsFrom {D : Type 0} (policy : RoundPolicy) (faults : D → ℕ) (content : D → Option (List ℕ)) (config : Counts) (offers : List (ℕ × DraftView)) (first last : List (LogState D)) (posted : Option (List Record)) (end : RunEnd) : Type 0 where
   pub going : AllZip (LogGoes faults) first last
-  pub run : IfSome posted (IsRunOf config offers)
+  pub run : IfSome posted (IsRunOf policy config offers)
   pub none : posted ≡ None → end ≡ NoMemory
-  pub learned : end ≡ Learned → IfSome posted (λ list. AllLearned config (entries_in list))
-  pub quiet : end ≡ Learned → ¬ SomeRose faults (map disk_in first) (map disk_in last) → IfSome posted (IsQuietOrSettled config offers)
+  pub learned : end ≡ Learned → IfSome posted (HasLearnedAll config offers)
+  pub quiet : end ≡ Learned → ¬ SomeRose faults (map disk_in first) (map disk_in last) → IfSome posted (IsQuietOrSettled policy config offers)
   pub cause : (limit : ℕ) → HaveLimit limit first → EndCause faults config limit (map disk_in first) (map disk_in last) posted end
   pub parts : (limit : ℕ) → HaveLimit limit first → end ≡ Learned → IfSome posted (λ list. HoldLogs content config limit (entries_in list) last)
 

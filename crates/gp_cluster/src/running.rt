@@ -2,14 +2,14 @@
 ghost use Rattle.std.specs.Prelude.{◌≡◌, ◌⊎◌, ◌<◌, ◌≤◌, ◌^◌, None, length, IfSome};
 ghost use Rattle.std.specs.List.{All};
 ghost use Rattle.gp_run.specs.Runs.{entries_in};
-ghost use Rattle.gp_driver.specs.Settled.{AllLearned};
 ghost use Rattle.gp_seats.specs.Offering.{IsKnown};
 ghost use Rattle.gp_shelf.specs.Lists.{KeepsOthers};
 ghost use Rattle.gp_shelf.specs.Making.{SomeRose, NoneFell};
 ghost use Rattle.gp_ending.specs.declared.ends.RunEnd.TheVariants as RunEnd;
-ghost use Rattle.gp_cluster.specs.Runs.{IsRunOf, IsQuietOrSettled, EndCause, HoldParts};
+ghost use Rattle.gp_cluster.specs.Runs.{IsRunOf, HasLearnedAll, IsQuietOrSettled, EndCause, HoldParts};
 ghost use Rattle.gp_cluster.specs.Seated.{lent_end};
 
+use crate::policy::RoundPolicy;
 use crate::seated::{know, run_logs, take_room};
 use gp_closing::Closed;
 use gp_edge::{Disk, Gate};
@@ -45,12 +45,14 @@ fn end_of(why: LendFault) -> RunEnd
 /// Runs the nodes of a configuration, each in a thread of its own, until each learner holds each command that was offered.
 ///
 /// New logs of this limit, in bytes, are made on the disks of the acceptors and the coordinators; the other disks stay as they
-/// are. The proposers post the offers. Then phases follow in which all other nodes work, until nothing is left to do. If a
-/// learner still lacks an offered command, the run is settled. Why a run ends is told by `RunEnd`.
+/// are. The proposers post the offers, and phases follow in which all other nodes work, until nothing is left to do; the policy
+/// says which rounds begin, and whether phases come before the offers too. If a learner still lacks an offered command, the
+/// run is settled. Why a run ends is told by `RunEnd`.
 pub fn run_nodes<D: Disk + Send, W: Threads + Wait + Sync, G: Gate + Sync>(
     rt: &W,
     alloc: Global,
     config: Config,
+    policy: RoundPolicy,
     limit: u32,
     offers: &OfferList,
     disks: Vec<D>,
@@ -61,10 +63,10 @@ pub fn run_nodes<D: Disk + Send, W: Threads + Wait + Sync, G: Gate + Sync>(
     requires high { limit ≤ 67108864 }
     requires few { length offers.now < 2 ^ 32 }
     requires known { All IsKnown offers.now }
-    ensures posted { IfSome result.posted (IsRunOf config offers.now) }
+    ensures posted { IfSome result.posted (IsRunOf policy config offers.now) }
     ensures none { result.posted ≡ None → (result.end ≡ RunEnd.NoMemory) ⊎ (result.end ≡ RunEnd.Disk) }
-    ensures learned { result.end ≡ RunEnd.Learned → IfSome result.posted (λ list. AllLearned config (entries_in list)) }
-    ensures quiet { result.end ≡ RunEnd.Learned → ¬ SomeRose D.faults disks.items result.disks.items → IfSome result.posted (IsQuietOrSettled config offers.now) }
+    ensures learned { result.end ≡ RunEnd.Learned → IfSome result.posted (HasLearnedAll config offers.now) }
+    ensures quiet { result.end ≡ RunEnd.Learned → ¬ SomeRose D.faults disks.items result.disks.items → IfSome result.posted (IsQuietOrSettled policy config offers.now) }
     ensures cause { EndCause D.faults config limit disks.items result.disks.items result.posted result.end }
     ensures parts { result.end ≡ RunEnd.Learned → IfSome result.posted (λ list. HoldParts D.content config limit (entries_in list) result.disks.items) }
     ensures others { KeepsOthers config disks.items result.disks.items }
@@ -81,7 +83,7 @@ pub fn run_nodes<D: Disk + Send, W: Threads + Wait + Sync, G: Gate + Sync>(
     match lend(alloc, config, limit, disks) {
         Ok(Lent { logs, shelf }) => {
             let Closed { end, posted, logs } = run_logs(
-                rt, alloc, config, logs, offers, room, gate,
+                rt, alloc, config, policy, logs, offers, room, gate,
             );
             let disks = give_back(shelf, logs);
             NodesRun { end, posted, disks }

@@ -1,21 +1,31 @@
 //! A run from its offers to its end.
-ghost use Rattle.std.specs.Prelude.{◌≡◌, ◌≤◌, ◌<◌, ◌+◌, ◌^◌, length, IfOk};
+ghost use Rattle.std.specs.Prelude.{◌≡◌, ◌≤◌, ◌<◌, ◌+◌, ◌^◌, ℕ, List, None, length, IfOk};
 ghost use Rattle.std.specs.List.{All};
+ghost use Rattle.gp_command.specs.Views.{DraftView};
+ghost use Rattle.gp_work.specs.declared.job.Job.{Job as JobOf};
+ghost use Rattle.gp_cell.specs.Cells.{CellState};
+ghost use Rattle.gp_ending.specs.declared.ends.RunEnd.TheVariants as RunEnd;
 ghost use Rattle.gp_seats.specs.Offering.{IsKnown};
 ghost use Rattle.gp_seats.specs.Seats.{IsBlank};
 ghost use Rattle.gp_shelf.specs.Lists.{HasRoomFor};
-ghost use Rattle.gp_cluster.specs.Seated.{IsSeated, RunsFrom, logs_in};
+ghost use Rattle.gp_cluster.specs.declared.policy.RoundPolicy.{RoundPolicy};
+ghost use Rattle.gp_cluster.specs.Seated.{IsSeated, CanClose, IsCarriedRun, RunsFrom, logs_in};
 
+use crate::adapting::run_adapting;
+use crate::policy::RoundPolicy;
+use crate::turning::run_in_turn;
 use gp_closing::{Closed, conclude, leave, take_cells};
 use gp_command::NoMemory;
 use gp_edge::{Disk, Gate};
-use gp_ending::{RunEnd, Worked, work};
-use gp_node::Cell;
+use gp_ending::{RunEnd, Worked};
+use gp_node::{Cell, Job};
 use gp_offers::OfferList;
 use gp_round::Config;
-use gp_seats::{Seated, Unseated, offer_all, seat_all};
+use gp_rules::PaxosRules;
+use gp_seats::{Seated, Unseated, seat_all};
 use gp_shelf::DISKS;
 use gp_vlog::Log;
+use gp_wire::Wire;
 use std::alloc::Global;
 use std::sync::Wait;
 use std::thread::Threads;
@@ -53,11 +63,54 @@ pub(crate) fn take_room<D: Disk>(alloc: Global) -> Result<Room<D>, NoMemory>
     Ok(Room { cells, logs })
 }
 
-/// Posts the offers, works until nothing is left to do, and closes the wire.
-pub(crate) fn run_seated<D: Disk + Send, W: Threads + Wait + Sync, G: Gate + Sync>(
+/// The end of a run before its wire is closed, since memory ran out: the logs of the nodes that work come back.
+pub(crate) fn unclosed<D: Disk>(jobs: Vec<Job<D>>, room: Room<D>) -> Closed<D>
+    requires cells_room { HasRoomFor (length jobs.items) room.cells }
+    requires logs_room { HasRoomFor (length (logs_in jobs.items)) room.logs }
+    ensures posted { result.posted ≡ None }
+    ensures end { result.end ≡ RunEnd.NoMemory }
+    ensures logs { result.logs.items ≡ logs_in jobs.items }
+{
+    let Room { mut cells, logs } = room;
+    take_cells(jobs, &mut cells);
+    leave(cells, logs)
+}
+
+/// Closes the wire of a run of nodes, with the jobs of those that work and those of the proposers. If nothing was left to do,
+/// the run is settled if a learner has fewer commands than so many.
+pub(crate) fn close_run<D: Disk, W: Wait, G: Gate>(
     rt: &W,
     alloc: Global,
     config: Config,
+    wire: Wire<PaxosRules>,
+    worked: Worked<D>,
+    proposers: Vec<Job<D>>,
+    room: Room<D>,
+    commands: usize,
+    gate: &G,
+) -> Closed<D>
+    requires run { CanClose D.faults config wire worked.jobs.items proposers.items worked.end commands room.logs }
+    requires cells_room { HasRoomFor (length worked.jobs.items + length proposers.items) room.cells }
+    ensures run { (policy : RoundPolicy) (offers : List (ℕ × DraftView)) (jobs proposing : List (JobOf (CellState D))) → commands ≡ length offers
+        → IsCarriedRun D.faults policy config wire offers jobs proposing worked.jobs.items proposers.items worked.end
+        → RunsFrom policy D.faults D.content config offers (logs_in jobs) result.logs.items result.posted result.end }
+    ensures early { result.end ≡ RunEnd.Learned → worked.end ≡ None }
+{
+    know(config);
+    let Room { mut cells, logs } = room;
+    take_cells(worked.jobs, &mut cells);
+    take_cells(proposers, &mut cells);
+    conclude(
+        rt, alloc, config, wire, cells, logs, worked.end, commands, gate,
+    )
+}
+
+/// Runs the nodes of a configuration that are seated at a wire, in rounds that are chosen so, and closes the wire.
+fn run_seated<D: Disk + Send, W: Threads + Wait + Sync, G: Gate + Sync>(
+    rt: &W,
+    alloc: Global,
+    config: Config,
+    policy: RoundPolicy,
     seated: Seated<D>,
     offers: &OfferList,
     room: Room<D>,
@@ -68,27 +121,12 @@ pub(crate) fn run_seated<D: Disk + Send, W: Threads + Wait + Sync, G: Gate + Syn
     requires known { All IsKnown offers.now }
     requires cells_room { HasRoomFor (length seated.jobs.items + length seated.proposers.items) room.cells }
     requires logs_room { HasRoomFor (length (logs_in seated.jobs.items)) room.logs }
-    ensures { RunsFrom D.faults D.content config offers.now (logs_in seated.jobs.items) result.logs.items result.posted result.end }
+    ensures { RunsFrom policy D.faults D.content config offers.now (logs_in seated.jobs.items) result.logs.items result.posted result.end }
 {
-    let Seated {
-        wire,
-        jobs,
-        proposers,
-    } = seated;
-    let Room { mut cells, logs } = room;
-    know(config);
-    let offered = match offer_all(rt, alloc, &wire, proposers, offers, gate) {
-        Ok(offered) => offered,
-        Err(NoMemory) => {
-            take_cells(jobs, &mut cells);
-            return leave(cells, logs);
-        }
-    };
-    let Worked { jobs, end } = work(rt, alloc, config, &wire, &offered, jobs, gate);
-    take_cells(jobs, &mut cells);
-    take_cells(offered, &mut cells);
-    let commands = offers.as_slice().len();
-    conclude(rt, alloc, config, wire, cells, logs, end, commands, gate)
+    match policy {
+        RoundPolicy::Multi => run_in_turn(rt, alloc, config, seated, offers, room, gate),
+        RoundPolicy::Adaptive => run_adapting(rt, alloc, config, seated, offers, room, gate),
+    }
 }
 
 /// Runs the nodes of a configuration that have these logs, from the seating of the nodes to the closing of their wire.
@@ -96,6 +134,7 @@ pub(crate) fn run_logs<D: Disk + Send, W: Threads + Wait + Sync, G: Gate + Sync>
     rt: &W,
     alloc: Global,
     config: Config,
+    policy: RoundPolicy,
     logs: Vec<Log<D>>,
     offers: &OfferList,
     room: Room<D>,
@@ -107,11 +146,11 @@ pub(crate) fn run_logs<D: Disk + Send, W: Threads + Wait + Sync, G: Gate + Sync>
     requires known { All IsKnown offers.now }
     requires cells_room { HasRoomFor 24 room.cells }
     requires logs_room { HasRoomFor 12 room.logs }
-    ensures { RunsFrom D.faults D.content config offers.now logs.items result.logs.items result.posted result.end }
+    ensures { RunsFrom policy D.faults D.content config offers.now logs.items result.logs.items result.posted result.end }
 {
     know(config);
     match seat_all(alloc, config, logs) {
-        Ok(seated) => run_seated(rt, alloc, config, seated, offers, room, gate),
+        Ok(seated) => run_seated(rt, alloc, config, policy, seated, offers, room, gate),
         Err(Unseated { logs }) => Closed {
             end: RunEnd::NoMemory,
             posted: None,

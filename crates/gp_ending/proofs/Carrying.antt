@@ -2,15 +2,14 @@
 use Rattle.std.proofs.Common.{◌≡◌, ◌≤◌, ◌∙◌, inl, inr, true, false, ℕ, List, map, sym, ap, subst, Option, Some, None, Result, Ok, Err, OnOk, is_err}
 use Rattle.std.specs.Prelude.{IfSome, unwrap_or}
 use Rattle.gp_msg.specs.declared.event.Event.{Event}
-use Rattle.gp_edge.specs.Faults.{Rose}
 use Rattle.gp_work.specs.declared.faults.JobFault.{JobFault}
 use Rattle.gp_work.specs.declared.faults.JobFault.TheVariants.{NoMemory, Disk, Full, NotLog, Changed}
 use Rattle.gp_work.specs.declared.job.Job.{Job}
 use Rattle.gp_work.specs.Doing.{ProcessState}
 use Rattle.gp_work.proofs.Stretches.{goes_same, goes_on, rose_on}
-use Rattle.gp_phase.specs.Phases.{IsNew, FaultCause, Carried}
+use Rattle.gp_round.specs.declared.round.Round.{Round}
+use Rattle.gp_phase.specs.Phases.{IsNew, Going, FaultCause, Carried}
 use Rattle.gp_ending.specs.declared.ends.RunEnd.{RunEnd}
-use Rattle.gp_ending.specs.declared.ends.RunEnd.TheVariants as RunEnd
 use Rattle.gp_ending.specs.Ends.{deciding, fault_in}
 use Rattle.gp_ending.specs.Working.{IsDecided}
 
@@ -24,6 +23,14 @@ module _ {N P : Type 0} (state : P → ProcessState) (is_of : P → N → Type 0
     own = n.own;
     goes = goes_same (state j.cell);
     cause = no_fault (FaultCause (state j.cell).faults (state j.cell).faults (too_great j.cell)) j.fault n.fault;
+  }
+
+  -- a job that goes on from where it stands
+  pub carried_still : (rs : List Round) (j : Job P) → Going state is_of net rs j j → Carried state is_of too_great net j j
+  carried_still rs j g = record {
+    own = g.own;
+    goes = goes_same (state j.cell);
+    cause = no_fault (FaultCause (state j.cell).faults (state j.cell).faults (too_great j.cell)) j.fault g.fault;
   }
 
   cause_on : (a b c : ℕ) (great : Event → ℕ → ℕ → Type 0) → a ≤ b → (f : JobFault) → FaultCause b c great f → FaultCause a c great f

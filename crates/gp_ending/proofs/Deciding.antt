@@ -5,7 +5,7 @@ use Rattle.std.specs.List.{All}
 use Rattle.std.proofs.lemmas.Bool.{ltb-true, ltb-false}
 use Rattle.gp_work.specs.declared.faults.JobFault.{JobFault}
 use Rattle.gp_ending.specs.declared.ends.RunEnd.{RunEnd}
-use Rattle.gp_ending.specs.Ends.{end_of, rank, sooner, with_fault, deciding, Decides}
+use Rattle.gp_ending.specs.Ends.{end_of, rank, sooner, deciding, Decides}
 
 some_is : {A : Type 0} {x y : A} → Some x ≡ Some y → x ≡ y
 some_is e = cc

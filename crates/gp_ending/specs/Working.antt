@@ -1,14 +1,19 @@
 -- What the phases of a run leave.
-use Rattle.std.specs.Prelude.{◌≡◌, ◌≤◌, ◌<◌, ℕ, Option, Some, None, List, map, length, slice_index_or, ◌⊎◌}
-use Rattle.gp_wire.specs.Known.{WireState}
+use Rattle.std.specs.Prelude.{◌≡◌, ◌≤◌, ◌<◌, ℕ, Some, None, List, map, length, slice_index_or, ◌⊎◌}
+use Rattle.gp_round.specs.Counts.{Counts}
+use Rattle.gp_msg.specs.declared.node.Node.{Node}
+use Rattle.gp_msg.specs.declared.record.Record.{Record}
+use Rattle.gp_wire.specs.Known.{WireState, records}
 use Rattle.gp_rules.specs.declared.rules.PaxosRules.{PaxosRules}
 use Rattle.gp_work.specs.declared.job.Job.{Job}
 use Rattle.gp_cell.specs.Cells.{CellState}
 use Rattle.gp_cell.specs.Refusals.{IsTooGreat, faults_of}
 use Rattle.gp_cell.specs.Working.{process_of, IsAt}
 use Rattle.gp_node.specs.Phases.{IsWorkedJob}
-use Rattle.gp_phase.specs.Phases.{Carried}
-use Rattle.gp_quiet.specs.Ended.{IsToOffer, EndedRun, EndsQuietly}
+use Rattle.gp_phase.specs.declared.caller.Call.{Call}
+use Rattle.gp_phase.specs.Phases.{Answers, Carried}
+use Rattle.gp_begins.specs.Begins.{leader}
+use Rattle.gp_quiet.specs.Ended.{IsToOffer, EndedRun, AreEnded, EndsQuietly}
 use Rattle.gp_ending.specs.declared.ends.RunEnd.{RunEnd}
 use Rattle.gp_ending.specs.declared.ends.RunEnd.TheVariants.{NoMemory}
 use Rattle.gp_ending.specs.Ends.{deciding, fault_in}
@@ -24,15 +29,32 @@ pub record HaveOffered {D : Type 0} (faults : D → ℕ) (wire : WireState Paxos
   pub worked : (i : ℕ) (d : Job (CellState D)) → i < length offering → IsWorkedJob faults wire (slice_index_or offering i d) (slice_index_or offered i d)
   pub unbroken : (i : ℕ) (d : Job (CellState D)) → i < length offered → (slice_index_or offered i d).fault ≡ None
 
--- the phases ended quietly that began with these jobs, after the phase of the proposers. Before the first phase no count of faults had fallen
-pub record EndsQuietlyFrom {D : Type 0} (faults : D → ℕ) (wire : WireState PaxosRules) (offering offered jobs ended : List (Job (CellState D))) : Type 0 where
+-- the phases ended quietly that began with these jobs, in which these rounds were called, once the other nodes had posted so many records. Before the first phase no count of faults had fallen
+pub record RestsAfter {D : Type 0} (answers : Answers) (faults : D → ℕ) (wire : WireState PaxosRules) (at others : ℕ) (calls : List Call) (jobs ended : List (Job (CellState D))) : Type 0 where
+  pub starting : List (Job (CellState D))
+  pub first : List Call
+  pub size : length starting ≡ length jobs
+  pub node : (i : ℕ) (d : Job (CellState D)) → i < length jobs → (slice_index_or starting i d).cell.node ≡ (slice_index_or jobs i d).cell.node
+  pub later : (i : ℕ) (d : Job (CellState D)) → i < length jobs → faults_of faults (slice_index_or jobs i d).cell.log ≤ faults_of faults (slice_index_or starting i d).cell.log
+  pub phases : AreEnded answers faults wire at others first calls starting ended
+
+-- the caller of the rounds of a configuration is that of the leader, whose job stands at a place, and knows what the leader has seen
+pub record IsCallerAt {D : Type 0} (us config : Counts) (node : Node) (knows : List Record → Type 0) (at : ℕ) (jobs : List (Job (CellState D))) : Type 0 where
+  pub config_is : config ≡ us
+  pub node_is : node ≡ leader
+  pub job_config : (d : Job (CellState D)) → (slice_index_or jobs at d).cell.config ≡ us
+  pub job_node : (d : Job (CellState D)) → (slice_index_or jobs at d).cell.node ≡ leader
+  pub knows_all : (d : Job (CellState D)) → knows (records (slice_index_or jobs at d).cell.pass)
+
+-- the phases ended quietly that began with these jobs, and one phase of the proposers
+pub record EndsQuietlyFrom {D : Type 0} (answers : Answers) (faults : D → ℕ) (wire : WireState PaxosRules) (offering offered jobs ended : List (Job (CellState D))) : Type 0 where
   pub run : EndedRun D
   pub offering_is : run.offering ≡ offering
   pub offered_is : run.offered ≡ offered
   pub ended_is : run.ended ≡ ended
   pub size : length run.starting ≡ length jobs
   pub later : (i : ℕ) (d : Job (CellState D)) → i < length jobs → faults_of faults (slice_index_or jobs i d).cell.log ≤ faults_of faults (slice_index_or run.starting i d).cell.log
-  pub quiet : EndsQuietly faults wire run
+  pub quiet : EndsQuietly answers faults wire run
 
 -- memory ran out, or the end is the one that the faults of these jobs decide
 abbrev pub IsDecided : {P : Type 0} → List (Job P) → RunEnd → Type 0

@@ -6,4 +6,4 @@ pub mod laws;
 mod working;
 
 pub use ends::RunEnd;
-pub use working::{Worked, work};
+pub use working::{Worked, go_on, work};

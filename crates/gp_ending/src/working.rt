@@ -1,21 +1,20 @@
-//! The phases of a run, once the offers were posted.
-ghost use Rattle.std.specs.Prelude.{◌≡◌, ◌<◌, ℕ, None, Some, List, length, slice_index_or, IfSome};
+//! The phases of a run.
+ghost use Rattle.std.specs.Prelude.{◌≡◌, ◌<◌, ℕ, None, Some, [], length, slice_index_or, IfSome};
 ghost use Rattle.gp_ending.specs.declared.ends.RunEnd.TheVariants as RunEnd;
 ghost use Rattle.std.specs.List.{All};
 ghost use Rattle.gp_work.specs.declared.job.Job.{Job as JobOf};
 ghost use Rattle.gp_cell.specs.Cells.{CellState};
 ghost use Rattle.gp_cell.specs.Working.{process_of, IsAt};
-ghost use Rattle.gp_phase.specs.Phases.{IsNew, total};
+ghost use Rattle.gp_phase.specs.Phases.{IsNew, AreReady, total};
 ghost use Rattle.gp_begins.specs.Begins.{leader};
-ghost use Rattle.gp_quiet.specs.Ended.{AreNodesOf, nodes_of};
-ghost use Rattle.gp_ending.specs.Working.{IsCarriedJob, HaveOffered, EndsQuietlyFrom, IsDecided};
+ghost use Rattle.gp_quiet.specs.Ended.{HaveWorked};
+ghost use Rattle.gp_ending.specs.Working.{IsCarriedJob, IsCallerAt, RestsAfter, IsDecided};
 
 use crate::ends::{RunEnd, deciding};
-use gp_caller::RoundCaller;
 use gp_cell::Cell;
 use gp_edge::{Disk, Gate};
 use gp_node::Job;
-use gp_phase::{PhasesEnd, call_first, run_phases};
+use gp_phase::{Caller, PhasesEnd, call_first, run_phases};
 use gp_round::Config;
 use gp_rules::PaxosRules;
 use gp_wire::Wire;
@@ -54,44 +53,42 @@ fn starved<D: Disk>(jobs: Vec<Job<D>>) -> Worked<D>
     }
 }
 
-/// Has coordinator 0 begin its first round, and runs phases of all nodes but the proposers until nothing is left to do. The
-/// proposers have posted their offers. The jobs are new ones: of the acceptors, and then of coordinator 0, which the others
+/// Runs phases of all nodes but the proposers until nothing is left to do. The proposers have posted what these jobs of
+/// theirs say. The jobs are those of the acceptors, and then of coordinator 0, whose rounds the caller calls, which the others
 /// follow; they come back in order.
 ///
 /// If a job has a fault, or memory runs out, the run ends early. Among several faults the kinds and the jobs decide in the
 /// order of `deciding`.
-pub fn work<D: Disk + Send, W: Threads + Wait + Sync, G: Gate + Sync>(
+pub fn go_on<
+    D: Disk + Send,
+    C: Caller<Wire<PaxosRules>, Cell<D>>,
+    W: Threads + Wait + Sync,
+    G: Gate + Sync,
+>(
     rt: &W,
     alloc: Global,
     config: Config,
     wire: &Wire<PaxosRules>,
+    caller: &mut C,
     offered: &[Job<D>],
-    starting: Vec<Job<D>>,
+    jobs: Vec<Job<D>>,
     gate: &G,
 ) -> Worked<D>
-    requires config { wire.now.rules.config ≡ config }
-    requires new { All (λ j. IsNew (process_of D.faults) (λ c w. IsAt c w) wire.now j) starting.items }
-    requires at { config.acceptors < length starting.items }
-    requires leads { (d : JobOf (CellState D)) → (slice_index_or starting.items config.acceptors d).cell.node ≡ leader }
-    ensures size { length result.jobs.items ≡ length starting.items }
-    ensures carried { (i : ℕ) (d : JobOf (CellState D)) → i < length starting.items
-        → IsCarriedJob D.faults wire.now (slice_index_or starting.items i d) (slice_index_or result.jobs.items i d) }
-    ensures quiet { result.end ≡ None → (offering : List (JobOf (CellState D))) → AreNodesOf config (nodes_of starting.items) (nodes_of offering)
-        → HaveOffered D.faults wire.now offering offered.now → EndsQuietlyFrom D.faults wire.now offering offered.now starting.items result.jobs.items }
+    requires at { config.acceptors < length jobs.items }
+    requires ready { AreReady (process_of D.faults) (λ c w. IsAt c w) wire.now C.answers config.acceptors (C.called caller.old) jobs.items }
+    requires caller { IsCallerAt config (C.config caller.old) (C.node caller.old) (λ seen. C.knows caller.old seen) config.acceptors jobs.items }
+    ensures size { length result.jobs.items ≡ length jobs.items }
+    ensures carried { (i : ℕ) (d : JobOf (CellState D)) → i < length jobs.items
+        → IsCarriedJob D.faults wire.now (slice_index_or jobs.items i d) (slice_index_or result.jobs.items i d) }
+    ensures worked { result.end ≡ None → HaveWorked C.answers D.faults wire.now config.acceptors (total (process_of D.faults) 0 offered.now) (C.called caller.new) jobs.items result.jobs.items }
+    ensures caller { result.end ≡ None → IsCallerAt config (C.config caller.new) (C.node caller.new) (λ seen. C.knows caller.new seen) config.acceptors result.jobs.items }
     ensures decided { IfSome result.end (IsDecided result.jobs.items) }
 {
     let at = config.acceptors() as usize;
-    let mut jobs = starting;
     let Some(others) = count::<Wire<PaxosRules>, Cell<D>>(0, offered) else {
         return starved(jobs);
     };
-    let Ok(mut caller) = RoundCaller::new(alloc, config) else {
-        return starved(jobs);
-    };
-    if call_first(rt, wire, &mut jobs, at, &mut caller).is_err() {
-        return starved(jobs);
-    }
-    let phases = run_phases(rt, alloc, wire, jobs, at, &mut caller, others, gate);
+    let phases = run_phases(rt, alloc, wire, jobs, at, caller, others, gate);
     let end = match phases.end {
         PhasesEnd::Quiet => None,
         PhasesEnd::Fault | PhasesEnd::NoMemory => {
@@ -102,4 +99,42 @@ pub fn work<D: Disk + Send, W: Threads + Wait + Sync, G: Gate + Sync>(
         jobs: phases.jobs,
         end,
     }
+}
+
+/// Has coordinator 0 begin its first round, and goes on with phases. The jobs are new ones, and the caller has called no
+/// round before.
+pub fn work<
+    D: Disk + Send,
+    C: Caller<Wire<PaxosRules>, Cell<D>>,
+    W: Threads + Wait + Sync,
+    G: Gate + Sync,
+>(
+    rt: &W,
+    alloc: Global,
+    config: Config,
+    wire: &Wire<PaxosRules>,
+    caller: &mut C,
+    offered: &[Job<D>],
+    starting: Vec<Job<D>>,
+    gate: &G,
+) -> Worked<D>
+    requires config { wire.now.rules.config ≡ config }
+    requires new { All (λ j. IsNew (process_of D.faults) (λ c w. IsAt c w) wire.now j) starting.items }
+    requires at { config.acceptors < length starting.items }
+    requires leads { (d : JobOf (CellState D)) → (slice_index_or starting.items config.acceptors d).cell.node ≡ leader }
+    requires caller { IsCallerAt config (C.config caller.old) (C.node caller.old) (λ seen. C.knows caller.old seen) config.acceptors starting.items }
+    requires none { C.called caller.old ≡ [] }
+    ensures size { length result.jobs.items ≡ length starting.items }
+    ensures carried { (i : ℕ) (d : JobOf (CellState D)) → i < length starting.items
+        → IsCarriedJob D.faults wire.now (slice_index_or starting.items i d) (slice_index_or result.jobs.items i d) }
+    ensures quiet { result.end ≡ None → RestsAfter C.answers D.faults wire.now config.acceptors (total (process_of D.faults) 0 offered.now) (C.called caller.new) starting.items result.jobs.items }
+    ensures caller { result.end ≡ None → IsCallerAt config (C.config caller.new) (C.node caller.new) (λ seen. C.knows caller.new seen) config.acceptors result.jobs.items }
+    ensures decided { IfSome result.end (IsDecided result.jobs.items) }
+{
+    let at = config.acceptors() as usize;
+    let mut jobs = starting;
+    if call_first(rt, wire, &mut jobs, at, caller).is_err() {
+        return starved(jobs);
+    }
+    go_on(rt, alloc, config, wire, caller, offered, jobs, gate)
 }

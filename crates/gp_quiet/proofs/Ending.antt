@@ -29,17 +29,20 @@ use Rattle.gp_cell.specs.Working.{process_of, IsAt}
 use Rattle.gp_cell.specs.Refusals.{IsTooGreat}
 use Rattle.gp_phase.specs.declared.caller.Call.{Call}
 use Rattle.gp_phase.specs.Deeds.{takes_in, others_in, begins, begin_moves, Tidy}
-use Rattle.gp_phase.specs.Phases.{rounds, only_at, total, Finished}
+use Rattle.gp_phase.specs.Phases.{Answers, rounds, only_at, total, Finished}
 use Rattle.gp_phase.specs.Quiet.{IsQuietAt}
 use Rattle.gp_phase.proofs.Phasing.{done_of, only_here, only_else}
 use Rattle.gp_phase.proofs.Quieting.{counted, counted_all, read_end}
-use Rattle.gp_caller.specs.declared.policy.TheConstants.{FIRST_ROUND, LEADER}
+use Rattle.gp_caller.specs.declared.policy.TheConstants.{FIRST_ROUND, FIRST_FAST_ROUND, LEADER}
 use Rattle.gp_caller.specs.Rounds.{next_round}
 use Rattle.gp_caller.specs.Calling.{IsCalled, call_in, highest_for}
+use Rattle.gp_caller.specs.Adapting.{IsAdapted}
 use Rattle.gp_begins.specs.Begins.{leader, HasFollowed, BeginsInTurn}
+use Rattle.gp_begins.specs.Adapting.{BeginsInCourse}
 use Rattle.gp_begins.proofs.Concluding.{begins_in_turn, opens_with_first}
+use Rattle.gp_begins.proofs.Resting.{begins_in_course, opens_with_first_fast}
 use Rattle.gp_begins.proofs.Places.{head_is, cons_not_nil}
-use Rattle.gp_quiet.specs.Quiet.{IsFall, IsOffer, IsQuietRun}
+use Rattle.gp_quiet.specs.Quiet.{IsFall, IsOffer, IsQuietList, IsQuietRun, IsAdaptiveRun}
 use Rattle.gp_quiet.specs.Ended.{is_proposer, cell_in, cells_of, nodes_of, EndedRun, EndsQuietly, StaysSteady, HasOwnPass, IsBehind, cells_in, IsListOf, IsClosedList}
 use Rattle.gp_quiet.proofs.Indexing.{pick, each_of, each_got, get_each, each_both, each_mapped, each_then, first_cells, second_cells, JobOf, job_of, has_node, same_nodes}
 use Rattle.gp_quiet.proofs.Holding.{all_there, own_behind, of_node, counted_append, total_counted, each_begun}
@@ -78,7 +81,7 @@ by_false false h = refl
 some_first : (e : ℕ) (own : Round) (clashed : Bool) → None ≡ option_map (call_in e) (next_round (highest_for 0 own) clashed 0) → ⊥
 some_first e own clashed h = cc
 
-module _ {D : Type 0} (faults : D → ℕ) (wire : WireState PaxosRules) (run : EndedRun D) (X : List Record) (q : EndsQuietly faults wire run) (l : IsListOf wire run X) where
+module _ {D : Type 0} (answers : Answers) (faults : D → ℕ) (wire : WireState PaxosRules) (run : EndedRun D) (X : List Record) (q : EndsQuietly answers faults wire run) (l : IsListOf wire run X) where
   abbrev config : Counts
   config = wire.rules.config
 
@@ -106,13 +109,13 @@ module _ {D : Type 0} (faults : D → ℕ) (wire : WireState PaxosRules) (run : 
   Behind c = IsBehind c.node (records c.pass) X
 
   work_behind : (i : ℕ) (d : JobAt) → i < length run.starting → Behind (jk i d).cell
-  work_behind i d w = first_cells Behind run.ended run.offered (each_got Behind (cells_in run) l.behind) i d (let s = q.size in omega arith)
+  work_behind i d w = first_cells Behind run.ended run.offered (each_got Behind (cells_in run) l.behind) i d (let s = q.phases.worked.size in omega arith)
 
   offer_behind : (i : ℕ) (d : JobAt) → i < length run.offering → Behind (pk i d).cell
   offer_behind i d w = second_cells Behind run.ended run.offered (each_got Behind (cells_in run) l.behind) i d (let s = q.offered_size in omega arith)
 
   work_nodes : nodes_of run.ended ≡ nodes_of run.starting
-  work_nodes = same_nodes run.starting run.ended q.size (λ i d w. (q.finished i d w).going.goes.node)
+  work_nodes = same_nodes run.starting run.ended q.phases.worked.size (λ i d w. (q.phases.worked.finished i d w).going.goes.node)
 
   offer_nodes : nodes_of run.offered ≡ nodes_of run.offering
   offer_nodes = same_nodes run.offering run.offered q.offered_size (λ i d w. (q.offered i d w).stretch.goes.node)
@@ -138,7 +141,7 @@ module _ {D : Type 0} (faults : D → ℕ) (wire : WireState PaxosRules) (run : 
   all_posted : total state (total state 0 run.offered) run.ended ≡ length X
   all_posted =
       let offered = total_counted faults X 0 run.offered (λ i d w. own_behind X (pk i d).cell (offer_behind i d (let s = q.offered_size in omega arith))) in
-      let ended = total_counted faults X (total state 0 run.offered) run.ended (λ i d w. own_behind X (jk i d).cell (work_behind i d (let s = q.size in omega arith))) in
+      let ended = total_counted faults X (total state 0 run.offered) run.ended (λ i d w. own_behind X (jk i d).cell (work_behind i d (let s = q.phases.worked.size in omega arith))) in
       let one = ap (λ ns. counted ns X) work_nodes in
       let two = ap (λ ns. counted ns X) offer_nodes in
       let sum = counted_append (nodes_of run.starting) (nodes_of run.offering) X in
@@ -150,13 +153,13 @@ module _ {D : Type 0} (faults : D → ℕ) (wire : WireState PaxosRules) (run : 
   -- the job ended when its node had seen just the list
   record SawX (i : ℕ) (d : JobAt) (w : i < length run.starting) : Type 0 where
     list : records (jk i d).cell.pass ≡ X
-    seen : (q.finished i d w).seen ≡ X
+    seen : (q.phases.worked.finished i d w).seen ≡ X
 
   saw : (i : ℕ) (d : JobAt) (w : i < length run.starting) → SawX i d w
   saw i d w = record { list = list; seen = seen }
     where
       f : Finished state (λ c n. IsAt c n) wire (only_at run.at i (rounds run.calls)) (total state (total state 0 run.offered) run.ended) (j0 i d) (jk i d)
-      f = q.finished i d w
+      f = q.phases.worked.finished i d w
 
       b : Behind (jk i d).cell
       b = work_behind i d w
@@ -178,7 +181,7 @@ module _ {D : Type 0} (faults : D → ℕ) (wire : WireState PaxosRules) (run : 
 
   module _ (u : StaysSteady faults run) where
     unfallen : (i : ℕ) (d : JobAt) → i < length run.starting → (jk i d).risen ≡ false
-    unfallen i d w = by_false (jk i d).risen (λ up. u.working i d w ((q.finished i d w).going.fallen (q.opening i d w).risen up))
+    unfallen i d w = by_false (jk i d).risen (λ up. u.working i d w ((q.phases.worked.finished i d w).going.fallen (q.phases.opening i d w).risen up))
 
     -- what its node did
     record WorkedOn (i : ℕ) (d : JobAt) : Type 0 where
@@ -188,8 +191,8 @@ module _ {D : Type 0} (faults : D → ℕ) (wire : WireState PaxosRules) (run : 
     worked_on : (i : ℕ) (d : JobAt) → i < length run.starting → WorkedOn i d
     worked_on i d w =
         let s = saw i d w in
-        let t : Tidy (state (jk i d).cell) (jk i d).cursor (begins (jk i d).cell.node (only_at run.at i (rounds run.calls))) = (q.finished i d w).going.tidy (unfallen i d w) in record {
-          quiet = read_end (jk i d).cell.node X (jk i d).cursor (subst (λ rs. length (messages_in rs) ≤ (jk i d).cursor) s.seen (q.finished i d w).looked)
+        let t : Tidy (state (jk i d).cell) (jk i d).cursor (begins (jk i d).cell.node (only_at run.at i (rounds run.calls))) = (q.phases.worked.finished i d w).going.tidy (unfallen i d w) in record {
+          quiet = read_end (jk i d).cell.node X (jk i d).cursor (subst (λ rs. length (messages_in rs) ≤ (jk i d).cursor) s.seen (q.phases.worked.finished i d w).looked)
               (subst (λ rs. AreRead (jk i d).cell.node (messages_in rs) 0 (jk i d).cursor (takes_in (own_events (jk i d).cell.node rs))) s.list t.read);
           acts = subst (λ rs. others_in (own_events (jk i d).cell.node rs) ≡ begins (jk i d).cell.node (only_at run.at i (rounds run.calls))) s.list t.acts;
         }
@@ -234,14 +237,14 @@ module _ {D : Type 0} (faults : D → ℕ) (wire : WireState PaxosRules) (run : 
       quiet = subst (λ m. IsQuietAt m X) node w.quiet;
       stands = begun_is_no_fall (own_events n X) n (only_at run.at j.place (rounds run.calls)) acts;
       offers = λ p is. absurd (let wrong : true ≡ false = sym (ap is_proposer is) ∙ e in cc);
-      follows = λ _ other. acts ∙ ap (begins n) (only_else run.at j.place (rounds run.calls) (λ here. other (sym j.node_is ∙ ap (λ i. (j0 i j.some).cell.node) here ∙ q.leads j.some)));
+      follows = λ _ other. acts ∙ ap (begins n) (only_else run.at j.place (rounds run.calls) (λ here. other (sym j.node_is ∙ ap (λ i. (j0 i j.some).cell.node) here ∙ q.phases.leads j.some)));
     }
       where
         w : WorkedOn j.place j.some
         w = worked_on j.place j.some j.within
 
         node : (jk j.place j.some).cell.node ≡ n
-        node = (q.finished j.place j.some j.within).going.goes.node ∙ j.node_is
+        node = (q.phases.worked.finished j.place j.some j.within).going.goes.node ∙ j.node_is
 
         acts : others_in (own_events n X) ≡ begins n (only_at run.at j.place (rounds run.calls))
         acts = subst (λ m. others_in (own_events m X) ≡ begins m (only_at run.at j.place (rounds run.calls))) node w.acts
@@ -283,79 +286,73 @@ module _ {D : Type 0} (faults : D → ℕ) (wire : WireState PaxosRules) (run : 
     -- ---- the leader
 
     d0 : JobAt
-    d0 = pick run.starting run.at q.at
+    d0 = pick run.starting run.at q.phases.within
 
     abbrev lead : ProcessState
     lead = state (jk run.at d0).cell
 
     lead_node : lead.node ≡ leader
-    lead_node = (q.finished run.at d0 q.at).going.goes.node ∙ q.leads d0
+    lead_node = (q.phases.worked.finished run.at d0 q.phases.within).going.goes.node ∙ q.phases.leads d0
 
     lead_list : lead.list ≡ X
-    lead_list = (saw run.at d0 q.at).list
+    lead_list = (saw run.at d0 q.phases.within).list
 
     lead_config : lead.config ≡ config
-    lead_config = (q.finished run.at d0 q.at).going.own.config
+    lead_config = (q.phases.worked.finished run.at d0 q.phases.within).going.own.config
 
     -- the leader has begun just the rounds that were called
     pub begun_just : others_in (own_events leader X) ≡ begins leader (rounds run.calls)
     begun_just = subst (λ n. others_in (own_events n X) ≡ begins n (rounds run.calls)) lead_node
-        ((worked_on run.at d0 q.at).acts ∙ ap (begins lead.node) (only_here run.at run.at (rounds run.calls) refl))
+        ((worked_on run.at d0 q.phases.within).acts ∙ ap (begins lead.node) (only_here run.at run.at (rounds run.calls) refl))
 
     present_below : (c : ℕ) → c < config.coordinators → is_present config (Coordinator c) ≡ true
     present_below c w = lt-ltb c config.coordinators w
 
-    followed : HasFollowed lead run.calls
+    followed : HasFollowed answers lead run.calls
     followed = record {
       node = lead_node;
       legal = subst (λ rs. Legal lead.config (entries_in rs)) (sym lead_list) (subst (λ c. Legal c (entries_in X)) (sym lead_config) l.legal);
-      begun = (q.follows d0).all (unfallen run.at d0 q.at);
+      begun = (q.phases.worked.follows d0).all (unfallen run.at d0 q.phases.within);
       acts = subst (λ rs. others_in (own_events lead.node rs) ≡ begins lead.node (rounds run.calls)) (sym lead_list)
           (subst (λ n. others_in (own_events n X) ≡ begins n (rounds run.calls)) (sym lead_node) begun_just);
       others = λ c below other. subst (λ rs. others_in (own_events (Coordinator c) rs) ≡ []) (sym lead_list)
           ((did (Coordinator c) (present_below c (subst (λ (k : Counts). c < k.coordinators) lead_config below))).follows refl (λ is. other (coordinator_is is)));
-      ended = q.last d0;
+      ended = q.phases.worked.last d0;
     }
       where
         coordinator_is : {a b : ℕ} → Coordinator a ≡ Coordinator b → a ≡ b
         coordinator_is e = cc
 
-    turns : BeginsInTurn config X
-    turns = subst (BeginsInTurn config) lead_list (subst (λ c. BeginsInTurn c lead.list) lead_config
-        (begins_in_turn lead run.calls followed (subst (λ (c : Counts). 0 < c.acceptors) (sym lead_config) q.some)))
-
-    -- the leader begins a round before all else
-    opens_with : (c : Call) × (rest : List Event) × (own_events leader X ≡ Begin LEADER c.round ∷ rest)
-    opens_with = by_answer (q.answered d0).answer (q.answered d0).called_is (q.answered d0).may
+    -- the leader begins a round before all else, if the first answer of the caller is one
+    opens_with : ((c : Counts) (n : Node) (seen : List Record) → answers c n [] seen None → ⊥) → (c : Call) × (rest : List Event) × (own_events leader X ≡ Begin LEADER c.round ∷ rest)
+    opens_with some = by_answer (q.phases.answered d0).answer (q.phases.answered d0).called_is (q.phases.answered d0).may
       where
         posted : (rest : List Event) × (own_events leader X ≡ begins leader (rounds run.first) ++ rest)
         posted =
-            let o = q.opening run.at d0 q.at in
-            let p = q.opens run.at d0 q.at (rounds run.first) (o.first ∙ ap begin_moves (only_here run.at run.at (rounds run.first) refl)) (unfallen run.at d0 q.at) in
+            let o = q.phases.opening run.at d0 q.phases.within in
+            let p = q.phases.worked.opens run.at d0 q.phases.within (rounds run.first) (o.first ∙ ap begin_moves (only_here run.at run.at (rounds run.first) refl)) (unfallen run.at d0 q.phases.within) in
             let mine : own_events lead.node X ≡ begins (j0 run.at d0).cell.node (rounds run.first) ++ p.0 = ap (own_events lead.node) (sym lead_list) ∙ p.1 ∙ ap (λ es. es ++ (begins (j0 run.at d0).cell.node (rounds run.first) ++ p.0)) o.nothing in (
               p.0,
-              ap (λ n. own_events n X) (sym lead_node) ∙ mine ∙ ap (λ n. begins n (rounds run.first) ++ p.0) (q.leads d0),
+              ap (λ n. own_events n X) (sym lead_node) ∙ mine ∙ ap (λ n. begins n (rounds run.first) ++ p.0) (q.phases.leads d0),
             )
 
-        by_answer : (answer : Option Call) → run.first ≡ option_to_list answer → IsCalled (state (j0 run.at d0).cell).config (state (j0 run.at d0).cell).node [] (state (j0 run.at d0).cell).list answer
+        by_answer : (answer : Option Call) → run.first ≡ option_to_list answer → answers (state (j0 run.at d0).cell).config (state (j0 run.at d0).cell).node [] (state (j0 run.at d0).cell).list answer
             → (c : Call) × (rest : List Event) × (own_events leader X ≡ Begin LEADER c.round ∷ rest)
-        by_answer None is may = absurd (some_first may.epoch may.own may.clashed may.call_is)
+        by_answer None is may = absurd (some (state (j0 run.at d0).cell).config (state (j0 run.at d0).cell).node (state (j0 run.at d0).cell).list may)
         by_answer (Some c) is may = (c, posted.0, posted.1 ∙ ap (λ cs. begins leader (rounds cs) ++ posted.0) is)
 
-    opens : (rest : List Event) × (own_events leader X ≡ Begin LEADER FIRST_ROUND ∷ rest)
-    opens = subst (λ rs. (rest : List Event) × (own_events leader rs ≡ Begin LEADER FIRST_ROUND ∷ rest)) lead_list
-        (opens_with_first lead run.calls followed (λ n k rest took.
-        let wrong : Begin LEADER opens_with.0.round ≡ Take n k = head_is (sym opens_with.2 ∙ ap (own_events leader) (sym lead_list) ∙ took) in cc))
+    -- so its first event takes no message
+    takes_later : ((c : Counts) (n : Node) (seen : List Record) → answers c n [] seen None → ⊥) → (n : Node) (k : ℕ) (rest : List Event) → ¬ (own_events leader lead.list ≡ Take n k ∷ rest)
+    takes_later some n k rest took =
+        let o = opens_with some in let wrong : Begin LEADER o.0.round ≡ Take n k = head_is (sym o.2 ∙ ap (own_events leader) (sym lead_list) ∙ took) in cc
 
-    -- **the run is quiet**
-    pub is_quiet : IsQuietRun config X
-    is_quiet = record {
+    -- **each node took what it reads, and none fell**
+    pub is_quiet_list : IsQuietList config X
+    is_quiet_list = record {
       legal = l.legal;
       quiet = λ n there. (did n there).quiet;
       stands = each_record (λ n e. ¬ IsFall e) (λ n there. (did n there).stands);
       offers = each_record (λ n e. (p : ℕ) → n ≡ Proposer p → IsOffer e) (λ n there. by_node n (own_events n X) (did n there).offers);
-      opens = opens;
-      turns = turns;
     }
       where
         by_node : (n : Node) (es : List Event) → ((p : ℕ) → n ≡ Proposer p → Each IsOffer es) → Each (λ e. (p : ℕ) → n ≡ Proposer p → IsOffer e) es
@@ -365,15 +362,57 @@ module _ {D : Type 0} (faults : D → ℕ) (wire : WireState PaxosRules) (run : 
     pub all_offered : (i : ℕ) (d : JobAt) → i < length run.offering → own_events (p0 i d).cell.node X ≡ events_of (p0 i d).cell.node (p0 i d).first
     all_offered = offered_just
 
+-- ---- the two kinds of runs
+
+module _ {D : Type 0} (faults : D → ℕ) (wire : WireState PaxosRules) (run : EndedRun D) (X : List Record) (q : EndsQuietly IsCalled faults wire run) (l : IsListOf wire run X) (u : StaysSteady faults run) where
+  abbrev turning : ProcessState
+  turning = lead IsCalled faults wire run X q l u
+
+  some_called : (c : Counts) (n : Node) (seen : List Record) → IsCalled c n [] seen None → ⊥
+  some_called c n seen may = some_first may.epoch may.own may.clashed may.call_is
+
+  -- **the run is quiet, and its rounds are begun in turn**
+  pub is_quiet : IsQuietRun wire.rules.config X
+  is_quiet =
+      let f = followed IsCalled faults wire run X q l u in
+      let list = lead_list IsCalled faults wire run X q l u in
+      let config = lead_config IsCalled faults wire run X q l u in record {
+        quiet = is_quiet_list IsCalled faults wire run X q l u;
+        opens = subst (λ rs. (rest : List Event) × (own_events leader rs ≡ Begin LEADER FIRST_ROUND ∷ rest)) list
+            (opens_with_first turning run.calls f (takes_later IsCalled faults wire run X q l u some_called));
+        turns = subst (BeginsInTurn wire.rules.config) list (subst (λ c. BeginsInTurn c turning.list) config
+            (begins_in_turn turning run.calls f (subst (λ (c : Counts). 0 < c.acceptors) (sym config) q.some)));
+      }
+
+module _ {D : Type 0} (faults : D → ℕ) (wire : WireState PaxosRules) (run : EndedRun D) (X : List Record) (q : EndsQuietly IsAdapted faults wire run) (l : IsListOf wire run X) (u : StaysSteady faults run) where
+  abbrev adapting : ProcessState
+  adapting = lead IsAdapted faults wire run X q l u
+
+  some_adapted : (c : Counts) (n : Node) (seen : List Record) → IsAdapted c n [] seen None → ⊥
+  some_adapted c n seen may = may.may
+
+  -- **the run is quiet, and its rounds adapt**
+  pub is_adaptive : IsAdaptiveRun wire.rules.config X
+  is_adaptive =
+      let f = followed IsAdapted faults wire run X q l u in
+      let list = lead_list IsAdapted faults wire run X q l u in
+      let config = lead_config IsAdapted faults wire run X q l u in record {
+        quiet = is_quiet_list IsAdapted faults wire run X q l u;
+        opens = subst (λ rs. (rest : List Event) × (own_events leader rs ≡ Begin LEADER FIRST_FAST_ROUND ∷ rest)) list
+            (opens_with_first_fast adapting run.calls f (takes_later IsAdapted faults wire run X q l u some_adapted));
+        course = subst (BeginsInCourse wire.rules.config) list (subst (λ c. BeginsInCourse c adapting.list) config
+            (begins_in_course adapting run.calls f (subst (λ (c : Counts). 0 < c.acceptors) (sym config) q.some)));
+      }
+
 -- ---- the closed list
 
-module _ {D : Type 0} (faults : D → ℕ) (wire : WireState PaxosRules) (run : EndedRun D) (list : List Record) (q : EndsQuietly faults wire run) (c : IsClosedList wire run list) where
+module _ {D : Type 0} (answers : Answers) (faults : D → ℕ) (wire : WireState PaxosRules) (run : EndedRun D) (list : List Record) (q : EndsQuietly answers faults wire run) (c : IsClosedList wire run list) where
   abbrev Holds : CellState D → Type 0
   Holds x = Has x.pass.node x.pass.holds
 
   each_holds : Each Holds (cells_in run)
   each_holds = each_both Holds (cells_of run.ended) (cells_of run.offered)
-      (each_mapped Holds cell_in run.ended (each_of (λ j. Holds j.cell) run.ended (λ i d w. (q.finished i d (let s = q.size in omega arith)).going.own.holds)))
+      (each_mapped Holds cell_in run.ended (each_of (λ j. Holds j.cell) run.ended (λ i d w. (q.phases.worked.finished i d (let s = q.phases.worked.size in omega arith)).going.own.holds)))
       (each_mapped Holds cell_in run.offered (each_of (λ j. Holds j.cell) run.offered (λ i d w. (q.offered i d (let s = q.offered_size in omega arith)).own.holds)))
 
   pub is_list_of : IsListOf wire run list

@@ -20,8 +20,7 @@ use Rattle.gp_work.specs.Moves.{is_offer}
 use Rattle.gp_cell.specs.Cells.{CellState, pass_of}
 use Rattle.gp_cell.specs.Working.{process_of, IsAt}
 use Rattle.gp_phase.specs.declared.caller.Call.{Call}
-use Rattle.gp_phase.specs.Phases.{rounds, only_at, total, IsToOpen, HasAnswered, Finished, Follows, Opens}
-use Rattle.gp_caller.specs.Calling.{IsCalled}
+use Rattle.gp_phase.specs.Phases.{Answers, rounds, only_at, total, IsToOpen, HasAnswered, Finished, Follows, Opens}
 use Rattle.gp_node.specs.Phases.{IsWorkedJob}
 use Rattle.gp_begins.specs.Begins.{leader}
 
@@ -74,8 +73,26 @@ pub record EndedRun (D : Type 0) : Type 0 where
   pub first : List Call
   pub calls : List Call
 
+-- phases from these jobs, of which the leader's stands at a place, to those, which ended quietly, once the other nodes had posted so many records. By their end a caller with these answers had called these rounds
+pub record HaveWorked {D : Type 0} (answers : Answers) (faults : D → ℕ) (wire : WireState PaxosRules) (at others : ℕ) (calls : List Call) (jobs ended : List (Job (CellState D))) : Type 0 where
+  pub size : length ended ≡ length jobs
+  pub finished : (i : ℕ) (d : Job (CellState D)) → i < length jobs
+      → Finished (process_of faults) (λ c w. IsAt c w) wire (only_at at i (rounds calls)) (total (process_of faults) others ended) (slice_index_or jobs i d) (slice_index_or ended i d)
+  pub opens : (i : ℕ) (d : Job (CellState D)) → i < length jobs → Opens (process_of faults) (slice_index_or jobs i d) (slice_index_or ended i d)
+  pub follows : (d : Job (CellState D)) → Follows (process_of faults) answers (slice_index_or ended at d) calls None
+  pub last : (d : Job (CellState D)) → let j = slice_index_or ended at d in answers (process_of faults j.cell).config (process_of faults j.cell).node calls (process_of faults j.cell).list None
+
+-- the same, where the jobs are of nodes that have posted nothing, and these rounds were called before the first phase
+pub record AreEnded {D : Type 0} (answers : Answers) (faults : D → ℕ) (wire : WireState PaxosRules) (at others : ℕ) (first calls : List Call) (starting ended : List (Job (CellState D))) : Type 0 where
+  pub within : at < length starting
+  pub leads : (d : Job (CellState D)) → (process_of faults (slice_index_or starting at d).cell).node ≡ leader
+  pub opening : (i : ℕ) (d : Job (CellState D)) → i < length starting
+      → IsToOpen (process_of faults) (λ c w. IsAt c w) wire (only_at at i (rounds first)) (slice_index_or starting i d)
+  pub answered : (d : Job (CellState D)) → HasAnswered (process_of faults) answers first (slice_index_or starting at d)
+  pub worked : HaveWorked answers faults wire at others calls starting ended
+
 -- what the calls of a run leave if no job has a fault and the phases end quietly
-pub record EndsQuietly {D : Type 0} (faults : D → ℕ) (wire : WireState PaxosRules) (run : EndedRun D) : Type 0 where
+pub record EndsQuietly {D : Type 0} (answers : Answers) (faults : D → ℕ) (wire : WireState PaxosRules) (run : EndedRun D) : Type 0 where
   pub nodes : AreNodesOf wire.rules.config (nodes_of run.starting) (nodes_of run.offering)
   pub some : 0 < wire.rules.config.acceptors
   -- one phase of the proposers' jobs, each of which ended without a fault
@@ -83,19 +100,8 @@ pub record EndsQuietly {D : Type 0} (faults : D → ℕ) (wire : WireState Paxos
   pub offered_size : length run.offered ≡ length run.offering
   pub offered : (i : ℕ) (d : Job (CellState D)) → i < length run.offering → IsWorkedJob faults wire (slice_index_or run.offering i d) (slice_index_or run.offered i d)
   pub unbroken : All (λ j. j.fault ≡ None) run.offered
-  -- the first call for the leader
-  pub at : run.at < length run.starting
-  pub leads : (d : Job (CellState D)) → (process_of faults (slice_index_or run.starting run.at d).cell).node ≡ leader
-  pub opening : (i : ℕ) (d : Job (CellState D)) → i < length run.starting
-      → IsToOpen (process_of faults) (λ c w. IsAt c w) wire (only_at run.at i (rounds run.first)) (slice_index_or run.starting i d)
-  pub answered : (d : Job (CellState D)) → HasAnswered (process_of faults) IsCalled run.first (slice_index_or run.starting run.at d)
-  -- the phases, which ended quietly
-  pub size : length run.ended ≡ length run.starting
-  pub finished : (i : ℕ) (d : Job (CellState D)) → i < length run.starting
-      → Finished (process_of faults) (λ c w. IsAt c w) wire (only_at run.at i (rounds run.calls)) (total (process_of faults) (total (process_of faults) 0 run.offered) run.ended) (slice_index_or run.starting i d) (slice_index_or run.ended i d)
-  pub opens : (i : ℕ) (d : Job (CellState D)) → i < length run.starting → Opens (process_of faults) (slice_index_or run.starting i d) (slice_index_or run.ended i d)
-  pub follows : (d : Job (CellState D)) → Follows (process_of faults) IsCalled (slice_index_or run.ended run.at d) run.calls None
-  pub last : (d : Job (CellState D)) → let j = slice_index_or run.ended run.at d in IsCalled (process_of faults j.cell).config (process_of faults j.cell).node run.calls (process_of faults j.cell).list None
+  -- the phases of the other jobs
+  pub phases : AreEnded answers faults wire run.at (total (process_of faults) 0 run.offered) run.first run.calls run.starting run.ended
 
 -- no disk's count of faults rose
 pub record StaysSteady {D : Type 0} (faults : D → ℕ) (run : EndedRun D) : Type 0 where

@@ -12,7 +12,9 @@ ghost use Rattle.gp_cell.specs.Working.{process_of};
 ghost use Rattle.gp_phase.specs.Deeds.{others_in, begins};
 ghost use Rattle.gp_phase.specs.Phases.{rounds};
 ghost use Rattle.gp_begins.specs.Begins.{leader};
-ghost use Rattle.gp_quiet.specs.Quiet.{IsQuietRun};
+ghost use Rattle.gp_caller.specs.Calling.{IsCalled};
+ghost use Rattle.gp_caller.specs.Adapting.{IsAdapted};
+ghost use Rattle.gp_quiet.specs.Quiet.{IsQuietRun, IsAdaptiveRun};
 ghost use Rattle.gp_quiet.specs.Ended.{is_proposer, IsSteady, EndedRun, EndsQuietly, StaysSteady, IsListOf, IsClosedList};
 
 use gp_edge::Disk;
@@ -22,20 +24,26 @@ use gp_edge::Disk;
 ///
 /// The list is a legal one that begins with what each cell has seen, followed by no more of the cell's node.
 pub fn phases_that_end_quietly_leave_a_quiet_run<D: Disk>()
-    ensures quiet { (wire : WireState PaxosRules) (run : EndedRun D) (list : List Record) → EndsQuietly D.faults wire run → IsListOf wire run list
+    ensures quiet { (wire : WireState PaxosRules) (run : EndedRun D) (list : List Record) → EndsQuietly IsCalled D.faults wire run → IsListOf wire run list
         → StaysSteady D.faults run → IsQuietRun wire.rules.config list }
-    ensures seen { (wire : WireState PaxosRules) (run : EndedRun D) (list : List Record) → EndsQuietly D.faults wire run → IsListOf wire run list
+    ensures seen { (wire : WireState PaxosRules) (run : EndedRun D) (list : List Record) → EndsQuietly IsCalled D.faults wire run → IsListOf wire run list
         → (i : ℕ) (d : Job (CellState D)) → i < length run.starting → records (slice_index_or run.ended i d).cell.pass ≡ list }
-    ensures begun { (wire : WireState PaxosRules) (run : EndedRun D) (list : List Record) → EndsQuietly D.faults wire run → IsListOf wire run list
+    ensures begun { (wire : WireState PaxosRules) (run : EndedRun D) (list : List Record) → EndsQuietly IsCalled D.faults wire run → IsListOf wire run list
         → StaysSteady D.faults run → others_in (own_events leader list) ≡ begins leader (rounds run.calls) }
-    ensures offered { (wire : WireState PaxosRules) (run : EndedRun D) (list : List Record) → EndsQuietly D.faults wire run → IsListOf wire run list
+    ensures offered { (wire : WireState PaxosRules) (run : EndedRun D) (list : List Record) → EndsQuietly IsCalled D.faults wire run → IsListOf wire run list
         → StaysSteady D.faults run → (i : ℕ) (d : Job (CellState D)) → i < length run.offering
         → let j = slice_index_or run.offering i d in own_events j.cell.node list ≡ map (λ m. event_of j.cell.node m) j.first }
 {}
 
+/// Phases whose rounds adapt, and that end quietly, have left a quiet run whose rounds adapt to clashes, if no disk failed.
+pub fn phases_that_adapt_leave_an_adaptive_run<D: Disk>()
+    ensures { (wire : WireState PaxosRules) (run : EndedRun D) (list : List Record) → EndsQuietly IsAdapted D.faults wire run → IsListOf wire run list
+        → StaysSteady D.faults run → IsAdaptiveRun wire.rules.config list }
+{}
+
 /// The list with which a wire is closed after phases that end quietly is such a list, if each pass is that of its cell's node.
 pub fn a_closed_list_is_that_of_its_cells<D: Disk>()
-    ensures { (wire : WireState PaxosRules) (run : EndedRun D) (list : List Record) → EndsQuietly D.faults wire run → IsClosedList wire run list → IsListOf wire run list }
+    ensures { (wire : WireState PaxosRules) (run : EndedRun D) (list : List Record) → EndsQuietly IsCalled D.faults wire run → IsClosedList wire run list → IsListOf wire run list }
 {}
 
 /// A proposer that is up has no log, so no disk of it has failed. The premise is what a cell tells of its log.

@@ -29,8 +29,8 @@ run_seated-requires-clause-logs_room g c κs within =
 pub returns-in-Ok : goal.returns-in-Ok
 returns-in-Ok g c =
     let e = c.in-Ok.ensures in let s = c.in-Ok.seated in let r = c.run_seated.result in
-    subst (λ (first : List (LogState g.row.D.Denot)). RunsFrom g.D.Disk.faults g.D.Disk.content c.args.config c.args.offers.now first r.logs.items r.posted r.end)
+    subst (λ (first : List (LogState g.row.D.Denot)). RunsFrom c.args.policy g.D.Disk.faults g.D.Disk.content c.args.config c.args.offers.now first r.logs.items r.posted r.end)
     (sitting.same_logs c.args.config s.wire s.jobs.items s.proposers.items c.args.logs.items c.requires.count c.requires.blank e.jobs) c.run_seated.ensures
 
 pub returns-in-Err : goal.returns-in-Err
-returns-in-Err g c = nothing_said g.D.Disk.faults g.D.Disk.content c.args.config c.args.offers.now c.args.logs.items c.in-Err.field-0.logs.items None NoMemory refl refl c.in-Err.ensures.back
+returns-in-Err g c = nothing_said g.D.Disk.faults c.args.policy g.D.Disk.content c.args.config c.args.offers.now c.args.logs.items c.in-Err.field-0.logs.items None NoMemory refl refl c.in-Err.ensures.back

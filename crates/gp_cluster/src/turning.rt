@@ -1,0 +1,55 @@
+//! Runs whose rounds are begun in turn: a multi round of each epoch, and the single round that answers its clash.
+ghost use Rattle.std.specs.Prelude.{◌≡◌, ◌<◌, ◌+◌, ◌^◌, length};
+ghost use Rattle.std.specs.List.{All};
+ghost use Rattle.gp_seats.specs.Offering.{IsKnown};
+ghost use Rattle.gp_shelf.specs.Lists.{HasRoomFor};
+ghost use Rattle.gp_cluster.specs.declared.policy.RoundPolicy.TheVariants.{Multi};
+ghost use Rattle.gp_cluster.specs.Seated.{IsSeated, RunsFrom, logs_in};
+
+use crate::seated::{Room, close_run, know, unclosed};
+use gp_caller::RoundCaller;
+use gp_closing::Closed;
+use gp_edge::{Disk, Gate};
+use gp_ending::work;
+use gp_offers::OfferList;
+use gp_round::Config;
+use gp_seats::{Seated, offer_all};
+use std::alloc::Global;
+use std::sync::Wait;
+use std::thread::Threads;
+
+/// Posts the offers, works until nothing is left to do, and closes the wire.
+pub(crate) fn run_in_turn<D: Disk + Send, W: Threads + Wait + Sync, G: Gate + Sync>(
+    rt: &W,
+    alloc: Global,
+    config: Config,
+    seated: Seated<D>,
+    offers: &OfferList,
+    room: Room<D>,
+    gate: &G,
+) -> Closed<D>
+    requires seated { IsSeated config seated.wire seated.jobs.items seated.proposers.items (logs_in seated.jobs.items) }
+    requires few { length offers.now < 2 ^ 32 }
+    requires known { All IsKnown offers.now }
+    requires cells_room { HasRoomFor (length seated.jobs.items + length seated.proposers.items) room.cells }
+    requires logs_room { HasRoomFor (length (logs_in seated.jobs.items)) room.logs }
+    ensures { RunsFrom Multi D.faults D.content config offers.now (logs_in seated.jobs.items) result.logs.items result.posted result.end }
+{
+    let Seated {
+        wire,
+        jobs,
+        proposers,
+    } = seated;
+    know(config);
+    let Ok(mut caller) = RoundCaller::new(alloc, config) else {
+        return unclosed(jobs, room);
+    };
+    let Ok(offered) = offer_all(rt, alloc, &wire, proposers, offers, gate) else {
+        return unclosed(jobs, room);
+    };
+    let worked = work(rt, alloc, config, &wire, &mut caller, &offered, jobs, gate);
+    let commands = offers.as_slice().len();
+    close_run(
+        rt, alloc, config, wire, worked, offered, room, commands, gate,
+    )
+}
