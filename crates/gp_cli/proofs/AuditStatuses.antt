@@ -80,7 +80,7 @@ module _ (before now : Outside) (status : ℕ) (trail : List Record) where
       → (sub ≡ Some Audit) × HasReadInput before.source now.source (λ bytes. verdict bytes ≡ Rejected line reason said)
   rejects_at None line reason said cause = cc
   rejects_at (Some (Play operations)) line reason said cause = absurd cause
-  rejects_at (Some (Run limit)) line reason said cause = absurd cause
+  rejects_at (Some (Run policy limit)) line reason said cause = absurd cause
   rejects_at (Some (Sim seed n)) line reason said cause = elim cause [ inl is ↦ cc | inr is ↦ cc ]
   rejects_at (Some (Drive a l n)) line reason said cause = elim cause [ inl is ↦ cc | inr is ↦ cc ]
   rejects_at (Some (Log k)) line reason said cause = absurd cause

@@ -1,5 +1,5 @@
 -- From the end of a run of nodes to the end of a run of the program.
-use Rattle.std.proofs.Common.{◌≡◌, ℕ, suc, zero, ◌<◌, ◌≤◌, ◌⊎◌, inl, inr, List, [], ◌∷◌, length, Option, Some, None, Result, Err, refl, sym, ap, subst, ◌∙◌}
+use Rattle.std.proofs.Common.{◌≡◌, ℕ, suc, zero, ◌<◌, ◌≤◌, ◌⊎◌, inl, inr, List, [], ◌∷◌, length, Option, Some, None, Err, refl, sym, ap, subst, ◌∙◌}
 use Rattle.std.specs.Prelude.{IfSome, slice_get}
 use Rattle.std.specs.Option.{option_map}
 use Rattle.std.specs.List.{AllZip}
@@ -12,7 +12,6 @@ use Rattle.gp_run.specs.Legal.{Legal}
 use Rattle.gp_run.specs.Runs.{entries_in}
 use Rattle.gp_edge.specs.Disks.{IfRevealed}
 use Rattle.gp_edge.specs.Reads.{ReadsUpTo}
-use Rattle.gp_driver.specs.Settled.{AllLearned}
 use Rattle.gp_rules.specs.Cores.{opening, core_at, part_in}
 use Rattle.gp_shelf.specs.Lists.{KeepsOthers}
 use Rattle.gp_shelf.specs.Places.{place_at}
@@ -25,7 +24,8 @@ use Rattle.gp_offers.specs.declared.script.Unread.TheVariants as unread
 use Rattle.gp_offers.specs.Offering.{OffersReading, Offered, RefusedAt, offers_reading}
 use Rattle.gp_offers.specs.Answers.{Reads}
 use Rattle.gp_script.specs.declared.reason.Reason.{Reason}
-use Rattle.gp_cluster.specs.Runs.{IsRunOf, IsQuietOrSettled, EndCause, EndsWith, HoldParts}
+use Rattle.gp_cluster.specs.declared.policy.RoundPolicy.{RoundPolicy}
+use Rattle.gp_cluster.specs.Runs.{IsRunOf, HasLearnedAll, IsQuietOrSettled, EndCause, EndsWith, HoldParts}
 use Rattle.gp_cli.specs.declared.ran.Trail.{Trail}
 use Rattle.gp_cli.specs.declared.ran.Trail.TheVariants.{Folded}
 use Rattle.gp_cli.specs.declared.runs.TheConstants.{MOST_READ}
@@ -96,17 +96,17 @@ module _ {D : Type 0} (content : D → Option (List ℕ)) (faults : D → ℕ) w
   not_learned why (inr is) learned = let both : end.Disk ≡ end.Learned = sym is ∙ learned in cc
 
   -- what nodes came to, by what they posted
-  pub has_run : (limit : ℕ) (offers : Offers) (old new : List D) (why : RunEnd) (posted : Option (List Record)) → IfSome posted (IsRunOf offers.config offers.list) → (posted ≡ None → MayPostNothing why)
-      → (why ≡ end.Learned → IfSome posted (λ list. AllLearned offers.config (entries_in list))) → (why ≡ end.Learned → ¬ SomeRose faults old new → IfSome posted (IsQuietOrSettled offers.config offers.list))
+  pub has_run : (policy : RoundPolicy) (limit : ℕ) (offers : Offers) (old new : List D) (why : RunEnd) (posted : Option (List Record)) → IfSome posted (IsRunOf policy offers.config offers.list) → (posted ≡ None → MayPostNothing why)
+      → (why ≡ end.Learned → IfSome posted (HasLearnedAll offers.config offers.list)) → (why ≡ end.Learned → ¬ SomeRose faults old new → IfSome posted (IsQuietOrSettled policy offers.config offers.list))
       → EndCause faults offers.config limit old new posted why → (why ≡ end.Learned → IfSome posted (λ list. HoldParts content offers.config limit (entries_in list) new))
-      → HasRun limit (disks_seen content faults old) (disks_seen content faults new) offers why offers.config (records_in (trail_of posted))
-  has_run limit offers old new why None run none all quiet cause parts = record {
+      → HasRun policy limit (disks_seen content faults old) (disks_seen content faults new) offers why offers.config (records_in (trail_of posted))
+  has_run policy limit offers old new why None run none all quiet cause parts = record {
     own_config = refl;
     posted = inr (refl, none refl);
     cause = cause_seen offers.config limit old new [] why (unposted_cause offers.config limit old new why (none refl) cause);
     learned = λ is. absurd (not_learned why (none refl) is);
   }
-  has_run limit offers old new why (Some list) run none all quiet cause parts = record {
+  has_run policy limit offers old new why (Some list) run none all quiet cause parts = record {
     own_config = refl;
     posted = inl run;
     cause = cause_seen offers.config limit old new list why cause;
@@ -118,14 +118,14 @@ module _ {D : Type 0} (content : D → Option (List ℕ)) (faults : D → ℕ) w
   }
 
 -- what was posted is a legal run
-pub legal_trail : (offers : Offers) (posted : Option (List Record)) → IfSome posted (IsRunOf offers.config offers.list) → Legal offers.config (entries_in (records_in (trail_of posted)))
-legal_trail offers None run = tt
-legal_trail offers (Some list) run = run.legal
+pub legal_trail : (policy : RoundPolicy) (offers : Offers) (posted : Option (List Record)) → IfSome posted (IsRunOf policy offers.config offers.list) → Legal offers.config (entries_in (records_in (trail_of posted)))
+legal_trail policy offers None run = tt
+legal_trail policy offers (Some list) run = run.legal
 
 -- a run of nodes ended, as was told
-pub nodes_end : (limit : ℕ) (offers : Offers) (old new : List Seen) (why : RunEnd) (list : List Record) (before now : Seen) (status : ℕ) → 0 < offers.config.acceptors → Legal offers.config (entries_in list)
-    → HasRun limit old new offers why offers.config list → TellsEnding (Runs why offers.config list) before now status → EndsBy (IsOffersCause limit (Offered offers) old new) before now status list
-nodes_end limit offers old new why list before now status some legal has told = record {
+pub nodes_end : (policy : RoundPolicy) (limit : ℕ) (offers : Offers) (old new : List Seen) (why : RunEnd) (list : List Record) (before now : Seen) (status : ℕ) → 0 < offers.config.acceptors → Legal offers.config (entries_in list)
+    → HasRun policy limit old new offers why offers.config list → TellsEnding (Runs why offers.config list) before now status → EndsBy (IsOffersCause policy limit (Offered offers) old new) before now status list
+nodes_end policy limit offers old new why list before now status some legal has told = record {
   ending = Runs why offers.config list;
   cause = (offers, refl, has);
   run = refl;
@@ -151,35 +151,32 @@ none_ran trail status told none is made =
 -- ---- the script
 
 -- a script that is refused at a line
-pub refused_at : (read : OffersReading) (result : Result Offers UnreadScript) (why : UnreadScript) (line : ℕ) (reason : Reason) → result ≡ Err why → why ≡ unread.Bad line reason → Reads read result → read ≡ RefusedAt line reason
-refused_at read result why line reason is bad reads =
-    let P : Result Offers UnreadScript → Type 0 = λ r. Reads read r in
-    let Q : UnreadScript → Type 0 = λ u. Reads read (Err u) in
-    subst Q bad (subst P is reads)
+pub read_refused : (read : OffersReading) (why : UnreadScript) (line : ℕ) (reason : Reason) → why ≡ unread.Bad line reason → Reads read (Err why) → read ≡ RefusedAt line reason
+read_refused read why line reason bad reads = let Q : UnreadScript → Type 0 = λ u. Reads read (Err u) in subst Q bad reads
 
 -- the cause by the script that was read is one by the source
-pub script_read : (limit : ℕ) (before now : Seen) (old new : List Seen) (bytes : List ℕ) → ReadsUpTo MOST_READ before.bytes now.bytes bytes → now.faults ≡ before.faults → (ending : Ending)
-    → IsOffersCause limit (offers_reading bytes) old new ending → IsNodesCause limit before now old new ending
-script_read limit before now old new bytes taken steady Misused cause = cause
-script_read limit before now old new bytes taken steady Unread cause = absurd cause
-script_read limit before now old new bytes taken steady (Refuses line reason said) cause = record { bytes = bytes; taken = taken; steady = steady; says = cause }
-script_read limit before now old new bytes taken steady (Plays operations config said) cause = cause
-script_read limit before now old new bytes taken steady (Drives config commands) cause = cause
-script_read limit before now old new bytes taken steady (Simulates seed commands) cause = cause
-script_read limit before now old new bytes taken steady (Shows disk log) cause = cause
-script_read limit before now old new bytes taken steady DiskFails cause = cause
-script_read limit before now old new bytes taken steady (Overflows size need) cause = cause
-script_read limit before now old new bytes taken steady (Breaks place) cause = cause
-script_read limit before now old new bytes taken steady (Runs why config list) cause = record { bytes = bytes; taken = taken; steady = steady; says = cause }
-script_read limit before now old new bytes taken steady (Rejects line reason said) cause = cause
-script_read limit before now old new bytes taken steady (Upholds config events text) cause = cause
-script_read limit before now old new bytes taken steady Starved cause = (steady, loses MOST_READ before.bytes now.bytes bytes taken)
+pub script_read : (policy : RoundPolicy) (limit : ℕ) (before now : Seen) (old new : List Seen) (bytes : List ℕ) → ReadsUpTo MOST_READ before.bytes now.bytes bytes → now.faults ≡ before.faults → (ending : Ending)
+    → IsOffersCause policy limit (offers_reading bytes) old new ending → IsNodesCause policy limit before now old new ending
+script_read policy limit before now old new bytes taken steady Misused cause = cause
+script_read policy limit before now old new bytes taken steady Unread cause = absurd cause
+script_read policy limit before now old new bytes taken steady (Refuses line reason said) cause = record { bytes = bytes; taken = taken; steady = steady; says = cause }
+script_read policy limit before now old new bytes taken steady (Plays operations config said) cause = cause
+script_read policy limit before now old new bytes taken steady (Drives config commands) cause = cause
+script_read policy limit before now old new bytes taken steady (Simulates seed commands) cause = cause
+script_read policy limit before now old new bytes taken steady (Shows disk log) cause = cause
+script_read policy limit before now old new bytes taken steady DiskFails cause = cause
+script_read policy limit before now old new bytes taken steady (Overflows size need) cause = cause
+script_read policy limit before now old new bytes taken steady (Breaks place) cause = cause
+script_read policy limit before now old new bytes taken steady (Runs why config list) cause = record { bytes = bytes; taken = taken; steady = steady; says = cause }
+script_read policy limit before now old new bytes taken steady (Rejects line reason said) cause = cause
+script_read policy limit before now old new bytes taken steady (Upholds config events text) cause = cause
+script_read policy limit before now old new bytes taken steady Starved cause = (steady, loses MOST_READ before.bytes now.bytes bytes taken)
 
-pub script_ends : (limit : ℕ) (rest left before now : Seen) (old new : List Seen) (status : ℕ) (trail : List Record) (bytes script : List ℕ) → script ≡ bytes → ReadsUpTo MOST_READ rest.bytes left.bytes bytes → left.faults ≡ rest.faults
-    → EndsBy (IsOffersCause limit (offers_reading script) old new) before now status trail → EndsBy (IsNodesCause limit rest left old new) before now status trail
-script_ends limit rest left before now old new status trail bytes script same taken steady ends =
-    let Q : List ℕ → Type 0 = λ b. EndsBy (IsOffersCause limit (offers_reading b) old new) before now status trail in
-    because (IsOffersCause limit (offers_reading bytes) old new) (IsNodesCause limit rest left old new) before now status trail (script_read limit rest left old new bytes taken steady) (subst Q same ends)
+pub script_ends : (policy : RoundPolicy) (limit : ℕ) (rest left before now : Seen) (old new : List Seen) (status : ℕ) (trail : List Record) (bytes script : List ℕ) → script ≡ bytes → ReadsUpTo MOST_READ rest.bytes left.bytes bytes → left.faults ≡ rest.faults
+    → EndsBy (IsOffersCause policy limit (offers_reading script) old new) before now status trail → EndsBy (IsNodesCause policy limit rest left old new) before now status trail
+script_ends policy limit rest left before now old new status trail bytes script same taken steady ends =
+    let Q : List ℕ → Type 0 = λ b. EndsBy (IsOffersCause policy limit (offers_reading b) old new) before now status trail in
+    because (IsOffersCause policy limit (offers_reading bytes) old new) (IsNodesCause policy limit rest left old new) before now status trail (script_read policy limit rest left old new bytes taken steady) (subst Q same ends)
 
 -- ---- the disks
 
@@ -203,20 +200,20 @@ module _ {D : Type 0} where
   }
 
   -- the disks of no node
-  pub nodes_keep : (limit : ℕ) (offers : Offers) (before now : List Seen) (why : RunEnd) (list : List Record) (faults : D → ℕ) (old new : List D) → HasRun limit before now offers why offers.config list
-      → KeepsOthers offers.config old new → NoneFell faults old new → KeepsUnused (Some (Run limit)) (IsOffersCause limit (Offered offers) before now) old new
-  nodes_keep limit offers before now why list faults old new has others none_fell = record {
+  pub nodes_keep : (policy : RoundPolicy) (limit : ℕ) (offers : Offers) (before now : List Seen) (why : RunEnd) (list : List Record) (faults : D → ℕ) (old new : List D) → HasRun policy limit before now offers why offers.config list
+      → KeepsOthers offers.config old new → NoneFell faults old new → KeepsUnused (Some (Run policy limit)) (IsOffersCause policy limit (Offered offers) before now) old new
+  nodes_keep policy limit offers before now why list faults old new has others none_fell = record {
     ending = Runs why offers.config list;
     cause = (offers, refl, has);
     count = AllZip-long (λ was is. faults was ≤ faults is) old new none_fell;
     unused = others;
   }
 
-  pub script_keeps : (limit : ℕ) (rest left : Seen) (before now : List Seen) (old new : List D) (bytes script : List ℕ) → script ≡ bytes → ReadsUpTo MOST_READ rest.bytes left.bytes bytes → left.faults ≡ rest.faults
-      → KeepsUnused (Some (Run limit)) (IsOffersCause limit (offers_reading script) before now) old new → KeepsUnused (Some (Run limit)) (IsNodesCause limit rest left before now) old new
-  script_keeps limit rest left before now old new bytes script same taken steady kept =
-      let Q : List ℕ → Type 0 = λ b. KeepsUnused (Some (Run limit)) (IsOffersCause limit (offers_reading b) before now) old new in
-      kept_because (Some (Run limit)) (IsOffersCause limit (offers_reading bytes) before now) (IsNodesCause limit rest left before now) old new (script_read limit rest left before now bytes taken steady) (subst Q same kept)
+  pub script_keeps : (policy : RoundPolicy) (limit : ℕ) (rest left : Seen) (before now : List Seen) (old new : List D) (bytes script : List ℕ) → script ≡ bytes → ReadsUpTo MOST_READ rest.bytes left.bytes bytes → left.faults ≡ rest.faults
+      → KeepsUnused (Some (Run policy limit)) (IsOffersCause policy limit (offers_reading script) before now) old new → KeepsUnused (Some (Run policy limit)) (IsNodesCause policy limit rest left before now) old new
+  script_keeps policy limit rest left before now old new bytes script same taken steady kept =
+      let Q : List ℕ → Type 0 = λ b. KeepsUnused (Some (Run policy limit)) (IsOffersCause policy limit (offers_reading b) before now) old new in
+      kept_because (Some (Run policy limit)) (IsOffersCause policy limit (offers_reading bytes) before now) (IsNodesCause policy limit rest left before now) old new (script_read policy limit rest left before now bytes taken steady) (subst Q same kept)
 
   -- what holds place by place
   pub each_of : (P : D → D → Type 0) (old new : List D) → AllZip P old new → EachDisk P old new

@@ -20,13 +20,14 @@ use Rattle.gp_run.specs.Agreement.{Agrees}
 use Rattle.gp_run.specs.Learned.{learned_at}
 use Rattle.gp_run.specs.Messages.{messages}
 use Rattle.gp_run.specs.Runs.{entries_in}
-use Rattle.gp_driver.specs.Settled.{AllLearned}
 use Rattle.gp_seats.specs.Offering.{IsKnown}
 use Rattle.gp_held.specs.Offers.{commands_of}
 use Rattle.gp_held.proofs.Holding.{offered_are}
 use Rattle.gp_held.proofs.Scripts.{script_no_repeat, in_among, among_in}
 use Rattle.gp_offers.specs.declared.script.Offers.{Offers}
 use Rattle.gp_cli.specs.Outside.{Outside}
+use Rattle.gp_cluster.specs.declared.policy.RoundPolicy.{RoundPolicy}
+use Rattle.gp_cluster.specs.Runs.{HasLearnedAll}
 use Rattle.gp_cli.specs.NodesRuns.{OffersAll, AllCommute, RunsInScriptOrder}
 
 -- two truth values that are true together are equal
@@ -40,7 +41,7 @@ alike false false there back = refl
 unordered : (h : History) → IsHistory h → ((c d : Command) → has h c ≡ true → has h d ≡ true → conflict c d ≡ false) → (c d : Command) → before h c d ≡ false
 unordered h is apart c d = by_cases (before h c d) (λ yes. let in_it = is.within c d yes in let differ = sym in_it.2 ∙ apart c d in_it.0 in_it.1 in absurd cc) (λ no. no)
 
-module _ (before now : Outside) (trail : List Record) (offers : Offers) (whole : OffersAll before now trail offers) (all : AllLearned offers.config (entries_in trail)) (commute : AllCommute offers.list) where
+module _ (before now : Outside) (trail : List Record) (offers : Offers) (policy : RoundPolicy) (whole : OffersAll policy before now trail offers) (all : HasLearnedAll offers.config offers.list trail) (commute : AllCommute offers.list) where
   abbrev cs : List Command
   cs = commands_of offers.list
 
@@ -52,10 +53,10 @@ module _ (before now : Outside) (trail : List Record) (offers : Offers) (whole :
 
   -- what was offered is what the script says
   of_script : (c : Command) → Contains (messages (entries_in trail)) (Offered c) → Contains cs c
-  of_script c there = let run = whole.run in (offered_are offers.config offers.list known trail run.legal run.offered c).0 there
+  of_script c there = let run = whole.run in (offered_are offers.config offers.list known trail run.legal all.offered c).0 there
 
   from_script : (c : Command) → Contains cs c → Contains (messages (entries_in trail)) (Offered c)
-  from_script c there = let run = whole.run in (offered_are offers.config offers.list known trail run.legal run.offered c).1 there
+  from_script c there = let run = whole.run in (offered_are offers.config offers.list known trail run.legal all.offered c).1 there
 
   listed : (c : Command) → has (history_of cs) c ≡ true → Contains cs c
   listed c there = among_contains cs c (in_among cs c (sym (has_history_of cs c) ∙ there))
@@ -73,7 +74,7 @@ module _ (before now : Outside) (trail : List Record) (offers : Offers) (whole :
     -- the learner shows the history of the offers
     shows_script : history_of cs ≡ shown
     shows_script = same_history (history_of cs) shown
-        (λ c. alike (has (history_of cs) c) (has shown c) (λ there. all l within c (from_script c (listed c there))) (λ there. unlisted c (shown_listed c there)))
+        (λ c. alike (has (history_of cs) c) (has shown c) (λ there. all.learned l within c (from_script c (listed c there))) (λ there. unlisted c (shown_listed c there)))
         (λ c d.
         unordered (history_of cs) (history_of_is cs) (λ a b in_a in_b. commute a b (listed a in_a) (listed b in_b)) c d
         ∙ sym (unordered shown (agreed.history [] (entries_in trail) refl l) (λ a b in_a in_b. commute a b (shown_listed a in_a) (shown_listed b in_b)) c d))

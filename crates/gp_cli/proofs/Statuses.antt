@@ -19,6 +19,7 @@ use Rattle.gp_vlog.specs.Files.{Contents, is_limit, read_log}
 use Rattle.gp_vlog.proofs.Moments.{told as at_bytes}
 use Rattle.gp_cli.specs.declared.runs.TheConstants.{MOST_READ}
 use Rattle.gp_cli.specs.declared.subcommand.Operations.{Operations}
+use Rattle.gp_cluster.specs.declared.policy.RoundPolicy.{RoundPolicy}
 use Rattle.gp_cli.specs.declared.subcommand.Subcommand.{Subcommand}
 use Rattle.gp_cli.specs.declared.subcommand.Subcommand.TheVariants.{Play, Run, Sim, Drive, Log, Upgrade, Audit}
 use Rattle.gp_cli.specs.Subcommands.{named}
@@ -101,12 +102,12 @@ module _ (before now : Outside) (status : ℕ) (trail : List Record) where
 
   -- and one of nodes that are to run
   abbrev RefusedOffer : Option Subcommand → ℕ → Reason → Option Script → Type 0
-  RefusedOffer sub line reason said = (limit : ℕ) × (sub ≡ Some (Run limit)) × (said ≡ None) × HasReadOffers before.source now.source (λ read. read ≡ offers.RefusedAt line reason)
+  RefusedOffer sub line reason said = (policy : RoundPolicy) × (limit : ℕ) × (sub ≡ Some (Run policy limit)) × (said ≡ None) × HasReadOffers before.source now.source (λ read. read ≡ offers.RefusedAt line reason)
 
   refused_at : (sub : Option Subcommand) (line : ℕ) (reason : Reason) (said : Option Script) → Causes sub (Refuses line reason said) → RefusedAt sub line reason said ⊎ RefusedOffer sub line reason said
   refused_at None line reason said cause = cc
   refused_at (Some (Play operations)) line reason said cause = inl (operations, refl, cause)
-  refused_at (Some (Run limit)) line reason said cause = let said_so = cause.says in inr (limit, refl, said_so.0, record { bytes = cause.bytes; taken = cause.taken; steady = cause.steady; says = said_so.1 })
+  refused_at (Some (Run policy limit)) line reason said cause = let said_so = cause.says in inr (policy, limit, refl, said_so.0, record { bytes = cause.bytes; taken = cause.taken; steady = cause.steady; says = said_so.1 })
   refused_at (Some (Sim seed n)) line reason said cause = elim cause [ inl is ↦ cc | inr is ↦ cc ]
   refused_at (Some (Drive a l n)) line reason said cause = elim cause [ inl is ↦ cc | inr is ↦ cc ]
   refused_at (Some (Log k)) line reason said cause = absurd cause
@@ -130,12 +131,13 @@ module _ (before now : Outside) (status : ℕ) (trail : List Record) where
       told = told;
     })
     | inr offer ↦ inr (inl (record {
-      limit = offer.0;
-      is_run = offer.1;
+      policy = offer.0;
+      limit = offer.1;
+      is_run = offer.2;
       line = line;
       reason = reason;
-      read = offer.3;
-      no_trail = no_records trail (run ∙ ap run_before offer.2);
+      read = offer.4;
+      no_trail = no_records trail (run ∙ ap run_before offer.3);
       told = told;
     }))
   ]
@@ -355,7 +357,7 @@ module _ (before now : Outside) (status : ℕ) (trail : List Record) where
   overflowed : (sub : Option Subcommand) (size need : ℕ) → Causes sub (Overflows size need) → Tells (Overflows size need) → (k : ℕ) × (sub ≡ Some (Upgrade k)) × Causes (Some (Upgrade k)) (Overflows size need)
   overflowed None size need cause told = cc
   overflowed (Some (Play operations)) size need cause told = absurd cause
-  overflowed (Some (Run limit)) size need cause told = absurd cause
+  overflowed (Some (Run policy limit)) size need cause told = absurd cause
   overflowed (Some (Sim seed n)) size need cause told = elim cause [ inl is ↦ cc | inr is ↦ cc ]
   overflowed (Some (Drive a l n)) size need cause told = elim cause [ inl is ↦ cc | inr is ↦ cc ]
   overflowed (Some (Log k)) size need cause told = absurd cause
@@ -365,7 +367,7 @@ module _ (before now : Outside) (status : ℕ) (trail : List Record) where
   broke : (sub : Option Subcommand) (place : ℕ) → Causes sub (Breaks place) → (k : ℕ) × (disk_used sub ≡ Some k) × Causes (Some (Log k)) (Breaks place)
   broke None place cause = cc
   broke (Some (Play operations)) place cause = absurd cause
-  broke (Some (Run limit)) place cause = absurd cause
+  broke (Some (Run policy limit)) place cause = absurd cause
   broke (Some (Sim seed n)) place cause = elim cause [ inl is ↦ cc | inr is ↦ cc ]
   broke (Some (Drive a l n)) place cause = elim cause [ inl is ↦ cc | inr is ↦ cc ]
   broke (Some (Log k)) place cause = (k, refl, cause)
@@ -375,7 +377,7 @@ module _ (before now : Outside) (status : ℕ) (trail : List Record) where
   disk_failed : (sub : Option Subcommand) → Causes sub DiskFails → DiskFailed sub before now
   disk_failed None cause = cc
   disk_failed (Some (Play operations)) cause = absurd cause
-  disk_failed (Some (Run limit)) cause = absurd cause
+  disk_failed (Some (Run policy limit)) cause = absurd cause
   disk_failed (Some (Sim seed n)) cause = elim cause [ inl is ↦ cc | inr is ↦ cc ]
   disk_failed (Some (Drive a l n)) cause = elim cause [ inl is ↦ cc | inr is ↦ cc ]
   disk_failed (Some (Log k)) cause = cause.0
@@ -388,7 +390,7 @@ module _ (before now : Outside) (status : ℕ) (trail : List Record) where
   named_nothing (Some sub) Misused cause two = absurd (by sub cause) where
     by : (sub : Subcommand) → Causes (Some sub) Misused → ⊥
     by (Play operations) cause = cause
-    by (Run limit) cause = cause
+    by (Run policy limit) cause = cause
     by (Sim seed n) cause = elim cause [ inl is ↦ cc | inr is ↦ cc ]
     by (Drive a l n) cause = elim cause [ inl is ↦ cc | inr is ↦ cc ]
     by (Log k) cause = cause
@@ -411,7 +413,7 @@ module _ (before now : Outside) (status : ℕ) (trail : List Record) where
   source_failed : (sub : Option Subcommand) → Causes sub Unread → Rose before.source.faults now.source.faults
   source_failed None cause = cc
   source_failed (Some (Play operations)) cause = cause.0
-  source_failed (Some (Run limit)) cause = cause.0
+  source_failed (Some (Run policy limit)) cause = cause.0
   source_failed (Some (Sim seed n)) cause = elim cause [ inl is ↦ cc | inr is ↦ cc ]
   source_failed (Some (Drive a l n)) cause = elim cause [ inl is ↦ cc | inr is ↦ cc ]
   source_failed (Some (Log k)) cause = absurd cause
@@ -645,7 +647,7 @@ module _ (words : List (List ℕ)) (before now : Outside) (status : ℕ) (trail 
   no_log_for : (k : ℕ) (sub : Option Subcommand) → named words ≡ sub → disk_used sub ≡ Some k → HoldsNoLog k before → ¬ Rose (seen_at k before.disks).faults (seen_at k now.disks).faults → (status ≡ 8) ⊎ (status ≡ 1)
   no_log_for k None is used holds well = cc
   no_log_for k (Some (Play operations)) is used holds well = cc
-  no_log_for k (Some (Run limit)) is used holds well = cc
+  no_log_for k (Some (Run policy limit)) is used holds well = cc
   no_log_for k (Some (Sim seed n)) is used holds well = cc
   no_log_for k (Some (Drive a l n)) is used holds well = cc
   no_log_for k (Some (Log j)) is used holds well =
@@ -679,28 +681,28 @@ module _ (words : List (List ℕ)) (before now : Outside) (status : ℕ) (trail 
 
   -- ---- nodes in threads
 
-  pub nodes_printed : (limit : ℕ) → named words ≡ Some (Run limit) → status ≡ 0 → PrintsNodes limit before now trail
-  nodes_printed limit is none_failed = prints_nodes before now status trail limit ends.ending (by_name (Some (Run limit)) is) ends.list ends.told none_failed
+  pub nodes_printed : (policy : RoundPolicy) (limit : ℕ) → named words ≡ Some (Run policy limit) → status ≡ 0 → PrintsNodes policy limit before now trail
+  nodes_printed policy limit is none_failed = prints_nodes before now status trail policy limit ends.ending (by_name (Some (Run policy limit)) is) ends.list ends.told none_failed
 
-  pub nodes_completed : (limit : ℕ) (offers : Offers) → named words ≡ Some (Run limit) → HoldsOffers offers before.source → ¬ Rose before.source.faults now.source.faults → ¬ Rose before.sink.faults now.sink.faults → ¬ SomeFailed before.disks now.disks
+  pub nodes_completed : (policy : RoundPolicy) (limit : ℕ) (offers : Offers) → named words ≡ Some (Run policy limit) → HoldsOffers offers before.source → ¬ Rose before.source.faults now.source.faults → ¬ Rose before.sink.faults now.sink.faults → ¬ SomeFailed before.disks now.disks
       → HasRoomForNext offers.config limit trail → (status ≡ 0) ⊎ (status ≡ 1)
-  nodes_completed limit offers is holds read_well written_well disks_well room =
-      nodes_complete before now status trail limit offers ends.ending (by_name (Some (Run limit)) is) ends.list ends.told holds read_well written_well disks_well room
+  nodes_completed policy limit offers is holds read_well written_well disks_well room =
+      nodes_complete before now status trail policy limit offers ends.ending (by_name (Some (Run policy limit)) is) ends.list ends.told holds read_well written_well disks_well room
 
-  pub nodes_refused : (limit : ℕ) → named words ≡ Some (Run limit) → HoldsBadOffers before.source → ¬ Rose before.source.faults now.source.faults → (status ≡ 3) ⊎ (status ≡ 1)
-  nodes_refused limit is holds read_well = nodes_refuse before now status trail limit ends.ending (by_name (Some (Run limit)) is) ends.told holds read_well
+  pub nodes_refused : (policy : RoundPolicy) (limit : ℕ) → named words ≡ Some (Run policy limit) → HoldsBadOffers before.source → ¬ Rose before.source.faults now.source.faults → (status ≡ 3) ⊎ (status ≡ 1)
+  nodes_refused policy limit is holds read_well = nodes_refuse before now status trail policy limit ends.ending (by_name (Some (Run policy limit)) is) ends.told holds read_well
 
-  pub offered : (limit : ℕ) → named words ≡ Some (Run limit) → (trail ≡ []) ⊎ ((offers : Offers) × OffersAll before now trail offers)
-  offered limit is = nodes_offered before now status trail limit ends.ending (by_name (Some (Run limit)) is) ends.run ends.list
+  pub offered : (policy : RoundPolicy) (limit : ℕ) → named words ≡ Some (Run policy limit) → (trail ≡ []) ⊎ ((offers : Offers) × OffersAll policy before now trail offers)
+  offered policy limit is = nodes_offered before now status trail policy limit ends.ending (by_name (Some (Run policy limit)) is) ends.run ends.list
 
-  pub offers_read : (limit : ℕ) → named words ≡ Some (Run limit) → status ≢ 1 → status ≢ 3 → status ≢ 4 → IfSome now.source.bytes (λ rest. rest ≡ [])
-  offers_read limit is no_one no_three no_four = nodes_left before now status trail limit ends.ending (by_name (Some (Run limit)) is) ends.told no_one no_three no_four
+  pub offers_read : (policy : RoundPolicy) (limit : ℕ) → named words ≡ Some (Run policy limit) → status ≢ 1 → status ≢ 3 → status ≢ 4 → IfSome now.source.bytes (λ rest. rest ≡ [])
+  offers_read policy limit is no_one no_three no_four = nodes_left before now status trail policy limit ends.ending (by_name (Some (Run policy limit)) is) ends.told no_one no_three no_four
 
-  pub script_order : (limit : ℕ) → named words ≡ Some (Run limit) → status ≡ 0 → (offers : Offers) × OffersAll before now trail offers × (AllCommute offers.list → RunsInScriptOrder offers trail)
-  script_order limit is none_failed =
-      let printed = nodes_printed limit is none_failed in
+  pub script_order : (policy : RoundPolicy) (limit : ℕ) → named words ≡ Some (Run policy limit) → status ≡ 0 → (offers : Offers) × OffersAll policy before now trail offers × (AllCommute offers.list → RunsInScriptOrder offers trail)
+  script_order policy limit is none_failed =
+      let printed = nodes_printed policy limit is none_failed in
       let learned = printed.learned in
-      (printed.offers, printed.whole, λ commute. in_script_order before now trail printed.offers printed.whole learned.all commute)
+      (printed.offers, printed.whole, λ commute. in_script_order before now trail printed.offers policy printed.whole learned.all commute)
 
   -- ---- an audit
 

@@ -18,6 +18,7 @@ use Rattle.gp_script.specs.declared.reason.Reason.{Reason}
 use Rattle.gp_offers.specs.declared.script.Offers.{Offers}
 use Rattle.gp_offers.specs.Offering.{Offer, Offered, RefusedAt, offers_reading}
 use Rattle.gp_offers.specs.Offered.{AreOffered}
+use Rattle.gp_cluster.specs.declared.policy.RoundPolicy.{RoundPolicy}
 use Rattle.gp_cluster.specs.Runs.{IsRunOf, IsOverLimit}
 use Rattle.gp_retelling.specs.Texts.{run_text}
 use Rattle.gp_cli.specs.declared.runs.TheConstants.{MOST_READ}
@@ -39,17 +40,17 @@ abbrev pub HoldsBadOffers : Seen → Type 0
 HoldsBadOffers source = (rest : List ℕ) × (line : ℕ) × (reason : Reason) × (source.bytes ≡ Some rest) × (offers_reading (take MOST_READ rest) ≡ RefusedAt line reason)
 
 -- a script was read whole that says offers, which are within its limits, and the trail is a legal run, in agreement, in which each proposer made its own of them
-pub record OffersAll (before now : Outside) (trail : List Record) (offers : Offers) : Type 0 where
+pub record OffersAll (policy : RoundPolicy) (before now : Outside) (trail : List Record) (offers : Offers) : Type 0 where
   pub read : HasReadOffers before.source now.source (λ read. read ≡ Offered offers)
   pub right : AreOffered offers
-  pub run : IsRunOf offers.config offers.list trail
+  pub run : IsRunOf policy offers.config offers.list trail
   pub agreement : IsInAgreementOfAll offers.config (entries_in trail)
 
 -- such nodes ran until all was learned, and their trace and report were written whole without a fault
-pub record PrintsNodes (limit : ℕ) (before now : Outside) (trail : List Record) : Type 0 where
+pub record PrintsNodes (policy : RoundPolicy) (limit : ℕ) (before now : Outside) (trail : List Record) : Type 0 where
   pub offers : Offers
-  pub whole : OffersAll before now trail offers
-  pub learned : HasLearned limit before.disks now.disks offers trail
+  pub whole : OffersAll policy before now trail offers
+  pub learned : HasLearned policy limit before.disks now.disks offers trail
   pub steady : now.sink.faults ≡ before.sink.faults
   pub written : AppendsWhole before.sink.bytes now.sink.bytes (run_text offers.config trail)
 
@@ -64,8 +65,9 @@ pub record RunsInScriptOrder (offers : Offers) (trail : List Record) : Type 0 wh
 
 -- `run` was to read a script, a line of which is refused, as was told; no node ran
 pub record RefusesOffers (words : List (List ℕ)) (before now : Outside) (status : ℕ) (trail : List Record) : Type 0 where
+  pub policy : RoundPolicy
   pub limit : ℕ
-  pub is_run : named words ≡ Some (Run limit)
+  pub is_run : named words ≡ Some (Run policy limit)
   pub line : ℕ
   pub reason : Reason
   pub read : HasReadOffers before.source now.source (λ read. read ≡ RefusedAt line reason)
@@ -78,10 +80,11 @@ HasRoomForNext config limit trail = (size need : ℕ) → ¬ IsOverLimit config 
 
 -- `run` ended since an event that may come next at a node with a log needs more bytes than the limit leaves, as was told
 pub record FillsLog (words : List (List ℕ)) (before now : Outside) (status : ℕ) (trail : List Record) : Type 0 where
+  pub policy : RoundPolicy
   pub limit : ℕ
-  pub is_run : named words ≡ Some (Run limit)
+  pub is_run : named words ≡ Some (Run policy limit)
   pub offers : Offers
-  pub whole : OffersAll before now trail offers
+  pub whole : OffersAll policy before now trail offers
   pub size : ℕ
   pub need : ℕ
   pub over : IsOverLimit offers.config limit (entries_in trail) size need
@@ -93,10 +96,11 @@ TellsChange before now status = ((place : ℕ) × Told before.sink now.sink (bro
 
 -- `run` ended since a disk failed and then held other bytes than were written, as was told
 pub record LosesLog (words : List (List ℕ)) (before now : Outside) (status : ℕ) (trail : List Record) : Type 0 where
+  pub policy : RoundPolicy
   pub limit : ℕ
-  pub is_run : named words ≡ Some (Run limit)
+  pub is_run : named words ≡ Some (Run policy limit)
   pub offers : Offers
-  pub whole : OffersAll before now trail offers
+  pub whole : OffersAll policy before now trail offers
   pub failed : SomeFailed before.disks now.disks
   pub told : TellsChange before now status
 
@@ -104,7 +108,7 @@ pub record LosesLog (words : List (List ℕ)) (before now : Outside) (status : �
 abbrev pub DiskFailed : Option Subcommand → Outside → Outside → Type 0
 DiskFailed None before now = ⊥
 DiskFailed (Some (Play operations)) before now = ⊥
-DiskFailed (Some (Run limit)) before now = SomeFailed before.disks now.disks
+DiskFailed (Some (Run policy limit)) before now = SomeFailed before.disks now.disks
 DiskFailed (Some (Sim seed commands)) before now = ⊥
 DiskFailed (Some (Drive acceptors learners commands)) before now = ⊥
 DiskFailed (Some (Log k)) before now = Rose (seen_at k before.disks).faults (seen_at k now.disks).faults

@@ -5,13 +5,13 @@ use Rattle.gp_msg.specs.declared.record.Record.{Record}
 use Rattle.gp_run.specs.Runs.{entries_in}
 use Rattle.gp_edge.specs.Faults.{Rose}
 use Rattle.gp_edge.specs.Reads.{ReadsUpTo, LosesUpTo}
-use Rattle.gp_driver.specs.Settled.{AllLearned}
 use Rattle.gp_offers.specs.declared.script.Offers.{Offers}
 use Rattle.gp_offers.specs.Offering.{OffersReading, Offered, RefusedAt, offers_reading}
 use Rattle.gp_shelf.specs.Making.{SomeRose}
 use Rattle.gp_ending.specs.declared.ends.RunEnd.{RunEnd}
 use Rattle.gp_ending.specs.declared.ends.RunEnd.TheVariants as end
-use Rattle.gp_cluster.specs.Runs.{IsRunOf, IsQuietOrSettled, EndCause, HoldParts}
+use Rattle.gp_cluster.specs.declared.policy.RoundPolicy.{RoundPolicy}
+use Rattle.gp_cluster.specs.Runs.{IsRunOf, HasLearnedAll, IsQuietOrSettled, EndCause, HoldParts}
 use Rattle.gp_cli.specs.declared.runs.TheConstants.{MOST_READ}
 use Rattle.gp_cli.specs.Outside.{Seen, faults_seen, bytes_seen}
 use Rattle.gp_cli.specs.Endings.{Ending, Unread, Refuses, Runs, Starved}
@@ -27,30 +27,30 @@ abbrev pub MayPostNothing : RunEnd → Type 0
 MayPostNothing why = (why ≡ end.NoMemory) ⊎ (why ≡ end.Disk)
 
 -- the records are a legal run in which each proposer made its own offers, or there are none since the run ended before its wire was closed
-abbrev pub ArePosted : Offers → RunEnd → List Record → Type 0
-ArePosted offers why list = IsRunOf offers.config offers.list list ⊎ ((list ≡ []) × MayPostNothing why)
+abbrev pub ArePosted : RoundPolicy → Offers → RunEnd → List Record → Type 0
+ArePosted policy offers why list = IsRunOf policy offers.config offers.list list ⊎ ((list ≡ []) × MayPostNothing why)
 
 -- all was learned: if no disk failed, the run is quiet or settled, and each disk of a node holds the node's last durable part
-pub record HasLearned (limit : ℕ) (old new : List Seen) (offers : Offers) (list : List Record) : Type 0 where
-  pub all : AllLearned offers.config (entries_in list)
-  pub quiet : ¬ SomeFailed old new → IsQuietOrSettled offers.config offers.list list
+pub record HasLearned (policy : RoundPolicy) (limit : ℕ) (old new : List Seen) (offers : Offers) (list : List Record) : Type 0 where
+  pub all : HasLearnedAll offers.config offers.list list
+  pub quiet : ¬ SomeFailed old new → IsQuietOrSettled policy offers.config offers.list list
   pub parts : HoldParts bytes_seen offers.config limit (entries_in list) new
 
 -- nodes ran that offered what a script says, and ended so, by the disks before and now
-pub record HasRun (limit : ℕ) (old new : List Seen) (offers : Offers) (why : RunEnd) (config : Counts) (list : List Record) : Type 0 where
+pub record HasRun (policy : RoundPolicy) (limit : ℕ) (old new : List Seen) (offers : Offers) (why : RunEnd) (config : Counts) (list : List Record) : Type 0 where
   pub own_config : config ≡ offers.config
-  pub posted : ArePosted offers why list
+  pub posted : ArePosted policy offers why list
   pub cause : EndCause faults_seen config limit old new (Some list) why
-  pub learned : why ≡ end.Learned → HasLearned limit old new offers list
+  pub learned : why ≡ end.Learned → HasLearned policy limit old new offers list
 
 -- ---- the script
 
 -- why a run ends so with the script at hand, by what the script says
-abbrev pub IsOffersCause : ℕ → OffersReading → List Seen → List Seen → Ending → Type 0
-IsOffersCause limit read old new (Refuses line reason said) = (said ≡ None) × (read ≡ RefusedAt line reason)
-IsOffersCause limit read old new (Runs why config list) = (offers : Offers) × (read ≡ Offered offers) × HasRun limit old new offers why config list
-IsOffersCause limit read old new Starved = Unit {0}
-IsOffersCause limit read old new ending = ⊥
+abbrev pub IsOffersCause : RoundPolicy → ℕ → OffersReading → List Seen → List Seen → Ending → Type 0
+IsOffersCause policy limit read old new (Refuses line reason said) = (said ≡ None) × (read ≡ RefusedAt line reason)
+IsOffersCause policy limit read old new (Runs why config list) = (offers : Offers) × (read ≡ Offered offers) × HasRun policy limit old new offers why config list
+IsOffersCause policy limit read old new Starved = Unit {0}
+IsOffersCause policy limit read old new ending = ⊥
 
 -- the bytes read, up to one more than a script may have, say this as a script of `run`, and no fault was counted
 pub record HasReadOffers (before now : Seen) (Says : OffersReading → Type 0) : Type 0 where
@@ -60,9 +60,9 @@ pub record HasReadOffers (before now : Seen) (Says : OffersReading → Type 0) :
   pub says : Says (offers_reading bytes)
 
 -- why it ends so if a script is to be read first, by the source and the disks before and now
-abbrev pub IsNodesCause : ℕ → Seen → Seen → List Seen → List Seen → Ending → Type 0
-IsNodesCause limit before now old new Unread = Rose before.faults now.faults × LosesUpTo MOST_READ before.bytes now.bytes
-IsNodesCause limit before now old new (Refuses line reason said) = HasReadOffers before now (λ read. IsOffersCause limit read old new (Refuses line reason said))
-IsNodesCause limit before now old new (Runs why config list) = HasReadOffers before now (λ read. IsOffersCause limit read old new (Runs why config list))
-IsNodesCause limit before now old new Starved = (now.faults ≡ before.faults) × LosesUpTo MOST_READ before.bytes now.bytes
-IsNodesCause limit before now old new ending = ⊥
+abbrev pub IsNodesCause : RoundPolicy → ℕ → Seen → Seen → List Seen → List Seen → Ending → Type 0
+IsNodesCause policy limit before now old new Unread = Rose before.faults now.faults × LosesUpTo MOST_READ before.bytes now.bytes
+IsNodesCause policy limit before now old new (Refuses line reason said) = HasReadOffers before now (λ read. IsOffersCause policy limit read old new (Refuses line reason said))
+IsNodesCause policy limit before now old new (Runs why config list) = HasReadOffers before now (λ read. IsOffersCause policy limit read old new (Runs why config list))
+IsNodesCause policy limit before now old new Starved = (now.faults ≡ before.faults) × LosesUpTo MOST_READ before.bytes now.bytes
+IsNodesCause policy limit before now old new ending = ⊥

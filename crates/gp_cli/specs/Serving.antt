@@ -86,8 +86,8 @@ EachDisk {D} P before now = (i : ℕ) (was is : D) → slice_get before i ≡ So
 abbrev pub IsUnused : Option Subcommand → Option Counts → ℕ → Type 0
 IsUnused None config i = Unit {0}
 IsUnused (Some (Play operations)) config i = Unit {0}
-IsUnused (Some (Run limit)) None i = Unit {0}
-IsUnused (Some (Run limit)) (Some config) i = IsOther config i
+IsUnused (Some (Run policy limit)) None i = Unit {0}
+IsUnused (Some (Run policy limit)) (Some config) i = IsOther config i
 IsUnused (Some (Sim seed commands)) config i = Unit {0}
 IsUnused (Some (Drive acceptors learners commands)) config i = Unit {0}
 IsUnused (Some (Log k)) config i = i ≢ k

@@ -7,6 +7,7 @@ use Rattle.gp_round.specs.Configs.{is_between, bad_count}
 use Rattle.gp_words.specs.Numbers.{number_of}
 use Rattle.gp_random.specs.declared.workload.TheConstants.{MOST_COMMANDS}
 use Rattle.gp_sim.specs.declared.driving.TheConstants.{MOST_DRIVEN}
+use Rattle.gp_cluster.specs.declared.policy.RoundPolicy.TheVariants.{Multi, Adaptive}
 use Rattle.gp_cli.specs.declared.subcommand.Operations.TheVariants.{Store, Bank}
 use Rattle.gp_cli.specs.declared.subcommand.TheConstants.{LEAST_LIMIT, MOST_LIMIT}
 use Rattle.gp_cli.specs.declared.subcommand.Subcommand.{Subcommand}
@@ -29,17 +30,18 @@ drive_named acceptors learners commands =
 abbrev pub sim_named : List ℕ → List ℕ → Option Subcommand
 sim_named seed commands = option_and_then (λ s. option_map (λ n. Sim s n) (number_within 1 MOST_COMMANDS commands)) (number_of seed)
 
--- `play` and `bank`, which play a script of the key store and one of accounts, `run` with the greatest limit, and `audit`
+-- `play` and `bank`, which play a script of the key store and one of accounts, `run` and `adapt` with the greatest limit, and `audit`
 abbrev pub named_by_one : List ℕ → Option Subcommand
 named_by_one word =
     if bytes_eq word (codes "play") then Some (Play Store)
     else if bytes_eq word (codes "bank") then Some (Play Bank)
-    else if bytes_eq word (codes "run") then Some (Run MOST_LIMIT)
+    else if bytes_eq word (codes "run") then Some (Run Multi MOST_LIMIT)
+    else if bytes_eq word (codes "adapt") then Some (Run Adaptive MOST_LIMIT)
     else if bytes_eq word (codes "audit") then Some Audit else None
 
 -- the limit of each log of nodes that run
 abbrev pub run_named : List ℕ → Option Subcommand
-run_named limit = option_map (λ n. Run n) (number_within LEAST_LIMIT MOST_LIMIT limit)
+run_named limit = option_map (λ n. Run Multi n) (number_within LEAST_LIMIT MOST_LIMIT limit)
 
 -- the number of a disk
 abbrev pub disk_named : List ℕ → Option ℕ
@@ -69,7 +71,7 @@ named (word ∷ x ∷ y ∷ z ∷ other ∷ others) = None
 -- the numbers of a subcommand are in range
 abbrev pub IsWithin : Subcommand → Type 0
 IsWithin (Play operations) = Unit {0}
-IsWithin (Run limit) = (LEAST_LIMIT ≤ limit) × (limit ≤ MOST_LIMIT)
+IsWithin (Run policy limit) = (LEAST_LIMIT ≤ limit) × (limit ≤ MOST_LIMIT)
 IsWithin (Sim seed commands) = (1 ≤ commands) × (commands ≤ MOST_COMMANDS)
 IsWithin (Drive acceptors learners commands) = (bad_count acceptors 3 learners ≡ None) × (commands ≤ MOST_DRIVEN)
 IsWithin (Log disk) = disk < 12

@@ -5,6 +5,7 @@ ghost use Rattle.gp_msg.specs.declared.record.Record.{Record};
 ghost use Rattle.gp_round.specs.Counts.{Counts};
 ghost use Rattle.gp_offers.specs.declared.script.Offers.{Offers};
 ghost use Rattle.gp_cli.specs.declared.subcommand.Operations.{Operations};
+ghost use Rattle.gp_cluster.specs.declared.policy.RoundPolicy.{RoundPolicy};
 ghost use Rattle.gp_cli.specs.declared.subcommand.Subcommand.TheVariants.{Play, Run, Sim, Drive, Log, Upgrade, Audit};
 ghost use Rattle.gp_cli.specs.Subcommands.{named};
 ghost use Rattle.gp_cli.specs.Outside.{Outside};
@@ -48,24 +49,24 @@ pub fn a_script_has_its_status()
 /// records are those of a run with the offers of the script, or there are none; and but for 1, 3 and 4 the
 /// script was read to its end.
 pub fn nodes_run_until_all_is_learned()
-    ensures ran { (words : List (List ℕ)) (before now : Outside) (status : ℕ) (trail : List Record) → Ends (IsCause words) before now status trail → (limit : ℕ)
-        → named words ≡ Some (Run limit) → status ≡ 0 → PrintsNodes limit before now trail }
-    ensures complete { (words : List (List ℕ)) (before now : Outside) (status : ℕ) (trail : List Record) → Ends (IsCause words) before now status trail → (limit : ℕ) (offers : Offers) → named words ≡ Some (Run limit) → HoldsOffers offers before.source
+    ensures ran { (words : List (List ℕ)) (before now : Outside) (status : ℕ) (trail : List Record) → Ends (IsCause words) before now status trail → (policy : RoundPolicy) (limit : ℕ)
+        → named words ≡ Some (Run policy limit) → status ≡ 0 → PrintsNodes policy limit before now trail }
+    ensures complete { (words : List (List ℕ)) (before now : Outside) (status : ℕ) (trail : List Record) → Ends (IsCause words) before now status trail → (policy : RoundPolicy) (limit : ℕ) (offers : Offers) → named words ≡ Some (Run policy limit) → HoldsOffers offers before.source
         → ¬ Rose before.source.faults now.source.faults → ¬ Rose before.sink.faults now.sink.faults → ¬ SomeFailed before.disks now.disks → HasRoomForNext offers.config limit trail → (status ≡ 0) ⊎ (status ≡ 1) }
-    ensures refuses { (words : List (List ℕ)) (before now : Outside) (status : ℕ) (trail : List Record) → Ends (IsCause words) before now status trail → (limit : ℕ) → named words ≡ Some (Run limit)
+    ensures refuses { (words : List (List ℕ)) (before now : Outside) (status : ℕ) (trail : List Record) → Ends (IsCause words) before now status trail → (policy : RoundPolicy) (limit : ℕ) → named words ≡ Some (Run policy limit)
         → HoldsBadOffers before.source → ¬ Rose before.source.faults now.source.faults → (status ≡ 3) ⊎ (status ≡ 1) }
-    ensures offered { (words : List (List ℕ)) (before now : Outside) (status : ℕ) (trail : List Record) → Ends (IsCause words) before now status trail → (limit : ℕ)
-        → named words ≡ Some (Run limit) → (trail ≡ []) ⊎ ((offers : Offers) × OffersAll before now trail offers) }
-    ensures read_to_end { (words : List (List ℕ)) (before now : Outside) (status : ℕ) (trail : List Record) → Ends (IsCause words) before now status trail → (limit : ℕ)
-        → named words ≡ Some (Run limit) → status ≢ 1 → status ≢ 3 → status ≢ 4 → IfSome now.source.bytes (λ rest. rest ≡ []) }
+    ensures offered { (words : List (List ℕ)) (before now : Outside) (status : ℕ) (trail : List Record) → Ends (IsCause words) before now status trail → (policy : RoundPolicy) (limit : ℕ)
+        → named words ≡ Some (Run policy limit) → (trail ≡ []) ⊎ ((offers : Offers) × OffersAll policy before now trail offers) }
+    ensures read_to_end { (words : List (List ℕ)) (before now : Outside) (status : ℕ) (trail : List Record) → Ends (IsCause words) before now status trail → (policy : RoundPolicy) (limit : ℕ)
+        → named words ≡ Some (Run policy limit) → status ≢ 1 → status ≢ 3 → status ≢ 4 → IfSome now.source.bytes (λ rest. rest ≡ []) }
 {}
 
 /// If no two of the commands that a script of `run` offers conflict, then with status 0 the key store of each
 /// learner is in the state, and gave to each command the reply, of one that ran the offers in the order of the
 /// script.
 pub fn commands_that_commute_run_as_in_the_script()
-    ensures { (words : List (List ℕ)) (before now : Outside) (status : ℕ) (trail : List Record) → Ends (IsCause words) before now status trail → (limit : ℕ) → named words ≡ Some (Run limit)
-        → status ≡ 0 → (offers : Offers) × OffersAll before now trail offers × (AllCommute offers.list → RunsInScriptOrder offers trail) }
+    ensures { (words : List (List ℕ)) (before now : Outside) (status : ℕ) (trail : List Record) → Ends (IsCause words) before now status trail → (policy : RoundPolicy) (limit : ℕ) → named words ≡ Some (Run policy limit)
+        → status ≡ 0 → (offers : Offers) × OffersAll policy before now trail offers × (AllCommute offers.list → RunsInScriptOrder offers trail) }
 {}
 
 /// `drive` and `sim` end with status 0 or 5, or because memory ran out; without a fault of the sink they do

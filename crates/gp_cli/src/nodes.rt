@@ -1,8 +1,10 @@
 //! The subcommand that runs nodes in threads.
-ghost use Rattle.std.specs.Prelude.{◌≡◌, ◌≤◌, [], Some, length};
+ghost use Rattle.std.specs.Prelude.{◌≡◌, ◌≤◌, ℕ, [], Some, Err, length};
 ghost use Rattle.gp_run.specs.Legal.{Legal};
 ghost use Rattle.gp_run.specs.Runs.{entries_in};
-ghost use Rattle.gp_offers.specs.Offering.{Offered, offers_reading};
+ghost use Rattle.gp_cluster.specs.declared.policy.RoundPolicy.{RoundPolicy};
+ghost use Rattle.gp_offers.specs.Answers.{Reads};
+ghost use Rattle.gp_offers.specs.Offering.{OffersReading, Offered, offers_reading};
 ghost use Rattle.gp_offers.specs.Offered.{AreOffered};
 ghost use Rattle.gp_cli.specs.declared.subcommand.Subcommand.TheVariants.{Run};
 ghost use Rattle.gp_cli.specs.declared.ran.Trail.TheVariants.{Folded};
@@ -19,7 +21,7 @@ use crate::status::{DISK_FAILED, DONE, LOG_FULL, NO_LOG, NO_MEMORY, REFUSED, UNR
 use crate::telling::{
     DISK_FAULT, LOG_CHANGED, READ_FAULT, broken_text, full_text, refusal_text, tell, tell_of,
 };
-use gp_cluster::run_nodes;
+use gp_cluster::{RoundPolicy, run_nodes};
 use gp_edge::{Disk, Gate, Refused, Sink, Source, read_up_to};
 use gp_ending::RunEnd;
 use gp_msg::{Record, Records};
@@ -71,6 +73,7 @@ fn tell_end<K: Sink>(
 fn run_offers<K: Sink, D: Disk + Send, W: Threads + Wait + Sync, G: Gate + Sync>(
     rt: &W,
     alloc: Global,
+    policy: RoundPolicy,
     limit: u32,
     offers: &Offers,
     sink: &mut K,
@@ -81,15 +84,24 @@ fn run_offers<K: Sink, D: Disk + Send, W: Threads + Wait + Sync, G: Gate + Sync>
     requires low { 64 ≤ limit }
     requires high { limit ≤ 67108864 }
     requires right { AreOffered offers.now }
-    ensures ends { EndsBy (IsOffersCause limit (Offered offers.now) (disks_seen D.content D.faults disks.items) (disks_seen D.content D.faults result.disks.items))
+    ensures ends { EndsBy (IsOffersCause policy limit (Offered offers.now) (disks_seen D.content D.faults disks.items) (disks_seen D.content D.faults result.disks.items))
         (seen (K.written sink.old) (K.faults sink.old)) (seen (K.written sink.new) (K.faults sink.new)) result.status (records_in result.trail) }
     ensures posted { IsOfNodes result.status result.trail }
-    ensures others { KeepsUnused (Some (Run limit)) (IsOffersCause limit (Offered offers.now) (disks_seen D.content D.faults disks.items) (disks_seen D.content D.faults result.disks.items))
+    ensures others { KeepsUnused (Some (Run policy limit)) (IsOffersCause policy limit (Offered offers.now) (disks_seen D.content D.faults disks.items) (disks_seen D.content D.faults result.disks.items))
         disks.items result.disks.items }
     ensures disks_never_fall { EachDisk (λ was is. D.faults was ≤ D.faults is) disks.items result.disks.items }
     ensures never_falls { K.faults sink.old ≤ K.faults sink.new }
 {
-    let run = run_nodes(rt, alloc, offers.config, limit, &offers.list, disks, gate);
+    let run = run_nodes(
+        rt,
+        alloc,
+        offers.config,
+        policy,
+        limit,
+        &offers.list,
+        disks,
+        gate,
+    );
     let trail = Trail::of(alloc, run.posted);
     let status = tell_end(alloc, &offers.config, run.end, trail.records(), sink);
     Ran {
@@ -99,10 +111,30 @@ fn run_offers<K: Sink, D: Disk + Send, W: Threads + Wait + Sync, G: Gate + Sync>
     }
 }
 
+// No node runs for a script that was not read to its end. Prints its first refused line.
+fn refuse<K: Sink, D: Disk>(alloc: Global, why: Unread, sink: &mut K, disks: Vec<D>) -> Ran<D>
+    ensures ends { (policy : RoundPolicy) (limit : ℕ) (read : OffersReading) → Reads read (Err why)
+        → EndsBy (IsOffersCause policy limit read (disks_seen D.content D.faults disks.items) (disks_seen D.content D.faults result.disks.items))
+        (seen (K.written sink.old) (K.faults sink.old)) (seen (K.written sink.new) (K.faults sink.new)) result.status (records_in result.trail) }
+    ensures posted { IsOfNodes result.status result.trail }
+    ensures disks { result.disks.items ≡ disks.items }
+    ensures never_falls { K.faults sink.old ≤ K.faults sink.new }
+{
+    match why {
+        Unread::Bad { line, reason } => {
+            let text = refusal_text(alloc, line, reason);
+            let status = tell_of(sink, text, REFUSED, REFUSED);
+            without_nodes(alloc, status, disks)
+        }
+        Unread::NoMemory => without_nodes(alloc, NO_MEMORY, disks),
+    }
+}
+
 // Runs the nodes of a script, or prints its first refused line.
 fn run_script<K: Sink, D: Disk + Send, W: Threads + Wait + Sync, G: Gate + Sync>(
     rt: &W,
     alloc: Global,
+    policy: RoundPolicy,
     limit: u32,
     script: &[u8],
     sink: &mut K,
@@ -112,22 +144,17 @@ fn run_script<K: Sink, D: Disk + Send, W: Threads + Wait + Sync, G: Gate + Sync>
     requires twelve { length disks.items ≡ 12 }
     requires low { 64 ≤ limit }
     requires high { limit ≤ 67108864 }
-    ensures ends { EndsBy (IsOffersCause limit (offers_reading script.now) (disks_seen D.content D.faults disks.items) (disks_seen D.content D.faults result.disks.items))
+    ensures ends { EndsBy (IsOffersCause policy limit (offers_reading script.now) (disks_seen D.content D.faults disks.items) (disks_seen D.content D.faults result.disks.items))
         (seen (K.written sink.old) (K.faults sink.old)) (seen (K.written sink.new) (K.faults sink.new)) result.status (records_in result.trail) }
     ensures posted { IsOfNodes result.status result.trail }
-    ensures others { KeepsUnused (Some (Run limit)) (IsOffersCause limit (offers_reading script.now) (disks_seen D.content D.faults disks.items) (disks_seen D.content D.faults result.disks.items))
+    ensures others { KeepsUnused (Some (Run policy limit)) (IsOffersCause policy limit (offers_reading script.now) (disks_seen D.content D.faults disks.items) (disks_seen D.content D.faults result.disks.items))
         disks.items result.disks.items }
     ensures disks_never_fall { EachDisk (λ was is. D.faults was ≤ D.faults is) disks.items result.disks.items }
     ensures never_falls { K.faults sink.old ≤ K.faults sink.new }
 {
     match read_offers(alloc, script) {
-        Ok(offers) => run_offers(rt, alloc, limit, &offers, sink, disks, gate),
-        Err(Unread::Bad { line, reason }) => {
-            let text = refusal_text(alloc, line, reason);
-            let status = tell_of(sink, text, REFUSED, REFUSED);
-            without_nodes(alloc, status, disks)
-        }
-        Err(Unread::NoMemory) => without_nodes(alloc, NO_MEMORY, disks),
+        Ok(offers) => run_offers(rt, alloc, policy, limit, &offers, sink, disks, gate),
+        Err(why) => refuse(alloc, why, sink, disks),
     }
 }
 
@@ -141,6 +168,7 @@ pub(crate) fn read_and_run<
 >(
     rt: &W,
     alloc: Global,
+    policy: RoundPolicy,
     limit: u32,
     source: &mut S,
     sink: &mut K,
@@ -150,17 +178,17 @@ pub(crate) fn read_and_run<
     requires twelve { length disks.items ≡ 12 }
     requires low { 64 ≤ limit }
     requires high { limit ≤ 67108864 }
-    ensures ends { EndsBy (IsNodesCause limit (seen (S.rest source.old) (S.faults source.old)) (seen (S.rest source.new) (S.faults source.new)) (disks_seen D.content D.faults disks.items) (disks_seen D.content D.faults result.disks.items))
+    ensures ends { EndsBy (IsNodesCause policy limit (seen (S.rest source.old) (S.faults source.old)) (seen (S.rest source.new) (S.faults source.new)) (disks_seen D.content D.faults disks.items) (disks_seen D.content D.faults result.disks.items))
         (seen (K.written sink.old) (K.faults sink.old)) (seen (K.written sink.new) (K.faults sink.new)) result.status (records_in result.trail) }
     ensures posted { IsOfNodes result.status result.trail }
-    ensures others { KeepsUnused (Some (Run limit)) (IsNodesCause limit (seen (S.rest source.old) (S.faults source.old)) (seen (S.rest source.new) (S.faults source.new)) (disks_seen D.content D.faults disks.items) (disks_seen D.content D.faults result.disks.items))
+    ensures others { KeepsUnused (Some (Run policy limit)) (IsNodesCause policy limit (seen (S.rest source.old) (S.faults source.old)) (seen (S.rest source.new) (S.faults source.new)) (disks_seen D.content D.faults disks.items) (disks_seen D.content D.faults result.disks.items))
         disks.items result.disks.items }
     ensures disks_never_fall { EachDisk (λ was is. D.faults was ≤ D.faults is) disks.items result.disks.items }
     ensures source_never_falls { S.faults source.old ≤ S.faults source.new }
     ensures sink_never_falls { K.faults sink.old ≤ K.faults sink.new }
 {
     match read_up_to(alloc, source, MOST_READ) {
-        Ok(script) => run_script(rt, alloc, limit, &script, sink, disks, gate),
+        Ok(script) => run_script(rt, alloc, policy, limit, &script, sink, disks, gate),
         Err(Refused::Failed) => {
             let status = tell(sink, READ_FAULT, UNREAD, UNREAD);
             without_nodes(alloc, status, disks)

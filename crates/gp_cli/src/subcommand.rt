@@ -2,6 +2,7 @@
 ghost use Rattle.std.specs.Prelude.{◌≡◌, IfSome};
 ghost use Rattle.gp_cli.specs.Subcommands.{texts_of, number_within, drive_named, sim_named, run_named, logged_disk, named_by_one, named_by_two, named, IsWithin};
 
+use gp_cluster::RoundPolicy;
 use gp_random::MOST_COMMANDS;
 use gp_sim::MOST_DRIVEN;
 use gp_words::number_of;
@@ -34,6 +35,8 @@ pub enum Subcommand {
     },
     /// Read a configuration and offers, run the nodes in threads, and print their trace and report.
     Run {
+        /// Which rounds are begun.
+        policy: RoundPolicy,
         /// The limit of each log, in bytes, 64 to 67,108,864.
         limit: u32,
     },
@@ -110,7 +113,14 @@ fn of_one(word: &str) -> Option<Subcommand>
         "bank" => Some(Subcommand::Play {
             operations: Operations::Bank,
         }),
-        "run" => Some(Subcommand::Run { limit: MOST_LIMIT }),
+        "run" => Some(Subcommand::Run {
+            policy: RoundPolicy::Multi,
+            limit: MOST_LIMIT,
+        }),
+        "adapt" => Some(Subcommand::Run {
+            policy: RoundPolicy::Adaptive,
+            limit: MOST_LIMIT,
+        }),
         "audit" => Some(Subcommand::Audit),
         _ => None,
     }
@@ -120,6 +130,7 @@ fn run_of(limit: &str) -> Option<Subcommand>
     ensures { result ≡ run_named limit.now }
 {
     Some(Subcommand::Run {
+        policy: RoundPolicy::Multi,
         limit: number_within(LEAST_LIMIT, MOST_LIMIT, limit)?,
     })
 }

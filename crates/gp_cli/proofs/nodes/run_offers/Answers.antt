@@ -17,14 +17,14 @@ abbrev Has : (g : given.Over) (c : goal.After-tell_end-status g) → Trail → T
 Has g c trail =
     let run = c.run_nodes-run.result in
     let offers = c.args.offers.now in
-    HasRun c.args.limit (disks_seen g.D.Disk.content g.D.Disk.faults c.args.disks.items) (disks_seen g.D.Disk.content g.D.Disk.faults run.disks.items) offers run.end offers.config (records_in trail)
+    HasRun c.args.policy c.args.limit (disks_seen g.D.Disk.content g.D.Disk.faults c.args.disks.items) (disks_seen g.D.Disk.content g.D.Disk.faults run.disks.items) offers run.end offers.config (records_in trail)
 
 has : (g : given.Over) (c : goal.After-tell_end-status g) → Has g c c.of-trail.result
 has g c =
     let run = c.run_nodes-run.result in
     let says = c.run_nodes-run.ensures in
     subst (Has g c) (sym c.of-trail.ensures)
-    (has_run g.D.Disk.content g.D.Disk.faults c.args.limit c.args.offers.now c.args.disks.items run.disks.items run.end run.posted says.posted says.none says.learned says.quiet says.cause says.parts)
+    (has_run g.D.Disk.content g.D.Disk.faults c.args.policy c.args.limit c.args.offers.now c.args.disks.items run.disks.items run.end run.posted says.posted says.none says.learned says.quiet says.cause says.parts)
 
 pub returns-clause-ends : goal.returns-clause-ends
 returns-clause-ends g c =
@@ -37,15 +37,15 @@ returns-clause-ends g c =
     let range = right.range in
     let some : 0 < offers.config.acceptors = let three = range.three_acceptors in omega (arith, three) in
     let legal : Legal offers.config (entries_in (records_in c.of-trail.result)) =
-    subst (λ (t : Trail). Legal offers.config (entries_in (records_in t))) (sym c.of-trail.ensures) (legal_trail offers run.posted says.posted) in
+    subst (λ (t : Trail). Legal offers.config (entries_in (records_in t))) (sym c.of-trail.ensures) (legal_trail c.args.policy offers run.posted says.posted) in
     let told = subst (λ (list : List Record). TellsEnding (Runs run.end offers.config list) before now c.tell_end-status.result) c.records.ensures c.tell_end-status.ensures.told in
-    nodes_end c.args.limit offers (disks_seen g.D.Disk.content g.D.Disk.faults c.args.disks.items) (disks_seen g.D.Disk.content g.D.Disk.faults run.disks.items) run.end (records_in c.of-trail.result) before now c.tell_end-status.result some legal (has g c) told
+    nodes_end c.args.policy c.args.limit offers (disks_seen g.D.Disk.content g.D.Disk.faults c.args.disks.items) (disks_seen g.D.Disk.content g.D.Disk.faults run.disks.items) run.end (records_in c.of-trail.result) before now c.tell_end-status.result some legal (has g c) told
 
 pub returns-clause-others : goal.returns-clause-others
 returns-clause-others g c =
     let run = c.run_nodes-run.result in
     let says = c.run_nodes-run.ensures in
-    nodes_keep c.args.limit c.args.offers.now (disks_seen g.D.Disk.content g.D.Disk.faults c.args.disks.items) (disks_seen g.D.Disk.content g.D.Disk.faults run.disks.items) run.end (records_in c.of-trail.result) g.D.Disk.faults c.args.disks.items run.disks.items (has g c) says.others says.none_fell
+    nodes_keep c.args.policy c.args.limit c.args.offers.now (disks_seen g.D.Disk.content g.D.Disk.faults c.args.disks.items) (disks_seen g.D.Disk.content g.D.Disk.faults run.disks.items) run.end (records_in c.of-trail.result) g.D.Disk.faults c.args.disks.items run.disks.items (has g c) says.others says.none_fell
 
 pub returns-clause-disks_never_fall : goal.returns-clause-disks_never_fall
 returns-clause-disks_never_fall g c =
