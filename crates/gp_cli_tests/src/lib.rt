@@ -4,7 +4,13 @@
 #[cfg(test)]
 mod accounts;
 #[cfg(test)]
+mod adaptive_runs;
+#[cfg(test)]
+mod audited_runs;
+#[cfg(test)]
 mod audits;
+#[cfg(test)]
+mod counted_votes;
 #[cfg(test)]
 mod driven_runs;
 #[cfg(test)]

@@ -1,8 +1,8 @@
 //! Runs of nodes of several configurations, each of which `play` makes again from its trace.
-ghost use Rattle.std.specs.Prelude.{◌<◌};
-
+use crate::audited_runs::is_audited;
 use crate::nodes::{parts_of, plays_again};
 use crate::stage::{disks_with, served_with};
+use gp_round::Config;
 use std::alloc::Global;
 use std::sync::Wait;
 use std::test::Fail;
@@ -30,48 +30,52 @@ const PROPOSERS: usize = 8;
 const OFFERS: usize = 64;
 
 // Acceptors, coordinators and learners.
-static COUNTS: [&[u8]; 5] = [
-    b"nodes 3 1 1\n",
-    b"nodes 4 2 3\n",
-    b"nodes 5 3 2\n",
-    b"nodes 6 4 1\n",
-    b"nodes 7 5 4\n",
-];
+static COUNTS: [(u32, u32, u32); 5] = [(3, 1, 1), (4, 2, 3), (5, 3, 2), (6, 4, 1), (7, 5, 4)];
 
-// Offers by eight proposers. Another seed has another configuration, and takes other operations.
-fn script_with(alloc: Global, seed: usize) -> Result<Vec<u8>, Fail>
-    requires { seed < 5 }
-{
-    let mut script = Vec::from_slice(alloc, COUNTS[seed])?;
-    for number in 0..OFFERS {
+/// The configuration of the runs of a seed.
+pub fn config_of(seed: usize) -> Result<Config, Fail> {
+    let (acceptors, coordinators, learners) = COUNTS[seed % COUNTS.len()];
+    Ok(Config::new(acceptors, coordinators, learners)?)
+}
+
+/// So many offers by eight proposers. Another seed has another configuration, and takes other operations.
+pub fn script_with(alloc: Global, seed: usize, offers: usize) -> Result<Vec<u8>, Fail> {
+    let (acceptors, coordinators, learners) = COUNTS[seed % COUNTS.len()];
+    let nodes = format!(in alloc; "nodes {acceptors} {coordinators} {learners}\n")?;
+    let mut script = Vec::from_slice(alloc, nodes.as_bytes())?;
+    for number in 0..offers {
         script.extend_from_slice(b"offer p")?;
         script.push(b'0' + (number % PROPOSERS) as u8)?;
         script.push(b' ')?;
-        let at = (number * (seed + 1) + seed) % OPERATIONS.len();
+        let at = number.wrapping_mul(seed % 12 + 1).wrapping_add(seed) % OPERATIONS.len();
         script.extend_from_slice(OPERATIONS[at])?;
         script.push(b'\n')?;
     }
     Ok(script)
 }
 
-// Whether a run ends with all learned, and `play` prints its report from its trace.
+// Whether a run ends with all learned, `play` prints its report from its trace, and an audit upholds it.
 fn is_played_again<W: Threads + Wait + Sync>(
     rt: &W,
     alloc: Global,
-    script: &[u8],
+    seed: usize,
 ) -> Result<bool, Fail> {
+    let script = script_with(alloc, seed, OFFERS)?;
     let disks = disks_with(alloc, 0, b"", &[])?;
-    let finished = served_with(rt, alloc, &["run"], script, disks)?;
+    let finished = served_with(rt, alloc, &["run"], &script, disks)?;
     let printed = parts_of(alloc, finished.sink.written())?;
-    Ok(finished.ran.status == 0 && plays_again(rt, alloc, &printed)?)
+    Ok(
+        finished.ran.status == 0
+            && plays_again(rt, alloc, &printed)?
+            && is_audited(rt, alloc, config_of(seed)?, &finished)?,
+    )
 }
 
 #[test]
 fn each_run_is_played_again(rt: HostRuntime) -> Result<(), Fail> {
     let alloc = rt.alloc();
     for seed in 0..COUNTS.len() {
-        let script = script_with(alloc, seed)?;
-        assert!(rt; is_played_again(&rt, alloc, &script)?);
+        assert!(rt; is_played_again(&rt, alloc, seed)?);
     }
     Ok(())
 }

@@ -18,8 +18,8 @@ const EIGHT_LEARNED: [&[u8]; 3] = [
     b" replies: p0.1=ok p1.1=ok p2.1=ok p3.1=none p4.1=ok p5.1=none p6.1=no p7.1=none",
 ];
 
-// Two commands that conflict, which a coordinator with an odd number takes in the other order.
-const TWO: &[u8] = b"nodes 3 2 1\noffer p0 put a 1\noffer p0 put a 2\n";
+/// Two commands that conflict, which a coordinator with an odd number takes in the other order.
+pub const TWO: &[u8] = b"nodes 3 2 1\noffer p0 put a 1\noffer p0 put a 2\n";
 
 /// A checkpoint between two commands that conflict.
 pub const CHECKPOINT: &[u8] =
@@ -59,8 +59,8 @@ pub fn count(text: &[u8], wanted: &[u8]) -> usize {
         .count()
 }
 
-// Whether the report has each of these lines of a learner.
-fn shows(alloc: Global, report: &[u8], learner: &[u8], lines: &[&[u8]]) -> Result<bool, Fail> {
+/// Whether the report has each of these lines of a learner.
+pub fn shows(alloc: Global, report: &[u8], learner: &[u8], lines: &[&[u8]]) -> Result<bool, Fail> {
     for line in lines {
         let mut whole = Vec::from_slice(alloc, learner)?;
         whole.extend_from_slice(line)?;
@@ -79,8 +79,8 @@ fn is_posted(ran: &Ran<MemDisk>) -> bool {
     }
 }
 
-// Whether both learners of the eight commands show them.
-fn show_eight(alloc: Global, report: &[u8]) -> Result<bool, Fail> {
+/// Whether both learners of the eight commands show them.
+pub fn show_eight(alloc: Global, report: &[u8]) -> Result<bool, Fail> {
     Ok(shows(alloc, report, b"l0", &EIGHT_LEARNED)? && shows(alloc, report, b"l1", &EIGHT_LEARNED)?)
 }
 

@@ -14,7 +14,7 @@ use std::test::Fail;
 use std::thread::Threads;
 
 const USAGE: &[u8] =
-    b"usage: mcgp play | run [LIMIT] | sim SEED COMMANDS | drive A L K | log K | upgrade K | audit | bank\n";
+    b"usage: mcgp play | run [LIMIT] | sim SEED COMMANDS | drive A L K | log K | upgrade K | audit | adapt | bank\n";
 
 const SCRIPT: &[u8] = b"nodes 3 1 1\n";
 

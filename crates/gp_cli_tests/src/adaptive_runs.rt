@@ -1,0 +1,202 @@
+//! Nodes that run in threads, whose rounds adapt to clashes.
+use crate::audited_runs::is_audited;
+use crate::many_runs::config_of;
+use crate::nodes::{CHECKPOINT, EIGHT, Printed, count, parts_of, plays_again, show_eight, shows};
+use crate::stage::{Finished, disks_with, served_with};
+use gp_edge::MemDisk;
+use std::alloc::Global;
+use std::sync::Wait;
+use std::test::Fail;
+use std::thread::Threads;
+
+// Two commands that conflict, which an acceptor with an odd number takes in the other order.
+const TWO: &[u8] = b"nodes 3 1 1\noffer p0 put a 1\noffer p0 put a 2\n";
+
+const RUNS: usize = 50;
+
+const OFFERS: usize = 8;
+
+// A run of this script, whose disks do not fail.
+fn adapted<W: Threads + Wait + Sync>(
+    rt: &W,
+    alloc: Global,
+    script: &[u8],
+) -> Result<Finished<MemDisk>, Fail> {
+    served_with(
+        rt,
+        alloc,
+        &["adapt"],
+        script,
+        disks_with(alloc, 0, b"", &[])?,
+    )
+}
+
+// What a run of this script printed, if it ended with all learned and `play` prints its report again.
+fn printed<W: Threads + Wait + Sync>(
+    rt: &W,
+    alloc: Global,
+    script: &[u8],
+) -> Result<Option<Printed>, Fail> {
+    let finished = adapted(rt, alloc, script)?;
+    let printed = parts_of(alloc, finished.sink.written())?;
+    if finished.ran.status == 0 && plays_again(rt, alloc, &printed)? {
+        Ok(Some(printed))
+    } else {
+        Ok(None)
+    }
+}
+
+// Whether the first event of coordinator 0 begins the first fast round.
+fn opens_fast(trace: &[u8]) -> bool {
+    for line in trace.split(|byte| *byte == b'\n') {
+        if line.starts_with(b"begin c0 ") || line.starts_with(b"take c0 ") {
+            return line == b"begin c0 1 fast".as_slice();
+        }
+    }
+    false
+}
+
+#[test]
+fn commands_that_commute_are_learned_by_all(rt: HostRuntime) -> Result<(), Fail> {
+    let alloc = rt.alloc();
+    match printed(&rt, alloc, EIGHT)? {
+        Some(printed) => {
+            assert!(rt; opens_fast(&printed.trace));
+            assert!(rt; show_eight(alloc, &printed.report)?);
+        }
+        None => assert!(rt; false),
+    }
+    Ok(())
+}
+
+#[test]
+fn a_clash_of_votes_is_answered_by_a_multi_round(rt: HostRuntime) -> Result<(), Fail> {
+    let alloc = rt.alloc();
+    match printed(&rt, alloc, TWO)? {
+        Some(printed) => {
+            for line in [
+                b"begin c0 1 fast".as_slice(),
+                b"begin c0 2 multi",
+                b"take c0 8",
+            ] {
+                assert!(rt; count(&printed.trace, line) == 1);
+            }
+            let lines: [&[u8]; 2] = [b" learned 2: p0.1 p0.2", b" state: a=2"];
+            assert!(rt; shows(alloc, &printed.report, b"l0", &lines)?);
+        }
+        None => assert!(rt; false),
+    }
+    Ok(())
+}
+
+#[test]
+fn each_epoch_begins_with_a_fast_round(rt: HostRuntime) -> Result<(), Fail> {
+    let alloc = rt.alloc();
+    match printed(&rt, alloc, CHECKPOINT)? {
+        Some(printed) => assert!(rt; count(&printed.trace, b"begin c0 1 fast") == 2),
+        None => assert!(rt; false),
+    }
+    Ok(())
+}
+
+#[test]
+fn a_disk_that_fails_before_the_offers_ends_the_run(rt: HostRuntime) -> Result<(), Fail> {
+    let alloc = rt.alloc();
+    for (call, status) in [(0u64, 6u8), (3, 0)] {
+        let disks = disks_with(alloc, 7, b"", &[call])?;
+        let finished = served_with(&rt, alloc, &["adapt"], EIGHT, disks)?;
+        assert!(rt; finished.ran.status == status);
+    }
+    Ok(())
+}
+
+// Eight puts, on keys of their own or all on one key.
+fn puts(alloc: Global, seed: usize, conflicting: bool) -> Result<Vec<u8>, Fail> {
+    let config = config_of(seed)?;
+    let (acceptors, coordinators, learners) = (
+        config.acceptors(),
+        config.coordinators(),
+        config.learners(),
+    );
+    let nodes = format!(in alloc; "nodes {acceptors} {coordinators} {learners}\n")?;
+    let mut script = Vec::from_slice(alloc, nodes.as_bytes())?;
+    for number in 0..OFFERS {
+        let key = if conflicting { 0 } else { number };
+        let line = format!(in alloc; "offer p{number} put k{key} {number}\n")?;
+        script.extend_from_slice(line.as_bytes())?;
+    }
+    Ok(script)
+}
+
+// How many multi, single and later fast rounds coordinator 0 began, if the first round was fast, a multi round followed a
+// fast one, a single one followed a multi one, and a fast one followed another one.
+fn course_of(trace: &[u8]) -> Option<(u32, u32, u32)> {
+    let (mut multi, mut single, mut fast) = (0u32, 0u32, 0u32);
+    let mut last = b' ';
+    for line in trace.split(|byte| *byte == b'\n') {
+        if line.starts_with(b"begin c0 ") {
+            let mode = if line.ends_with(b" multi") {
+                multi = multi.saturating_add(1);
+                b'm'
+            } else if line.ends_with(b" single") {
+                single = single.saturating_add(1);
+                b's'
+            } else {
+                fast = fast.saturating_add(1);
+                b'f'
+            };
+            match (last, mode) {
+                (b' ', b'f') | (b'f', b'm') | (b'm', b's') | (b'm', b'f') | (b's', b'f') => {}
+                _ => return None,
+            }
+            last = mode;
+        }
+    }
+    Some((multi, single, fast.saturating_sub(1)))
+}
+
+// The course of the run of a seed, if it is upheld by an audit.
+fn course_of_run<W: Threads + Wait + Sync>(
+    rt: &W,
+    alloc: Global,
+    seed: usize,
+    conflicting: bool,
+) -> Result<Option<(u32, u32, u32)>, Fail> {
+    let finished = adapted(rt, alloc, &puts(alloc, seed, conflicting)?)?;
+    if finished.ran.status != 0 || !is_audited(rt, alloc, config_of(seed)?, &finished)? {
+        return Ok(None);
+    }
+    let printed = parts_of(alloc, finished.sink.written())?;
+    Ok(course_of(&printed.trace))
+}
+
+#[test]
+fn where_nothing_conflicts_one_fast_round_is_begun(rt: HostRuntime) -> Result<(), Fail> {
+    let alloc = rt.alloc();
+    for seed in 0..RUNS {
+        assert!(rt; course_of_run(&rt, alloc, seed, false)? == Some((0, 0, 0)));
+    }
+    Ok(())
+}
+
+#[test]
+fn clashes_lead_to_multi_and_single_rounds_and_quiet_leads_back(
+    rt: HostRuntime,
+) -> Result<(), Fail> {
+    let alloc = rt.alloc();
+    let (mut multi, mut single, mut fast) = (0u32, 0u32, 0u32);
+    for seed in 0..RUNS {
+        match course_of_run(&rt, alloc, seed, true)? {
+            Some(course) => {
+                multi = multi.saturating_add(course.0);
+                single = single.saturating_add(course.1);
+                fast = fast.saturating_add(course.2);
+            }
+            None => assert!(rt; false),
+        }
+    }
+    assert!(rt; multi >= 50);
+    assert!(rt; single > 0);
+    assert!(rt; fast >= 50);
+    Ok(())
+}

@@ -1,0 +1,143 @@
+//! Audits of runs, whose certificates are checked against the votes that are counted.
+use crate::counted_votes::all_counted;
+use crate::many_runs::{config_of, script_with};
+use crate::nodes::{CHECKPOINT, EIGHT, TWO};
+use crate::stage::{Finished, disks_with, served_with};
+use gp_edge::MemDisk;
+use gp_msg::{Event, Record};
+use gp_round::Config;
+use gp_sim::simulate;
+use gp_world::World;
+use std::alloc::Global;
+use std::ops::Range;
+use std::sync::Wait;
+use std::test::Fail;
+use std::thread::Threads;
+
+const RUNS: u64 = 100;
+
+const OFFERS: usize = 8;
+
+// More records than the runs here make.
+const MANY: usize = 100_000;
+
+// The world in which the events of these records happen, or `None` if one is refused.
+fn world_of(alloc: Global, config: Config, records: &[Record]) -> Result<Option<World>, Fail> {
+    let mut world = World::new(alloc, config)?;
+    for record in records {
+        if world.records().len() >= MANY || world.step(record.event.copy()?).is_err() {
+            return Ok(None);
+        }
+    }
+    Ok(Some(world))
+}
+
+/// Whether an audit upholds what a run of nodes printed, and each of its certificates counts.
+pub fn is_audited<W: Threads + Wait + Sync>(
+    rt: &W,
+    alloc: Global,
+    config: Config,
+    run: &Finished<MemDisk>,
+) -> Result<bool, Fail> {
+    let Some(world) = world_of(alloc, config, run.ran.trail.records())? else {
+        return Ok(false);
+    };
+    let disks = disks_with(alloc, 0, b"", &[])?;
+    let audit = served_with(rt, alloc, &["audit"], run.sink.written(), disks)?;
+    Ok(
+        audit.ran.status == 0
+            && audit.sink.written().starts_with(b"legal\n")
+            && all_counted(alloc, &world)?,
+    )
+}
+
+// Whether what a script prints is upheld.
+fn is_upheld<W: Threads + Wait + Sync>(
+    rt: &W,
+    alloc: Global,
+    config: Config,
+    script: &[u8],
+) -> Result<bool, Fail> {
+    let disks = disks_with(alloc, 0, b"", &[])?;
+    let run = served_with(rt, alloc, &["run"], script, disks)?;
+    Ok(run.ran.status == 0 && is_audited(rt, alloc, config, &run)?)
+}
+
+#[test]
+fn each_stored_run_is_upheld(rt: HostRuntime) -> Result<(), Fail> {
+    let alloc = rt.alloc();
+    assert!(rt; is_upheld(&rt, alloc, Config::new(3, 3, 2)?, EIGHT)?);
+    assert!(rt; is_upheld(&rt, alloc, Config::new(3, 3, 2)?, CHECKPOINT)?);
+    assert!(rt; is_upheld(&rt, alloc, Config::new(3, 2, 1)?, TWO)?);
+    Ok(())
+}
+
+// How many nodes fell.
+fn falls(records: &[Record]) -> usize {
+    let mut count = 0usize;
+    for record in records {
+        if let Event::Fall { .. } = &record.event {
+            count = count.saturating_add(1);
+        }
+    }
+    count
+}
+
+// The run of a seed, in which a call of the disk of an acceptor or of coordinator 0 fails behind those that make its log.
+fn fallen_run<W: Threads + Wait + Sync>(
+    rt: &W,
+    alloc: Global,
+    seed: usize,
+) -> Result<Finished<MemDisk>, Fail> {
+    let number = if seed % 4 == 3 { 7 } else { seed as u64 % 4 };
+    let call = 3 + seed as u64 % 7;
+    let disks = disks_with(alloc, number, b"", &[call])?;
+    served_with(
+        rt,
+        alloc,
+        &["run"],
+        &script_with(alloc, seed, OFFERS)?,
+        disks,
+    )
+}
+
+// How many nodes fell in the runs of these seeds, or `None` if one of the runs was not upheld.
+fn falls_in_runs<W: Threads + Wait + Sync>(
+    rt: &W,
+    alloc: Global,
+    seeds: Range<usize>,
+) -> Result<Option<usize>, Fail> {
+    let mut fallen = 0usize;
+    for seed in seeds {
+        let run = fallen_run(rt, alloc, seed)?;
+        if run.ran.status != 0 || !is_audited(rt, alloc, config_of(seed)?, &run)? {
+            return Ok(None);
+        }
+        fallen = fallen.saturating_add(falls(run.ran.trail.records()));
+    }
+    Ok(Some(fallen))
+}
+
+#[test]
+fn fifty_runs_with_falls_and_checkpoints_are_upheld(rt: HostRuntime) -> Result<(), Fail> {
+    let fallen = falls_in_runs(&rt, rt.alloc(), 0..50)?;
+    assert!(rt; fallen.unwrap_or(0) > 25);
+    Ok(())
+}
+
+#[test]
+fn fifty_more_runs_with_falls_and_checkpoints_are_upheld(rt: HostRuntime) -> Result<(), Fail> {
+    let fallen = falls_in_runs(&rt, rt.alloc(), 50..100)?;
+    assert!(rt; fallen.unwrap_or(0) > 25);
+    Ok(())
+}
+
+#[test]
+fn simulated_runs_have_certificates_that_count(rt: HostRuntime) -> Result<(), Fail> {
+    let alloc = rt.alloc();
+    for seed in 0..RUNS {
+        let world = simulate(&rt, alloc, seed, 40)?;
+        assert!(rt; all_counted(alloc, &world)?);
+    }
+    Ok(())
+}
