@@ -76,7 +76,7 @@ fn voters(
 fn needed(acceptors: u32, mode: Mode) -> u32 {
     match mode {
         Mode::Single | Mode::Multi => acceptors / 2 + 1,
-        Mode::Fast => (3 * acceptors).div_ceil(4),
+        Mode::Fast => acceptors - acceptors / 4,
     }
 }
 
@@ -96,7 +96,7 @@ fn is_quorum(
             if !voted[acceptor as usize % 8] {
                 return false;
             }
-            members += 1;
+            members = members.wrapping_add(1);
         }
     }
     last && members == needed(world.config().acceptors(), round.mode)
