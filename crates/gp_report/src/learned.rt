@@ -13,7 +13,8 @@ use gp_words::{push_dash, push_gap, push_number};
 use gp_world::World;
 use std::alloc::Global;
 
-pub(crate) fn push_identity(id: CommandId, to: &mut Vec<u8>) -> Result<(), NoMemory>
+/// Appends the identity of a command: `pN.M` is number M of proposer N.
+pub fn push_identity(id: CommandId, to: &mut Vec<u8>) -> Result<(), NoMemory>
     ensures { OnOk result (to.new.items ≡ to.old.items ++ identity id) }
 {
     to.push(b'p')?;

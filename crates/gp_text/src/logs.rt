@@ -15,8 +15,8 @@ use gp_vlog::Log;
 use gp_words::push_number;
 use std::alloc::Global;
 
-// A round as its count, its mode and its lead.
-fn push_dotted(round: Round, to: &mut Vec<u8>) -> Result<(), NoMemory>
+/// Appends a round as `COUNT.MODE.LEAD`.
+pub fn push_dotted(round: Round, to: &mut Vec<u8>) -> Result<(), NoMemory>
     ensures { OnOk result (to.new.items ≡ to.old.items ++ dotted_round round) }
 {
     push_number(u64::from(round.count), to)?;

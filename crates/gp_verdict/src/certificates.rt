@@ -1,39 +1,15 @@
 //! The text of the certificates.
 ghost use Rattle.std.specs.Prelude.{◌≡◌, ◌<◌, ◌++◌, List, ℕ, OnOk, IfOk};
-ghost use Rattle.gp_script.specs.Spelling.{mode_word};
 ghost use Rattle.gp_world.specs.State.{entries_of};
-ghost use Rattle.gp_report.specs.Texts.{identity};
-ghost use Rattle.gp_text.specs.Logs.{dotted_round};
 ghost use Rattle.gp_verdict.specs.Certified.{cause_words, name_words, proof_line, AreProofLines, IsCertified};
 
 use gp_audit::{Cause, Proof, certify};
 use gp_command::{CommandId, NoMemory};
-use gp_round::{Mode, Round};
+use gp_report::push_identity;
+use gp_text::push_dotted;
 use gp_words::push_number;
 use gp_world::World;
 use std::alloc::Global;
-
-fn push_mode(mode: Mode, to: &mut Vec<u8>) -> Result<(), NoMemory>
-    ensures { OnOk result (to.new.items ≡ to.old.items ++ mode_word mode) }
-{
-    match mode {
-        Mode::Single => to.extend_from_slice(b"single")?,
-        Mode::Multi => to.extend_from_slice(b"multi")?,
-        Mode::Fast => to.extend_from_slice(b"fast")?,
-    }
-    Ok(())
-}
-
-// A round as its count, its mode and its lead.
-fn push_round(round: Round, to: &mut Vec<u8>) -> Result<(), NoMemory>
-    ensures { OnOk result (to.new.items ≡ to.old.items ++ dotted_round round) }
-{
-    push_number(u64::from(round.count), to)?;
-    to.push(b'.')?;
-    push_mode(round.mode, to)?;
-    to.push(b'.')?;
-    push_number(u64::from(round.lead), to)
-}
 
 fn push_cause(cause: Cause, to: &mut Vec<u8>) -> Result<(), NoMemory>
     ensures { OnOk result (to.new.items ≡ to.old.items ++ cause_words cause) }
@@ -43,7 +19,7 @@ fn push_cause(cause: Cause, to: &mut Vec<u8>) -> Result<(), NoMemory>
             to.extend_from_slice(b" epoch ")?;
             push_number(u64::from(epoch), to)?;
             to.extend_from_slice(b" round ")?;
-            push_round(round, to)?;
+            push_dotted(round, to)?;
             to.extend_from_slice(b" quorum ")?;
             push_number(u64::from(mask), to)
         }
@@ -52,15 +28,6 @@ fn push_cause(cause: Cause, to: &mut Vec<u8>) -> Result<(), NoMemory>
             push_number(message, to)
         }
     }
-}
-
-fn push_identity(id: CommandId, to: &mut Vec<u8>) -> Result<(), NoMemory>
-    ensures { OnOk result (to.new.items ≡ to.old.items ++ identity id) }
-{
-    to.push(b'p')?;
-    push_number(u64::from(id.proposer), to)?;
-    to.push(b'.')?;
-    push_number(u64::from(id.number), to)
 }
 
 // A learner and its command.
