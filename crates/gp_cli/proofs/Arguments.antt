@@ -38,7 +38,7 @@ no_usage (Some bytes) = (0, omega arith, ap (λ b. Some b) (sym (append-nil byte
 unheard_for : (sub : Option Subcommand) (at : Outside) (status : ℕ) (trail : List Record) → status ≡ 1 → trail ≡ [] → EndsBy (IsCauseFor sub at at) at.sink at.sink status trail
 unheard_for None at status trail one none = without_run (IsCauseFor None at at) Misused at.sink at.sink status trail refl refl refl none (ForMemory one refl (no_usage at.sink.bytes))
 unheard_for (Some (Play operations)) at status trail one none = starved (IsCauseFor (Some (Play operations)) at at) at.sink status trail (refl, nothing_lost at.source.bytes) one none
-unheard_for (Some (Run policy limit)) at status trail one none = starved (IsCauseFor (Some (Run policy limit)) at at) at.sink status trail (refl, nothing_lost at.source.bytes) one none
+unheard_for (Some (Run policy limit viewed)) at status trail one none = starved (IsCauseFor (Some (Run policy limit viewed)) at at) at.sink status trail (refl, nothing_lost at.source.bytes) one none
 unheard_for (Some (Sim seed n)) at status trail one none = starved (IsCauseFor (Some (Sim seed n)) at at) at.sink status trail (inr refl) one none
 unheard_for (Some (Drive a l n)) at status trail one none = starved (IsCauseFor (Some (Drive a l n)) at at) at.sink status trail (inr refl) one none
 unheard_for (Some (Log k)) at status trail one none = starved (IsCauseFor (Some (Log k)) at at) at.sink status trail refl one none

@@ -80,7 +80,7 @@ module _ (before now : Outside) (status : ℕ) (trail : List Record) where
       → (sub ≡ Some Audit) × HasReadInput before.source now.source (λ bytes. verdict bytes ≡ Rejected line reason said)
   rejects_at None line reason said cause = cc
   rejects_at (Some (Play operations)) line reason said cause = absurd cause
-  rejects_at (Some (Run policy limit)) line reason said cause = absurd cause
+  rejects_at (Some (Run policy limit viewed)) line reason said cause = absurd cause
   rejects_at (Some (Sim seed n)) line reason said cause = elim cause [ inl is ↦ cc | inr is ↦ cc ]
   rejects_at (Some (Drive a l n)) line reason said cause = elim cause [ inl is ↦ cc | inr is ↦ cc ]
   rejects_at (Some (Log k)) line reason said cause = absurd cause
@@ -118,7 +118,7 @@ module _ (before now : Outside) (status : ℕ) (trail : List Record) where
   audits_run DiskFails cause run told none_failed = absurd cause
   audits_run (Overflows size need) cause run told none_failed = absurd cause
   audits_run (Breaks place) cause run told none_failed = absurd cause
-  audits_run (Runs why config list) cause run told none_failed = absurd cause
+  audits_run (Runs why config list text) cause run told none_failed = absurd cause
   audits_run (Rejects line reason said) cause run told none_failed = absurd (clash (Rejects line reason said) (λ e. cc) told none_failed)
   audits_run (Upholds config events text) cause run told none_failed = upholds config events text cause run told none_failed
   audits_run Starved cause run told none_failed = absurd (clash Starved (λ e. cc) told none_failed)
@@ -135,7 +135,7 @@ module _ (before now : Outside) (status : ℕ) (trail : List Record) where
   audit_left DiskFails cause e = absurd cause
   audit_left (Overflows size need) cause e = absurd cause
   audit_left (Breaks place) cause e = absurd cause
-  audit_left (Runs why config list) cause e = absurd cause
+  audit_left (Runs why config list text) cause e = absurd cause
   audit_left (Rejects line reason said) cause e = cc
   audit_left (Upholds config events text) cause e =
       let ruled = cause.holds in
@@ -162,7 +162,7 @@ module _ (before now : Outside) (status : ℕ) (trail : List Record) where
   audit_completes DiskFails cause told holds read_well written_well = absurd cause
   audit_completes (Overflows size need) cause told holds read_well written_well = absurd cause
   audit_completes (Breaks place) cause told holds read_well written_well = absurd cause
-  audit_completes (Runs why config list) cause told holds read_well written_well = absurd cause
+  audit_completes (Runs why config list text) cause told holds read_well written_well = absurd cause
   audit_completes (Rejects line reason said) cause told holds read_well written_well = absurd (not_rejected line reason said cause holds)
   audit_completes (Upholds config events text) cause told holds read_well written_well = one_status before.sink now.sink text 0 5 status written_well told
   audit_completes Starved cause told holds read_well written_well = inr (starved_status before.sink now.sink [] status told)
@@ -184,7 +184,7 @@ module _ (before now : Outside) (status : ℕ) (trail : List Record) where
   audit_refuses DiskFails cause told holds read_well = absurd cause
   audit_refuses (Overflows size need) cause told holds read_well = absurd cause
   audit_refuses (Breaks place) cause told holds read_well = absurd cause
-  audit_refuses (Runs why config list) cause told holds read_well = absurd cause
+  audit_refuses (Runs why config list text) cause told holds read_well = absurd cause
   audit_refuses (Rejects line reason said) cause told holds read_well = same_status before.sink now.sink (text_of (Rejects line reason said)) 3 status told
   audit_refuses (Upholds config events text) cause told holds read_well =
       let ruled = cause.holds in

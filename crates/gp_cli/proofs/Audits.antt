@@ -80,7 +80,7 @@ input_cause before now bytes taken steady (Shows disk log) cause = cause
 input_cause before now bytes taken steady DiskFails cause = cause
 input_cause before now bytes taken steady (Overflows size need) cause = cause
 input_cause before now bytes taken steady (Breaks place) cause = cause
-input_cause before now bytes taken steady (Runs end config list) cause = cause
+input_cause before now bytes taken steady (Runs end config list text) cause = cause
 input_cause before now bytes taken steady (Rejects line reason said) cause = record { bytes = bytes; taken = taken; steady = steady; holds = cause }
 input_cause before now bytes taken steady (Upholds config events text) cause = record { bytes = bytes; taken = taken; steady = steady; holds = cause }
 input_cause before now bytes taken steady Starved cause = (steady, loses MOST_READ before.bytes now.bytes bytes taken)

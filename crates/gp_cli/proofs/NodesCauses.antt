@@ -32,8 +32,9 @@ use Rattle.gp_cli.specs.declared.runs.TheConstants.{MOST_READ}
 use Rattle.gp_cli.specs.declared.subcommand.Subcommand.{Subcommand}
 use Rattle.gp_cli.specs.declared.subcommand.Subcommand.TheVariants.{Run}
 use Rattle.gp_cli.specs.Outside.{Seen, seen, disks_seen, bytes_seen, faults_seen, Told}
-use Rattle.gp_cli.specs.Endings.{Ending, Misused, Unread, Refuses, Plays, Drives, Simulates, Shows, DiskFails, Overflows, Breaks, Runs, Rejects, Upholds, Starved}
-use Rattle.gp_cli.specs.Run.{SomeFailed, MayPostNothing, HasRun, IsOffersCause, IsNodesCause}
+use Rattle.gp_cli.specs.Endings.{Ending, Misused, Unread, Refuses, Plays, Drives, Simulates, Shows, DiskFails, Overflows, Breaks, Runs, Rejects, Upholds, Starved, end_text}
+use Rattle.gp_cli.specs.Run.{SomeFailed, MayPostNothing, IsEndText, HasRun, IsOffersCause, IsNodesCause}
+use Rattle.gp_cli.specs.Viewed.{TellsViewed}
 use Rattle.gp_cli.specs.Logs.{TellsEnding}
 use Rattle.gp_cli.specs.Serving.{EndsBy, EachDisk, KeepsUnused}
 use Rattle.gp_cli.specs.Trails.{records_in, trail_of, IsOfNodes}
@@ -96,17 +97,19 @@ module _ {D : Type 0} (content : D → Option (List ℕ)) (faults : D → ℕ) w
   not_learned why (inr is) learned = let both : end.Disk ≡ end.Learned = sym is ∙ learned in cc
 
   -- what nodes came to, by what they posted
-  pub has_run : (policy : RoundPolicy) (limit : ℕ) (offers : Offers) (old new : List D) (why : RunEnd) (posted : Option (List Record)) → IfSome posted (IsRunOf policy offers.config offers.list) → (posted ≡ None → MayPostNothing why)
+  pub has_run : (policy : RoundPolicy) (limit : ℕ) (viewed : Option (List ℕ)) (offers : Offers) (old new : List D) (why : RunEnd) (posted : Option (List Record)) → IfSome posted (IsRunOf policy offers.config offers.list) → (posted ≡ None → MayPostNothing why)
       → (why ≡ end.Learned → IfSome posted (HasLearnedAll offers.config offers.list)) → (why ≡ end.Learned → ¬ SomeRose faults old new → IfSome posted (IsQuietOrSettled policy offers.config offers.list))
       → EndCause faults offers.config limit old new posted why → (why ≡ end.Learned → IfSome posted (λ list. HoldParts content offers.config limit (entries_in list) new))
-      → HasRun policy limit (disks_seen content faults old) (disks_seen content faults new) offers why offers.config (records_in (trail_of posted))
-  has_run policy limit offers old new why None run none all quiet cause parts = record {
+      → (text : List ℕ) → IsEndText viewed why offers.config (records_in (trail_of posted)) text
+      → HasRun policy limit viewed (disks_seen content faults old) (disks_seen content faults new) offers why offers.config (records_in (trail_of posted)) text
+  has_run policy limit viewed offers old new why None run none all quiet cause parts text says = record {
     own_config = refl;
     posted = inr (refl, none refl);
     cause = cause_seen offers.config limit old new [] why (unposted_cause offers.config limit old new why (none refl) cause);
     learned = λ is. absurd (not_learned why (none refl) is);
+    says = says;
   }
-  has_run policy limit offers old new why (Some list) run none all quiet cause parts = record {
+  has_run policy limit viewed offers old new why (Some list) run none all quiet cause parts text says = record {
     own_config = refl;
     posted = inl run;
     cause = cause_seen offers.config limit old new list why cause;
@@ -115,7 +118,50 @@ module _ {D : Type 0} (content : D → Option (List ℕ)) (faults : D → ℕ) w
       quiet = λ well. quiet is (λ rose. well (rose_seen old new rose));
       parts = parts_seen offers.config limit (entries_in list) new (parts is);
     };
+    says = says;
   }
+
+  -- the same, where memory ran out in the end
+  pub has_starved : (policy : RoundPolicy) (limit : ℕ) (viewed : Option (List ℕ)) (offers : Offers) (old new : List D) (posted : Option (List Record)) → IfSome posted (IsRunOf policy offers.config offers.list)
+      → HasRun policy limit viewed (disks_seen content faults old) (disks_seen content faults new) offers end.NoMemory offers.config (records_in (trail_of posted)) []
+  has_starved policy limit viewed offers old new None run = record {
+    own_config = refl;
+    posted = inr (refl, inl refl);
+    cause = tt;
+    learned = λ is. absurd (not_learned end.NoMemory (inl refl) is);
+    says = refl;
+  }
+  has_starved policy limit viewed offers old new (Some list) run = record {
+    own_config = refl;
+    posted = inl run;
+    cause = tt;
+    learned = λ is. absurd (not_learned end.NoMemory (inl refl) is);
+    says = refl;
+  }
+
+  -- what nodes came to while readers viewed a key, as was told
+  pub has_viewed : (policy : RoundPolicy) (limit : ℕ) (key : List ℕ) (offers : Offers) (old new : List D) (posted : Option (List Record)) (before now : Seen) (status : ℕ) → IfSome posted (IsRunOf policy offers.config offers.list) → (why : RunEnd)
+      → ((text : List ℕ) → IsEndText (Some key) why offers.config (records_in (trail_of posted)) text → HasRun policy limit (Some key) (disks_seen content faults old) (disks_seen content faults new) offers why offers.config (records_in (trail_of posted)) text)
+      → (t : TellsViewed key why offers.config (records_in (trail_of posted)) before now status)
+      → HasRun policy limit (Some key) (disks_seen content faults old) (disks_seen content faults new) offers t.why offers.config (records_in (trail_of posted)) t.text
+  has_viewed policy limit key offers old new posted before now status run why has t = elim t.as_ended [
+    | inl is ↦
+        let Q : RunEnd → Type 0 = λ w. HasRun policy limit (Some key) (disks_seen content faults old) (disks_seen content faults new) offers w offers.config (records_in (trail_of posted)) t.text in
+        subst Q (sym is) (has t.text (subst (λ (w : RunEnd). IsEndText (Some key) w offers.config (records_in (trail_of posted)) t.text) is t.says))
+    | inr is ↦
+        let Q : RunEnd → Type 0 = λ w. HasRun policy limit (Some key) (disks_seen content faults old) (disks_seen content faults new) offers w offers.config (records_in (trail_of posted)) t.text in
+        let none : t.text ≡ [] = subst (λ (w : RunEnd). IsEndText (Some key) w offers.config (records_in (trail_of posted)) t.text) is t.says in
+        subst Q (sym is) (subst (λ (text : List ℕ). HasRun policy limit (Some key) (disks_seen content faults old) (disks_seen content faults new) offers end.NoMemory offers.config (records_in (trail_of posted)) text) (sym none) (has_starved policy limit (Some key) offers old new posted run))
+  ]
+
+-- what is printed where no key is viewed
+pub plain_text : (why : RunEnd) (config : Counts) (list : List Record) → IsEndText None why config list (end_text why config list)
+plain_text end.Learned config list = refl
+plain_text end.NoMemory config list = refl
+plain_text end.Disk config list = refl
+plain_text (end.Full size need) config list = refl
+plain_text (end.NotLog at) config list = refl
+plain_text end.Changed config list = refl
 
 -- what was posted is a legal run
 pub legal_trail : (policy : RoundPolicy) (offers : Offers) (posted : Option (List Record)) → IfSome posted (IsRunOf policy offers.config offers.list) → Legal offers.config (entries_in (records_in (trail_of posted)))
@@ -123,10 +169,10 @@ legal_trail policy offers None run = tt
 legal_trail policy offers (Some list) run = run.legal
 
 -- a run of nodes ended, as was told
-pub nodes_end : (policy : RoundPolicy) (limit : ℕ) (offers : Offers) (old new : List Seen) (why : RunEnd) (list : List Record) (before now : Seen) (status : ℕ) → 0 < offers.config.acceptors → Legal offers.config (entries_in list)
-    → HasRun policy limit old new offers why offers.config list → TellsEnding (Runs why offers.config list) before now status → EndsBy (IsOffersCause policy limit (Offered offers) old new) before now status list
-nodes_end policy limit offers old new why list before now status some legal has told = record {
-  ending = Runs why offers.config list;
+pub nodes_end : (policy : RoundPolicy) (limit : ℕ) (viewed : Option (List ℕ)) (offers : Offers) (old new : List Seen) (why : RunEnd) (list : List Record) (text : List ℕ) (before now : Seen) (status : ℕ) → 0 < offers.config.acceptors → Legal offers.config (entries_in list)
+    → HasRun policy limit viewed old new offers why offers.config list text → TellsEnding (Runs why offers.config list text) before now status → EndsBy (IsOffersCause policy limit viewed (Offered offers) old new) before now status list
+nodes_end policy limit viewed offers old new why list text before now status some legal has told = record {
+  ending = Runs why offers.config list text;
   cause = (offers, refl, has);
   run = refl;
   list = refl;
@@ -155,28 +201,28 @@ pub read_refused : (read : OffersReading) (why : UnreadScript) (line : ℕ) (rea
 read_refused read why line reason bad reads = let Q : UnreadScript → Type 0 = λ u. Reads read (Err u) in subst Q bad reads
 
 -- the cause by the script that was read is one by the source
-pub script_read : (policy : RoundPolicy) (limit : ℕ) (before now : Seen) (old new : List Seen) (bytes : List ℕ) → ReadsUpTo MOST_READ before.bytes now.bytes bytes → now.faults ≡ before.faults → (ending : Ending)
-    → IsOffersCause policy limit (offers_reading bytes) old new ending → IsNodesCause policy limit before now old new ending
-script_read policy limit before now old new bytes taken steady Misused cause = cause
-script_read policy limit before now old new bytes taken steady Unread cause = absurd cause
-script_read policy limit before now old new bytes taken steady (Refuses line reason said) cause = record { bytes = bytes; taken = taken; steady = steady; says = cause }
-script_read policy limit before now old new bytes taken steady (Plays operations config said) cause = cause
-script_read policy limit before now old new bytes taken steady (Drives config commands) cause = cause
-script_read policy limit before now old new bytes taken steady (Simulates seed commands) cause = cause
-script_read policy limit before now old new bytes taken steady (Shows disk log) cause = cause
-script_read policy limit before now old new bytes taken steady DiskFails cause = cause
-script_read policy limit before now old new bytes taken steady (Overflows size need) cause = cause
-script_read policy limit before now old new bytes taken steady (Breaks place) cause = cause
-script_read policy limit before now old new bytes taken steady (Runs why config list) cause = record { bytes = bytes; taken = taken; steady = steady; says = cause }
-script_read policy limit before now old new bytes taken steady (Rejects line reason said) cause = cause
-script_read policy limit before now old new bytes taken steady (Upholds config events text) cause = cause
-script_read policy limit before now old new bytes taken steady Starved cause = (steady, loses MOST_READ before.bytes now.bytes bytes taken)
+pub script_read : (policy : RoundPolicy) (limit : ℕ) (viewed : Option (List ℕ)) (before now : Seen) (old new : List Seen) (bytes : List ℕ) → ReadsUpTo MOST_READ before.bytes now.bytes bytes → now.faults ≡ before.faults → (ending : Ending)
+    → IsOffersCause policy limit viewed (offers_reading bytes) old new ending → IsNodesCause policy limit viewed before now old new ending
+script_read policy limit viewed before now old new bytes taken steady Misused cause = cause
+script_read policy limit viewed before now old new bytes taken steady Unread cause = absurd cause
+script_read policy limit viewed before now old new bytes taken steady (Refuses line reason said) cause = record { bytes = bytes; taken = taken; steady = steady; says = cause }
+script_read policy limit viewed before now old new bytes taken steady (Plays operations config said) cause = cause
+script_read policy limit viewed before now old new bytes taken steady (Drives config commands) cause = cause
+script_read policy limit viewed before now old new bytes taken steady (Simulates seed commands) cause = cause
+script_read policy limit viewed before now old new bytes taken steady (Shows disk log) cause = cause
+script_read policy limit viewed before now old new bytes taken steady DiskFails cause = cause
+script_read policy limit viewed before now old new bytes taken steady (Overflows size need) cause = cause
+script_read policy limit viewed before now old new bytes taken steady (Breaks place) cause = cause
+script_read policy limit viewed before now old new bytes taken steady (Runs why config list text) cause = record { bytes = bytes; taken = taken; steady = steady; says = cause }
+script_read policy limit viewed before now old new bytes taken steady (Rejects line reason said) cause = cause
+script_read policy limit viewed before now old new bytes taken steady (Upholds config events text) cause = cause
+script_read policy limit viewed before now old new bytes taken steady Starved cause = (steady, loses MOST_READ before.bytes now.bytes bytes taken)
 
-pub script_ends : (policy : RoundPolicy) (limit : ℕ) (rest left before now : Seen) (old new : List Seen) (status : ℕ) (trail : List Record) (bytes script : List ℕ) → script ≡ bytes → ReadsUpTo MOST_READ rest.bytes left.bytes bytes → left.faults ≡ rest.faults
-    → EndsBy (IsOffersCause policy limit (offers_reading script) old new) before now status trail → EndsBy (IsNodesCause policy limit rest left old new) before now status trail
-script_ends policy limit rest left before now old new status trail bytes script same taken steady ends =
-    let Q : List ℕ → Type 0 = λ b. EndsBy (IsOffersCause policy limit (offers_reading b) old new) before now status trail in
-    because (IsOffersCause policy limit (offers_reading bytes) old new) (IsNodesCause policy limit rest left old new) before now status trail (script_read policy limit rest left old new bytes taken steady) (subst Q same ends)
+pub script_ends : (policy : RoundPolicy) (limit : ℕ) (viewed : Option (List ℕ)) (rest left before now : Seen) (old new : List Seen) (status : ℕ) (trail : List Record) (bytes script : List ℕ) → script ≡ bytes → ReadsUpTo MOST_READ rest.bytes left.bytes bytes → left.faults ≡ rest.faults
+    → EndsBy (IsOffersCause policy limit viewed (offers_reading script) old new) before now status trail → EndsBy (IsNodesCause policy limit viewed rest left old new) before now status trail
+script_ends policy limit viewed rest left before now old new status trail bytes script same taken steady ends =
+    let Q : List ℕ → Type 0 = λ b. EndsBy (IsOffersCause policy limit viewed (offers_reading b) old new) before now status trail in
+    because (IsOffersCause policy limit viewed (offers_reading bytes) old new) (IsNodesCause policy limit viewed rest left old new) before now status trail (script_read policy limit viewed rest left old new bytes taken steady) (subst Q same ends)
 
 -- ---- the disks
 
@@ -200,20 +246,20 @@ module _ {D : Type 0} where
   }
 
   -- the disks of no node
-  pub nodes_keep : (policy : RoundPolicy) (limit : ℕ) (offers : Offers) (before now : List Seen) (why : RunEnd) (list : List Record) (faults : D → ℕ) (old new : List D) → HasRun policy limit before now offers why offers.config list
-      → KeepsOthers offers.config old new → NoneFell faults old new → KeepsUnused (Some (Run policy limit)) (IsOffersCause policy limit (Offered offers) before now) old new
-  nodes_keep policy limit offers before now why list faults old new has others none_fell = record {
-    ending = Runs why offers.config list;
+  pub nodes_keep : (policy : RoundPolicy) (limit : ℕ) (viewed : Option (List ℕ)) (offers : Offers) (before now : List Seen) (why : RunEnd) (list : List Record) (text : List ℕ) (faults : D → ℕ) (old new : List D) → HasRun policy limit viewed before now offers why offers.config list text
+      → KeepsOthers offers.config old new → NoneFell faults old new → KeepsUnused (Some (Run policy limit viewed)) (IsOffersCause policy limit viewed (Offered offers) before now) old new
+  nodes_keep policy limit viewed offers before now why list text faults old new has others none_fell = record {
+    ending = Runs why offers.config list text;
     cause = (offers, refl, has);
     count = AllZip-long (λ was is. faults was ≤ faults is) old new none_fell;
     unused = others;
   }
 
-  pub script_keeps : (policy : RoundPolicy) (limit : ℕ) (rest left : Seen) (before now : List Seen) (old new : List D) (bytes script : List ℕ) → script ≡ bytes → ReadsUpTo MOST_READ rest.bytes left.bytes bytes → left.faults ≡ rest.faults
-      → KeepsUnused (Some (Run policy limit)) (IsOffersCause policy limit (offers_reading script) before now) old new → KeepsUnused (Some (Run policy limit)) (IsNodesCause policy limit rest left before now) old new
-  script_keeps policy limit rest left before now old new bytes script same taken steady kept =
-      let Q : List ℕ → Type 0 = λ b. KeepsUnused (Some (Run policy limit)) (IsOffersCause policy limit (offers_reading b) before now) old new in
-      kept_because (Some (Run policy limit)) (IsOffersCause policy limit (offers_reading bytes) before now) (IsNodesCause policy limit rest left before now) old new (script_read policy limit rest left before now bytes taken steady) (subst Q same kept)
+  pub script_keeps : (policy : RoundPolicy) (limit : ℕ) (viewed : Option (List ℕ)) (rest left : Seen) (before now : List Seen) (old new : List D) (bytes script : List ℕ) → script ≡ bytes → ReadsUpTo MOST_READ rest.bytes left.bytes bytes → left.faults ≡ rest.faults
+      → KeepsUnused (Some (Run policy limit viewed)) (IsOffersCause policy limit viewed (offers_reading script) before now) old new → KeepsUnused (Some (Run policy limit viewed)) (IsNodesCause policy limit viewed rest left before now) old new
+  script_keeps policy limit viewed rest left before now old new bytes script same taken steady kept =
+      let Q : List ℕ → Type 0 = λ b. KeepsUnused (Some (Run policy limit viewed)) (IsOffersCause policy limit viewed (offers_reading b) before now) old new in
+      kept_because (Some (Run policy limit viewed)) (IsOffersCause policy limit viewed (offers_reading bytes) before now) (IsNodesCause policy limit viewed rest left before now) old new (script_read policy limit viewed rest left before now bytes taken steady) (subst Q same kept)
 
   -- what holds place by place
   pub each_of : (P : D → D → Type 0) (old new : List D) → AllZip P old new → EachDisk P old new

@@ -6,7 +6,6 @@ use Rattle.gp_msg.specs.declared.record.Record.{Record}
 use Rattle.gp_run.specs.Runs.{entries_in}
 use Rattle.gp_edge.specs.Faults.{Rose}
 use Rattle.gp_edge.specs.Reads.{ReadsUpTo}
-use Rattle.gp_edge.specs.Writes.{AppendsWhole}
 use Rattle.gp_text.specs.Reading.{run_before}
 use Rattle.gp_text.proofs.ShortScripts.{script_short}
 use Rattle.gp_offers.specs.declared.script.Offers.{Offers}
@@ -17,15 +16,14 @@ use Rattle.gp_ending.specs.declared.ends.RunEnd.{RunEnd}
 use Rattle.gp_ending.specs.declared.ends.RunEnd.TheVariants as end
 use Rattle.gp_cluster.specs.declared.policy.RoundPolicy.{RoundPolicy}
 use Rattle.gp_cluster.specs.Runs.{IsRunOf, IsOverLimit}
-use Rattle.gp_retelling.specs.Texts.{run_text}
 use Rattle.gp_cli.specs.declared.runs.TheConstants.{MOST_READ}
 use Rattle.gp_cli.specs.declared.subcommand.Subcommand.{Subcommand}
 use Rattle.gp_cli.specs.declared.subcommand.Subcommand.TheVariants.{Play, Run, Sim, Drive, Log, Upgrade, Audit}
 use Rattle.gp_cli.specs.Subcommands.{named}
-use Rattle.gp_cli.specs.Outside.{Seen, Outside}
+use Rattle.gp_cli.specs.Outside.{Seen, Outside, Told}
 use Rattle.gp_cli.specs.Endings.{Ending, Misused, Unread, Refuses, Plays, Drives, Simulates, Shows, DiskFails, Overflows, Breaks, Runs, Rejects, Upholds, Starved, status_of, text_of, run_to}
 use Rattle.gp_cli.specs.Causes.{IsRunCause, IsCauseFor, driven_config}
-use Rattle.gp_cli.specs.Run.{SomeFailed, MayPostNothing, ArePosted, HasLearned, HasRun, IsOffersCause, HasReadOffers}
+use Rattle.gp_cli.specs.Run.{SomeFailed, MayPostNothing, ArePosted, HasLearned, IsLearnedText, HasRun, IsOffersCause, HasReadOffers}
 use Rattle.gp_cli.specs.Logs.{TellsEnding}
 use Rattle.gp_cli.specs.Serving.{IsListOf}
 use Rattle.gp_cli.specs.NodesRuns.{HoldsOffers, HoldsBadOffers, OffersAll, PrintsNodes, FillsLog, LosesLog, HasRoomForNext, TellsChange, DiskFailed}
@@ -45,38 +43,38 @@ module _ (before now : Outside) (status : ℕ) (trail : List Record) where
   Tells ending = TellsEnding ending before.sink now.sink status
 
   -- nodes offered what a script says, and ended so
-  pub record NodesRan (policy : RoundPolicy) (limit : ℕ) (why : RunEnd) (config : Counts) (list : List Record) : Type 0 where
+  pub record NodesRan (policy : RoundPolicy) (limit : ℕ) (viewed : Option (List ℕ)) (why : RunEnd) (config : Counts) (list : List Record) (text : List ℕ) : Type 0 where
     pub offers : Offers
     pub read : HasReadOffers before.source now.source (λ read. read ≡ Offered offers)
-    pub has : HasRun policy limit before.disks now.disks offers why config list
+    pub has : HasRun policy limit viewed before.disks now.disks offers why config list text
 
-  pub nodes_ran : (policy : RoundPolicy) (limit : ℕ) (why : RunEnd) (config : Counts) (list : List Record) → HasReadOffers before.source now.source (λ read. IsOffersCause policy limit read before.disks now.disks (Runs why config list)) → NodesRan policy limit why config list
-  nodes_ran policy limit why config list r = let said = r.says in record {
+  pub nodes_ran : (policy : RoundPolicy) (limit : ℕ) (viewed : Option (List ℕ)) (why : RunEnd) (config : Counts) (list : List Record) (text : List ℕ) → HasReadOffers before.source now.source (λ read. IsOffersCause policy limit viewed read before.disks now.disks (Runs why config list text)) → NodesRan policy limit viewed why config list text
+  nodes_ran policy limit viewed why config list text r = let said = r.says in record {
     offers = said.0;
     read = record { bytes = r.bytes; taken = r.taken; steady = r.steady; says = said.1 };
     has = said.2;
   }
 
   -- no nodes run for a run that is made as it should be, or is not made
-  no_nodes : (meant : Ending) (why : RunEnd) (config : Counts) (list : List Record) → ¬ (Runs why config list ≡ meant) → IsRunCause meant (Runs why config list) → ⊥
-  no_nodes meant why config list other (inl is) = other is
-  no_nodes meant why config list other (inr is) = cc
+  no_nodes : (meant : Ending) (why : RunEnd) (config : Counts) (list : List Record) (text : List ℕ) → ¬ (Runs why config list text ≡ meant) → IsRunCause meant (Runs why config list text) → ⊥
+  no_nodes meant why config list text other (inl is) = other is
+  no_nodes meant why config list text other (inr is) = cc
 
   -- only `run` has nodes that run
-  run_alone : (sub : Option Subcommand) (why : RunEnd) (config : Counts) (list : List Record) → IsCauseFor sub before now (Runs why config list) → (policy : RoundPolicy) × (limit : ℕ) × (sub ≡ Some (Run policy limit))
-  run_alone None why config list cause = cc
-  run_alone (Some (Play operations)) why config list cause = absurd cause
-  run_alone (Some (Run policy limit)) why config list cause = (policy, limit, refl)
-  run_alone (Some (Sim seed n)) why config list cause = absurd (no_nodes (Simulates seed n) why config list (λ e. cc) cause)
-  run_alone (Some (Drive a l n)) why config list cause = absurd (no_nodes (Drives (driven_config a l) n) why config list (λ e. cc) cause)
-  run_alone (Some (Log k)) why config list cause = absurd cause
-  run_alone (Some (Upgrade k)) why config list cause = absurd cause
-  run_alone (Some Audit) why config list cause = absurd cause
+  run_alone : (sub : Option Subcommand) (why : RunEnd) (config : Counts) (list : List Record) (text : List ℕ) → IsCauseFor sub before now (Runs why config list text) → (policy : RoundPolicy) × (limit : ℕ) × (viewed : Option (List ℕ)) × (sub ≡ Some (Run policy limit viewed))
+  run_alone None why config list text cause = cc
+  run_alone (Some (Play operations)) why config list text cause = absurd cause
+  run_alone (Some (Run policy limit viewed)) why config list text cause = (policy, limit, viewed, refl)
+  run_alone (Some (Sim seed n)) why config list text cause = absurd (no_nodes (Simulates seed n) why config list text (λ e. cc) cause)
+  run_alone (Some (Drive a l n)) why config list text cause = absurd (no_nodes (Drives (driven_config a l) n) why config list text (λ e. cc) cause)
+  run_alone (Some (Log k)) why config list text cause = absurd cause
+  run_alone (Some (Upgrade k)) why config list text cause = absurd cause
+  run_alone (Some Audit) why config list text cause = absurd cause
 
-  pub ran_by : (sub : Option Subcommand) (why : RunEnd) (config : Counts) (list : List Record) → IsCauseFor sub before now (Runs why config list) → (policy : RoundPolicy) × (limit : ℕ) × (sub ≡ Some (Run policy limit)) × NodesRan policy limit why config list
-  ran_by sub why config list cause =
-      let is = run_alone sub why config list cause in
-      (is.0, is.1, is.2, nodes_ran is.0 is.1 why config list (subst (λ (s : Option Subcommand). IsCauseFor s before now (Runs why config list)) is.2 cause))
+  pub ran_by : (sub : Option Subcommand) (why : RunEnd) (config : Counts) (list : List Record) (text : List ℕ) → IsCauseFor sub before now (Runs why config list text) → (policy : RoundPolicy) × (limit : ℕ) × (viewed : Option (List ℕ)) × (sub ≡ Some (Run policy limit viewed)) × NodesRan policy limit viewed why config list text
+  ran_by sub why config list text cause =
+      let is = run_alone sub why config list text cause in
+      (is.0, is.1, is.2, is.3, nodes_ran is.0 is.1 is.2 why config list text (subst (λ (s : Option Subcommand). IsCauseFor s before now (Runs why config list text)) is.3 cause))
 
   -- a list was posted, if it is no want of memory and no disk failed
   must_post : (policy : RoundPolicy) (offers : Offers) (why : RunEnd) (list : List Record) → ¬ MayPostNothing why → ArePosted policy offers why list → IsRunOf policy offers.config offers.list list
@@ -99,16 +97,16 @@ module _ (before now : Outside) (status : ℕ) (trail : List Record) where
       }
 
   -- the offers of a run whose list was posted
-  whole_run : (policy : RoundPolicy) (limit : ℕ) (why : RunEnd) (config : Counts) (list : List Record) (n : NodesRan policy limit why config list) → ¬ MayPostNothing why → trail ≡ list → OffersAll policy before now trail n.offers
-  whole_run policy limit why config list n not same =
+  whole_run : (policy : RoundPolicy) (limit : ℕ) (viewed : Option (List ℕ)) (why : RunEnd) (config : Counts) (list : List Record) (text : List ℕ) (n : NodesRan policy limit viewed why config list text) → ¬ MayPostNothing why → trail ≡ list → OffersAll policy before now trail n.offers
+  whole_run policy limit viewed why config list text n not same =
       let offers = n.offers in
       let has = n.has in
       let run : IsRunOf policy offers.config offers.list list = must_post policy offers why list not has.posted in
       offers_all policy offers n.read (subst (IsRunOf policy offers.config offers.list) (sym same) run)
 
   -- with status 0, 5, 6, 7 and 8 the script was read to its end
-  pub script_left : (policy : RoundPolicy) (limit : ℕ) (why : RunEnd) (config : Counts) (list : List Record) → NodesRan policy limit why config list → IfSome now.source.bytes (λ rest. rest ≡ [])
-  script_left policy limit why config list n =
+  pub script_left : (policy : RoundPolicy) (limit : ℕ) (viewed : Option (List ℕ)) (why : RunEnd) (config : Counts) (list : List Record) (text : List ℕ) → NodesRan policy limit viewed why config list text → IfSome now.source.bytes (λ rest. rest ≡ [])
+  script_left policy limit viewed why config list text n =
       let read = n.read in
       let played = script_alone read.bytes n.offers read.says in
       nothing_left before.source.bytes now.source.bytes read.bytes read.taken (script_short read.bytes n.offers.config (offers_alone n.offers.list) played.alone)
@@ -118,195 +116,202 @@ module _ (before now : Outside) (status : ℕ) (trail : List Record) where
   clash : (ending : Ending) → (status_of ending ≡ 0 → ⊥) → Tells ending → status ≡ 0 → ⊥
   clash ending never_well told none_failed = never_well (done ending before.sink now.sink status told none_failed).well
 
-  printed : (policy : RoundPolicy) (limit : ℕ) (config : Counts) (list : List Record) → NodesRan policy limit end.Learned config list → trail ≡ list → Tells (Runs end.Learned config list) → status ≡ 0 → PrintsNodes policy limit before now trail
-  printed policy limit config list n same told none_failed =
+  printed : (policy : RoundPolicy) (limit : ℕ) (viewed : Option (List ℕ)) (config : Counts) (list : List Record) (text : List ℕ) → NodesRan policy limit viewed end.Learned config list text → trail ≡ list → Tells (Runs end.Learned config list text) → status ≡ 0 → PrintsNodes policy limit viewed before now trail
+  printed policy limit viewed config list text n same told none_failed =
       let offers = n.offers in
       let has = n.has in
       let not : ¬ MayPostNothing end.Learned = λ m. elim m [ inl is ↦ cc | inr is ↦ cc ] in
-      let whole = done (Runs end.Learned config list) before.sink now.sink status told none_failed in
+      let whole = done (Runs end.Learned config list text) before.sink now.sink status told none_failed in
       let learned : HasLearned policy limit before.disks now.disks offers list = has.learned refl in
-      let text : run_text config list ≡ run_text offers.config trail = ap (λ (c : Counts). run_text c list) has.own_config ∙ ap (run_text offers.config) (sym same) in
+      let says : IsLearnedText viewed offers.config list text = subst (λ (c : Counts). IsLearnedText viewed c list text) has.own_config has.says in
       record {
         offers = offers;
-        whole = whole_run policy limit end.Learned config list n not same;
+        whole = whole_run policy limit viewed end.Learned config list text n not same;
         learned = subst (HasLearned policy limit before.disks now.disks offers) (sym same) learned;
         steady = whole.steady;
-        written = subst (AppendsWhole before.sink.bytes now.sink.bytes) text whole.written;
+        text = text;
+        says = subst (λ (rs : List Record). IsLearnedText viewed offers.config rs text) (sym same) says;
+        written = whole.written;
       }
 
-  pub prints_nodes : (policy : RoundPolicy) (limit : ℕ) (ending : Ending) → IsCauseFor (Some (Run policy limit)) before now ending → IsListOf ending trail → Tells ending → status ≡ 0 → PrintsNodes policy limit before now trail
-  prints_nodes policy limit Misused cause list told none_failed = absurd cause
-  prints_nodes policy limit Unread cause list told none_failed = absurd (clash Unread (λ e. cc) told none_failed)
-  prints_nodes policy limit (Refuses line reason said) cause list told none_failed = absurd (clash (Refuses line reason said) (λ e. cc) told none_failed)
-  prints_nodes policy limit (Plays operations config said) cause list told none_failed = absurd cause
-  prints_nodes policy limit (Drives config n) cause list told none_failed = absurd cause
-  prints_nodes policy limit (Simulates seed n) cause list told none_failed = absurd cause
-  prints_nodes policy limit (Shows k log) cause list told none_failed = absurd cause
-  prints_nodes policy limit DiskFails cause list told none_failed = absurd cause
-  prints_nodes policy limit (Overflows size need) cause list told none_failed = absurd cause
-  prints_nodes policy limit (Breaks place) cause list told none_failed = absurd cause
-  prints_nodes policy limit (Runs end.Learned config records) cause list told none_failed = printed policy limit config records (nodes_ran policy limit end.Learned config records cause) list told none_failed
-  prints_nodes policy limit (Runs end.NoMemory config records) cause list told none_failed = absurd (clash (Runs end.NoMemory config records) (λ e. cc) told none_failed)
-  prints_nodes policy limit (Runs end.Disk config records) cause list told none_failed = absurd (clash (Runs end.Disk config records) (λ e. cc) told none_failed)
-  prints_nodes policy limit (Runs (end.Full size need) config records) cause list told none_failed = absurd (clash (Runs (end.Full size need) config records) (λ e. cc) told none_failed)
-  prints_nodes policy limit (Runs (end.NotLog at) config records) cause list told none_failed = absurd (clash (Runs (end.NotLog at) config records) (λ e. cc) told none_failed)
-  prints_nodes policy limit (Runs end.Changed config records) cause list told none_failed = absurd (clash (Runs end.Changed config records) (λ e. cc) told none_failed)
-  prints_nodes policy limit (Rejects line reason said) cause list told none_failed = absurd cause
-  prints_nodes policy limit (Upholds config events text) cause list told none_failed = absurd cause
-  prints_nodes policy limit Starved cause list told none_failed = absurd (clash Starved (λ e. cc) told none_failed)
+  pub prints_nodes : (policy : RoundPolicy) (limit : ℕ) (viewed : Option (List ℕ)) (ending : Ending) → IsCauseFor (Some (Run policy limit viewed)) before now ending → IsListOf ending trail → Tells ending → status ≡ 0 → PrintsNodes policy limit viewed before now trail
+  prints_nodes policy limit viewed Misused cause list told none_failed = absurd cause
+  prints_nodes policy limit viewed Unread cause list told none_failed = absurd (clash Unread (λ e. cc) told none_failed)
+  prints_nodes policy limit viewed (Refuses line reason said) cause list told none_failed = absurd (clash (Refuses line reason said) (λ e. cc) told none_failed)
+  prints_nodes policy limit viewed (Plays operations config said) cause list told none_failed = absurd cause
+  prints_nodes policy limit viewed (Drives config n) cause list told none_failed = absurd cause
+  prints_nodes policy limit viewed (Simulates seed n) cause list told none_failed = absurd cause
+  prints_nodes policy limit viewed (Shows k log) cause list told none_failed = absurd cause
+  prints_nodes policy limit viewed DiskFails cause list told none_failed = absurd cause
+  prints_nodes policy limit viewed (Overflows size need) cause list told none_failed = absurd cause
+  prints_nodes policy limit viewed (Breaks place) cause list told none_failed = absurd cause
+  prints_nodes policy limit viewed (Runs end.Learned config records text) cause list told none_failed = printed policy limit viewed config records text (nodes_ran policy limit viewed end.Learned config records text cause) list told none_failed
+  prints_nodes policy limit viewed (Runs end.NoMemory config records text) cause list told none_failed = absurd (clash (Runs end.NoMemory config records text) (λ e. cc) told none_failed)
+  prints_nodes policy limit viewed (Runs end.Disk config records text) cause list told none_failed = absurd (clash (Runs end.Disk config records text) (λ e. cc) told none_failed)
+  prints_nodes policy limit viewed (Runs (end.Full size need) config records text) cause list told none_failed = absurd (clash (Runs (end.Full size need) config records text) (λ e. cc) told none_failed)
+  prints_nodes policy limit viewed (Runs (end.NotLog at) config records text) cause list told none_failed = absurd (clash (Runs (end.NotLog at) config records text) (λ e. cc) told none_failed)
+  prints_nodes policy limit viewed (Runs end.Changed config records text) cause list told none_failed = absurd (clash (Runs end.Changed config records text) (λ e. cc) told none_failed)
+  prints_nodes policy limit viewed (Rejects line reason said) cause list told none_failed = absurd cause
+  prints_nodes policy limit viewed (Upholds config events text) cause list told none_failed = absurd cause
+  prints_nodes policy limit viewed Starved cause list told none_failed = absurd (clash Starved (λ e. cc) told none_failed)
 
   -- ---- status 6, 7 and 8
 
-  pub ran_to_fault : (sub : Option Subcommand) (config : Counts) (list : List Record) → IsCauseFor sub before now (Runs end.Disk config list) → DiskFailed sub before now
-  ran_to_fault sub config list cause =
-      let by = ran_by sub end.Disk config list cause in
-      let n = by.3 in
+  pub ran_to_fault : (sub : Option Subcommand) (config : Counts) (list : List Record) (text : List ℕ) → IsCauseFor sub before now (Runs end.Disk config list text) → DiskFailed sub before now
+  ran_to_fault sub config list text cause =
+      let by = ran_by sub end.Disk config list text cause in
+      let n = by.4 in
       let has = n.has in
-      subst (λ (s : Option Subcommand). DiskFailed s before now) (sym by.2) has.cause
+      subst (λ (s : Option Subcommand). DiskFailed s before now) (sym by.3) has.cause
 
-  pub fills_log : (words : List (List ℕ)) (size need : ℕ) (config : Counts) (list : List Record) → IsCauseFor (named words) before now (Runs (end.Full size need) config list) → trail ≡ list → Tells (Runs (end.Full size need) config list)
+  pub fills_log : (words : List (List ℕ)) (size need : ℕ) (config : Counts) (list : List Record) (text : List ℕ) → IsCauseFor (named words) before now (Runs (end.Full size need) config list text) → trail ≡ list → Tells (Runs (end.Full size need) config list text)
       → FillsLog words before now status trail
-  fills_log words size need config list cause same told =
-      let by = ran_by (named words) (end.Full size need) config list cause in
+  fills_log words size need config list text cause same told =
+      let by = ran_by (named words) (end.Full size need) config list text cause in
       let policy = by.0 in
       let limit = by.1 in
-      let n = by.3 in
+      let viewed = by.2 in
+      let n = by.4 in
       let has = n.has in
       let not : ¬ MayPostNothing (end.Full size need) = λ m. elim m [ inl is ↦ cc | inr is ↦ cc ] in
       let over : IsOverLimit config limit (entries_in list) size need = has.cause in
       record {
         policy = policy;
         limit = limit;
-        is_run = by.2;
+        viewed = viewed;
+        is_run = by.3;
         offers = n.offers;
-        whole = whole_run policy limit (end.Full size need) config list n not same;
+        whole = whole_run policy limit viewed (end.Full size need) config list text n not same;
         size = size;
         need = need;
         over = subst (λ (c : Counts). IsOverLimit c limit (entries_in trail) size need) has.own_config (subst (λ (rs : List Record). IsOverLimit config limit (entries_in rs) size need) (sym same) over);
-        told = told;
+        told = subst (λ (t : List ℕ). Told before.sink now.sink t 7 7 status) has.says told;
       }
 
-  loses : (words : List (List ℕ)) (why : RunEnd) (config : Counts) (list : List Record) (policy : RoundPolicy) (limit : ℕ) → named words ≡ Some (Run policy limit) → NodesRan policy limit why config list → ¬ MayPostNothing why → trail ≡ list → SomeFailed before.disks now.disks → TellsChange before now status
+  loses : (words : List (List ℕ)) (why : RunEnd) (config : Counts) (list : List Record) (text : List ℕ) (policy : RoundPolicy) (limit : ℕ) (viewed : Option (List ℕ)) → named words ≡ Some (Run policy limit viewed) → NodesRan policy limit viewed why config list text → ¬ MayPostNothing why → trail ≡ list → SomeFailed before.disks now.disks → TellsChange before now status
       → LosesLog words before now status trail
-  loses words why config list policy limit is n not same failed told = record {
+  loses words why config list text policy limit viewed is n not same failed told = record {
     policy = policy;
     limit = limit;
+    viewed = viewed;
     is_run = is;
     offers = n.offers;
-    whole = whole_run policy limit why config list n not same;
+    whole = whole_run policy limit viewed why config list text n not same;
     failed = failed;
     told = told;
   }
 
-  pub breaks_log : (words : List (List ℕ)) (at : ℕ) (config : Counts) (list : List Record) → IsCauseFor (named words) before now (Runs (end.NotLog at) config list) → trail ≡ list → Tells (Runs (end.NotLog at) config list) → LosesLog words before now status trail
-  breaks_log words at config list cause same told =
-      let by = ran_by (named words) (end.NotLog at) config list cause in
-      let n = by.3 in
+  pub breaks_log : (words : List (List ℕ)) (at : ℕ) (config : Counts) (list : List Record) (text : List ℕ) → IsCauseFor (named words) before now (Runs (end.NotLog at) config list text) → trail ≡ list → Tells (Runs (end.NotLog at) config list text) → LosesLog words before now status trail
+  breaks_log words at config list text cause same told =
+      let by = ran_by (named words) (end.NotLog at) config list text cause in
+      let n = by.4 in
       let has = n.has in
-      loses words (end.NotLog at) config list by.0 by.1 by.2 n (λ m. elim m [ inl is ↦ cc | inr is ↦ cc ]) same has.cause (inl (at, told))
+      loses words (end.NotLog at) config list text by.0 by.1 by.2 by.3 n (λ m. elim m [ inl is ↦ cc | inr is ↦ cc ]) same has.cause (inl (at, subst (λ (t : List ℕ). Told before.sink now.sink t 8 8 status) has.says told))
 
-  pub changes_log : (words : List (List ℕ)) (config : Counts) (list : List Record) → IsCauseFor (named words) before now (Runs end.Changed config list) → trail ≡ list → Tells (Runs end.Changed config list) → LosesLog words before now status trail
-  changes_log words config list cause same told =
-      let by = ran_by (named words) end.Changed config list cause in
-      let n = by.3 in
+  pub changes_log : (words : List (List ℕ)) (config : Counts) (list : List Record) (text : List ℕ) → IsCauseFor (named words) before now (Runs end.Changed config list text) → trail ≡ list → Tells (Runs end.Changed config list text) → LosesLog words before now status trail
+  changes_log words config list text cause same told =
+      let by = ran_by (named words) end.Changed config list text cause in
+      let n = by.4 in
       let has = n.has in
-      loses words end.Changed config list by.0 by.1 by.2 n (λ m. elim m [ inl is ↦ cc | inr is ↦ cc ]) same has.cause (inr told)
+      loses words end.Changed config list text by.0 by.1 by.2 by.3 n (λ m. elim m [ inl is ↦ cc | inr is ↦ cc ]) same has.cause (inr (subst (λ (t : List ℕ). Told before.sink now.sink t 8 8 status) has.says told))
 
   -- ---- completeness
 
   offers_one : (offers other : Offers) → HoldsOffers offers before.source → HasReadOffers before.source now.source (λ read. read ≡ Offered other) → other ≡ offers
   offers_one offers other (rest, is, says) read = let both : Offered other ≡ Offered offers = sym (offers_are before.source now.source rest (Offered other) is read) ∙ says in cc
 
-  ran_completes : (policy : RoundPolicy) (limit : ℕ) (offers : Offers) (why : RunEnd) (config : Counts) (list : List Record) → NodesRan policy limit why config list → trail ≡ list → Tells (Runs why config list) → HoldsOffers offers before.source
+  ran_completes : (policy : RoundPolicy) (limit : ℕ) (viewed : Option (List ℕ)) (offers : Offers) (why : RunEnd) (config : Counts) (list : List Record) (text : List ℕ) → NodesRan policy limit viewed why config list text → trail ≡ list → Tells (Runs why config list text) → HoldsOffers offers before.source
       → ¬ Rose before.sink.faults now.sink.faults → ¬ SomeFailed before.disks now.disks → HasRoomForNext offers.config limit trail → (status ≡ 0) ⊎ (status ≡ 1)
-  ran_completes policy limit offers end.Learned config list n same told holds written_well disks_well room = one_status before.sink now.sink (text_of (Runs end.Learned config list)) 0 5 status written_well told
-  ran_completes policy limit offers end.NoMemory config list n same told holds written_well disks_well room = inr (starved_status before.sink now.sink [] status told)
-  ran_completes policy limit offers end.Disk config list n same told holds written_well disks_well room = let has = n.has in absurd (disks_well has.cause)
-  ran_completes policy limit offers (end.Full size need) config list n same told holds written_well disks_well room =
+  ran_completes policy limit viewed offers end.Learned config list text n same told holds written_well disks_well room = one_status before.sink now.sink (text_of (Runs end.Learned config list text)) 0 5 status written_well told
+  ran_completes policy limit viewed offers end.NoMemory config list text n same told holds written_well disks_well room =
+      let has = n.has in
+      inr (starved_status before.sink now.sink [] status (subst (λ (t : List ℕ). Told before.sink now.sink t 1 1 status) has.says told))
+  ran_completes policy limit viewed offers end.Disk config list text n same told holds written_well disks_well room = let has = n.has in absurd (disks_well has.cause)
+  ran_completes policy limit viewed offers (end.Full size need) config list text n same told holds written_well disks_well room =
       let has = n.has in
       let own : config ≡ offers.config = has.own_config ∙ ap (λ (o : Offers). o.config) (offers_one offers n.offers holds n.read) in
       let over : IsOverLimit config limit (entries_in list) size need = has.cause in
       absurd (room size need (subst (λ (c : Counts). IsOverLimit c limit (entries_in trail) size need) own (subst (λ (rs : List Record). IsOverLimit config limit (entries_in rs) size need) (sym same) over)))
-  ran_completes policy limit offers (end.NotLog at) config list n same told holds written_well disks_well room = let has = n.has in absurd (disks_well has.cause)
-  ran_completes policy limit offers end.Changed config list n same told holds written_well disks_well room = let has = n.has in absurd (disks_well has.cause)
+  ran_completes policy limit viewed offers (end.NotLog at) config list text n same told holds written_well disks_well room = let has = n.has in absurd (disks_well has.cause)
+  ran_completes policy limit viewed offers end.Changed config list text n same told holds written_well disks_well room = let has = n.has in absurd (disks_well has.cause)
 
-  pub nodes_complete : (policy : RoundPolicy) (limit : ℕ) (offers : Offers) (ending : Ending) → IsCauseFor (Some (Run policy limit)) before now ending → IsListOf ending trail → Tells ending → HoldsOffers offers before.source → ¬ Rose before.source.faults now.source.faults
+  pub nodes_complete : (policy : RoundPolicy) (limit : ℕ) (viewed : Option (List ℕ)) (offers : Offers) (ending : Ending) → IsCauseFor (Some (Run policy limit viewed)) before now ending → IsListOf ending trail → Tells ending → HoldsOffers offers before.source → ¬ Rose before.source.faults now.source.faults
       → ¬ Rose before.sink.faults now.sink.faults → ¬ SomeFailed before.disks now.disks → HasRoomForNext offers.config limit trail → (status ≡ 0) ⊎ (status ≡ 1)
-  nodes_complete policy limit offers Misused cause list told holds read_well written_well disks_well room = absurd cause
-  nodes_complete policy limit offers Unread cause list told holds read_well written_well disks_well room = absurd (read_well cause.0)
-  nodes_complete policy limit offers (Refuses line reason said) cause list told (rest, is, says) read_well written_well disks_well room =
+  nodes_complete policy limit viewed offers Misused cause list told holds read_well written_well disks_well room = absurd cause
+  nodes_complete policy limit viewed offers Unread cause list told holds read_well written_well disks_well room = absurd (read_well cause.0)
+  nodes_complete policy limit viewed offers (Refuses line reason said) cause list told (rest, is, says) read_well written_well disks_well room =
       let so = cause.says in
       let read : HasReadOffers before.source now.source (λ read. read ≡ RefusedAt line reason) = record { bytes = cause.bytes; taken = cause.taken; steady = cause.steady; says = so.1 } in
       let differ = sym says ∙ offers_are before.source now.source rest (RefusedAt line reason) is read in absurd cc
-  nodes_complete policy limit offers (Plays operations config said) cause list told holds read_well written_well disks_well room = absurd cause
-  nodes_complete policy limit offers (Drives config n) cause list told holds read_well written_well disks_well room = absurd cause
-  nodes_complete policy limit offers (Simulates seed n) cause list told holds read_well written_well disks_well room = absurd cause
-  nodes_complete policy limit offers (Shows k log) cause list told holds read_well written_well disks_well room = absurd cause
-  nodes_complete policy limit offers DiskFails cause list told holds read_well written_well disks_well room = absurd cause
-  nodes_complete policy limit offers (Overflows size need) cause list told holds read_well written_well disks_well room = absurd cause
-  nodes_complete policy limit offers (Breaks place) cause list told holds read_well written_well disks_well room = absurd cause
-  nodes_complete policy limit offers (Runs why config records) cause list told holds read_well written_well disks_well room =
-      ran_completes policy limit offers why config records (nodes_ran policy limit why config records cause) list told holds written_well disks_well room
-  nodes_complete policy limit offers (Rejects line reason said) cause list told holds read_well written_well disks_well room = absurd cause
-  nodes_complete policy limit offers (Upholds config events text) cause list told holds read_well written_well disks_well room = absurd cause
-  nodes_complete policy limit offers Starved cause list told holds read_well written_well disks_well room = inr (starved_status before.sink now.sink [] status told)
+  nodes_complete policy limit viewed offers (Plays operations config said) cause list told holds read_well written_well disks_well room = absurd cause
+  nodes_complete policy limit viewed offers (Drives config n) cause list told holds read_well written_well disks_well room = absurd cause
+  nodes_complete policy limit viewed offers (Simulates seed n) cause list told holds read_well written_well disks_well room = absurd cause
+  nodes_complete policy limit viewed offers (Shows k log) cause list told holds read_well written_well disks_well room = absurd cause
+  nodes_complete policy limit viewed offers DiskFails cause list told holds read_well written_well disks_well room = absurd cause
+  nodes_complete policy limit viewed offers (Overflows size need) cause list told holds read_well written_well disks_well room = absurd cause
+  nodes_complete policy limit viewed offers (Breaks place) cause list told holds read_well written_well disks_well room = absurd cause
+  nodes_complete policy limit viewed offers (Runs why config records text) cause list told holds read_well written_well disks_well room =
+      ran_completes policy limit viewed offers why config records text (nodes_ran policy limit viewed why config records text cause) list told holds written_well disks_well room
+  nodes_complete policy limit viewed offers (Rejects line reason said) cause list told holds read_well written_well disks_well room = absurd cause
+  nodes_complete policy limit viewed offers (Upholds config events text) cause list told holds read_well written_well disks_well room = absurd cause
+  nodes_complete policy limit viewed offers Starved cause list told holds read_well written_well disks_well room = inr (starved_status before.sink now.sink [] status told)
 
-  pub nodes_refuse : (policy : RoundPolicy) (limit : ℕ) (ending : Ending) → IsCauseFor (Some (Run policy limit)) before now ending → Tells ending → HoldsBadOffers before.source → ¬ Rose before.source.faults now.source.faults → (status ≡ 3) ⊎ (status ≡ 1)
-  nodes_refuse policy limit Misused cause told holds read_well = absurd cause
-  nodes_refuse policy limit Unread cause told holds read_well = absurd (read_well cause.0)
-  nodes_refuse policy limit (Refuses line reason said) cause told holds read_well = same_status before.sink now.sink (text_of (Refuses line reason said)) 3 status told
-  nodes_refuse policy limit (Plays operations config said) cause told holds read_well = absurd cause
-  nodes_refuse policy limit (Drives config n) cause told holds read_well = absurd cause
-  nodes_refuse policy limit (Simulates seed n) cause told holds read_well = absurd cause
-  nodes_refuse policy limit (Shows k log) cause told holds read_well = absurd cause
-  nodes_refuse policy limit DiskFails cause told holds read_well = absurd cause
-  nodes_refuse policy limit (Overflows size need) cause told holds read_well = absurd cause
-  nodes_refuse policy limit (Breaks place) cause told holds read_well = absurd cause
-  nodes_refuse policy limit (Runs why config records) cause told (rest, line, reason, is, bad) read_well =
-      let n = nodes_ran policy limit why config records cause in
+  pub nodes_refuse : (policy : RoundPolicy) (limit : ℕ) (viewed : Option (List ℕ)) (ending : Ending) → IsCauseFor (Some (Run policy limit viewed)) before now ending → Tells ending → HoldsBadOffers before.source → ¬ Rose before.source.faults now.source.faults → (status ≡ 3) ⊎ (status ≡ 1)
+  nodes_refuse policy limit viewed Misused cause told holds read_well = absurd cause
+  nodes_refuse policy limit viewed Unread cause told holds read_well = absurd (read_well cause.0)
+  nodes_refuse policy limit viewed (Refuses line reason said) cause told holds read_well = same_status before.sink now.sink (text_of (Refuses line reason said)) 3 status told
+  nodes_refuse policy limit viewed (Plays operations config said) cause told holds read_well = absurd cause
+  nodes_refuse policy limit viewed (Drives config n) cause told holds read_well = absurd cause
+  nodes_refuse policy limit viewed (Simulates seed n) cause told holds read_well = absurd cause
+  nodes_refuse policy limit viewed (Shows k log) cause told holds read_well = absurd cause
+  nodes_refuse policy limit viewed DiskFails cause told holds read_well = absurd cause
+  nodes_refuse policy limit viewed (Overflows size need) cause told holds read_well = absurd cause
+  nodes_refuse policy limit viewed (Breaks place) cause told holds read_well = absurd cause
+  nodes_refuse policy limit viewed (Runs why config records text) cause told (rest, line, reason, is, bad) read_well =
+      let n = nodes_ran policy limit viewed why config records text cause in
       let differ = sym bad ∙ offers_are before.source now.source rest (Offered n.offers) is n.read in absurd cc
-  nodes_refuse policy limit (Rejects line reason said) cause told holds read_well = absurd cause
-  nodes_refuse policy limit (Upholds config events text) cause told holds read_well = absurd cause
-  nodes_refuse policy limit Starved cause told holds read_well = inr (starved_status before.sink now.sink [] status told)
+  nodes_refuse policy limit viewed (Rejects line reason said) cause told holds read_well = absurd cause
+  nodes_refuse policy limit viewed (Upholds config events text) cause told holds read_well = absurd cause
+  nodes_refuse policy limit viewed Starved cause told holds read_well = inr (starved_status before.sink now.sink [] status told)
 
   -- ---- whatever the status is
 
-  offers_or_none : (policy : RoundPolicy) (limit : ℕ) (why : RunEnd) (config : Counts) (list : List Record) (n : NodesRan policy limit why config list) → trail ≡ list → ArePosted policy n.offers why list → (trail ≡ []) ⊎ ((offers : Offers) × OffersAll policy before now trail offers)
-  offers_or_none policy limit why config list n same (inl run) = let offers = n.offers in inr (offers, offers_all policy offers n.read (subst (IsRunOf policy offers.config offers.list) (sym same) run))
-  offers_or_none policy limit why config list n same (inr none) = inl (same ∙ none.0)
+  offers_or_none : (policy : RoundPolicy) (limit : ℕ) (viewed : Option (List ℕ)) (why : RunEnd) (config : Counts) (list : List Record) (text : List ℕ) (n : NodesRan policy limit viewed why config list text) → trail ≡ list → ArePosted policy n.offers why list → (trail ≡ []) ⊎ ((offers : Offers) × OffersAll policy before now trail offers)
+  offers_or_none policy limit viewed why config list text n same (inl run) = let offers = n.offers in inr (offers, offers_all policy offers n.read (subst (IsRunOf policy offers.config offers.list) (sym same) run))
+  offers_or_none policy limit viewed why config list text n same (inr none) = inl (same ∙ none.0)
 
-  pub nodes_offered : (policy : RoundPolicy) (limit : ℕ) (ending : Ending) → IsCauseFor (Some (Run policy limit)) before now ending → entries_in trail ≡ run_to ending → IsListOf ending trail → (trail ≡ []) ⊎ ((offers : Offers) × OffersAll policy before now trail offers)
-  nodes_offered policy limit Misused cause run list = absurd cause
-  nodes_offered policy limit Unread cause run list = inl (no_records trail run)
-  nodes_offered policy limit (Refuses line reason said) cause run list = let so = cause.says in inl (no_records trail (run ∙ ap run_before so.0))
-  nodes_offered policy limit (Plays operations config said) cause run list = absurd cause
-  nodes_offered policy limit (Drives config n) cause run list = absurd cause
-  nodes_offered policy limit (Simulates seed n) cause run list = absurd cause
-  nodes_offered policy limit (Shows k log) cause run list = absurd cause
-  nodes_offered policy limit DiskFails cause run list = absurd cause
-  nodes_offered policy limit (Overflows size need) cause run list = absurd cause
-  nodes_offered policy limit (Breaks place) cause run list = absurd cause
-  nodes_offered policy limit (Runs why config records) cause run list = let n = nodes_ran policy limit why config records cause in let has = n.has in offers_or_none policy limit why config records n list has.posted
-  nodes_offered policy limit (Rejects line reason said) cause run list = absurd cause
-  nodes_offered policy limit (Upholds config events text) cause run list = absurd cause
-  nodes_offered policy limit Starved cause run list = inl (no_records trail run)
+  pub nodes_offered : (policy : RoundPolicy) (limit : ℕ) (viewed : Option (List ℕ)) (ending : Ending) → IsCauseFor (Some (Run policy limit viewed)) before now ending → entries_in trail ≡ run_to ending → IsListOf ending trail → (trail ≡ []) ⊎ ((offers : Offers) × OffersAll policy before now trail offers)
+  nodes_offered policy limit viewed Misused cause run list = absurd cause
+  nodes_offered policy limit viewed Unread cause run list = inl (no_records trail run)
+  nodes_offered policy limit viewed (Refuses line reason said) cause run list = let so = cause.says in inl (no_records trail (run ∙ ap run_before so.0))
+  nodes_offered policy limit viewed (Plays operations config said) cause run list = absurd cause
+  nodes_offered policy limit viewed (Drives config n) cause run list = absurd cause
+  nodes_offered policy limit viewed (Simulates seed n) cause run list = absurd cause
+  nodes_offered policy limit viewed (Shows k log) cause run list = absurd cause
+  nodes_offered policy limit viewed DiskFails cause run list = absurd cause
+  nodes_offered policy limit viewed (Overflows size need) cause run list = absurd cause
+  nodes_offered policy limit viewed (Breaks place) cause run list = absurd cause
+  nodes_offered policy limit viewed (Runs why config records text) cause run list = let n = nodes_ran policy limit viewed why config records text cause in let has = n.has in offers_or_none policy limit viewed why config records text n list has.posted
+  nodes_offered policy limit viewed (Rejects line reason said) cause run list = absurd cause
+  nodes_offered policy limit viewed (Upholds config events text) cause run list = absurd cause
+  nodes_offered policy limit viewed Starved cause run list = inl (no_records trail run)
 
   other : (n : ℕ) → status ≢ n → status ≢ 1 → (status ≡ n) ⊎ (status ≡ 1) → ⊥
   other n no_n no_one (inl is) = no_n is
   other n no_n no_one (inr is) = no_one is
 
-  pub nodes_left : (policy : RoundPolicy) (limit : ℕ) (ending : Ending) → IsCauseFor (Some (Run policy limit)) before now ending → Tells ending → status ≢ 1 → status ≢ 3 → status ≢ 4 → IfSome now.source.bytes (λ rest. rest ≡ [])
-  nodes_left policy limit Misused cause told no_one no_three no_four = absurd cause
-  nodes_left policy limit Unread cause told no_one no_three no_four = absurd (other 4 no_four no_one (same_status before.sink now.sink (text_of Unread) 4 status told))
-  nodes_left policy limit (Refuses line reason said) cause told no_one no_three no_four = absurd (other 3 no_three no_one (same_status before.sink now.sink (text_of (Refuses line reason said)) 3 status told))
-  nodes_left policy limit (Plays operations config said) cause told no_one no_three no_four = absurd cause
-  nodes_left policy limit (Drives config n) cause told no_one no_three no_four = absurd cause
-  nodes_left policy limit (Simulates seed n) cause told no_one no_three no_four = absurd cause
-  nodes_left policy limit (Shows k log) cause told no_one no_three no_four = absurd cause
-  nodes_left policy limit DiskFails cause told no_one no_three no_four = absurd cause
-  nodes_left policy limit (Overflows size need) cause told no_one no_three no_four = absurd cause
-  nodes_left policy limit (Breaks place) cause told no_one no_three no_four = absurd cause
-  nodes_left policy limit (Runs why config records) cause told no_one no_three no_four = script_left policy limit why config records (nodes_ran policy limit why config records cause)
-  nodes_left policy limit (Rejects line reason said) cause told no_one no_three no_four = absurd cause
-  nodes_left policy limit (Upholds config events text) cause told no_one no_three no_four = absurd cause
-  nodes_left policy limit Starved cause told no_one no_three no_four = absurd (no_one (starved_status before.sink now.sink [] status told))
+  pub nodes_left : (policy : RoundPolicy) (limit : ℕ) (viewed : Option (List ℕ)) (ending : Ending) → IsCauseFor (Some (Run policy limit viewed)) before now ending → Tells ending → status ≢ 1 → status ≢ 3 → status ≢ 4 → IfSome now.source.bytes (λ rest. rest ≡ [])
+  nodes_left policy limit viewed Misused cause told no_one no_three no_four = absurd cause
+  nodes_left policy limit viewed Unread cause told no_one no_three no_four = absurd (other 4 no_four no_one (same_status before.sink now.sink (text_of Unread) 4 status told))
+  nodes_left policy limit viewed (Refuses line reason said) cause told no_one no_three no_four = absurd (other 3 no_three no_one (same_status before.sink now.sink (text_of (Refuses line reason said)) 3 status told))
+  nodes_left policy limit viewed (Plays operations config said) cause told no_one no_three no_four = absurd cause
+  nodes_left policy limit viewed (Drives config n) cause told no_one no_three no_four = absurd cause
+  nodes_left policy limit viewed (Simulates seed n) cause told no_one no_three no_four = absurd cause
+  nodes_left policy limit viewed (Shows k log) cause told no_one no_three no_four = absurd cause
+  nodes_left policy limit viewed DiskFails cause told no_one no_three no_four = absurd cause
+  nodes_left policy limit viewed (Overflows size need) cause told no_one no_three no_four = absurd cause
+  nodes_left policy limit viewed (Breaks place) cause told no_one no_three no_four = absurd cause
+  nodes_left policy limit viewed (Runs why config records text) cause told no_one no_three no_four = script_left policy limit viewed why config records text (nodes_ran policy limit viewed why config records text cause)
+  nodes_left policy limit viewed (Rejects line reason said) cause told no_one no_three no_four = absurd cause
+  nodes_left policy limit viewed (Upholds config events text) cause told no_one no_three no_four = absurd cause
+  nodes_left policy limit viewed Starved cause told no_one no_three no_four = absurd (no_one (starved_status before.sink now.sink [] status told))

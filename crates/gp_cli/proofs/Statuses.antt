@@ -91,7 +91,7 @@ module _ (before now : Outside) (status : ℕ) (trail : List Record) where
   played operations DiskFails cause run told none_failed = absurd cause
   played operations (Overflows size need) cause run told none_failed = absurd cause
   played operations (Breaks place) cause run told none_failed = absurd cause
-  played operations (Runs why config list) cause run told none_failed = absurd cause
+  played operations (Runs why config list text) cause run told none_failed = absurd cause
   played operations (Rejects line reason said) cause run told none_failed = absurd cause
   played operations (Upholds config events text) cause run told none_failed = absurd cause
   played operations Starved cause run told none_failed = absurd (clash Starved (λ e. cc) told none_failed)
@@ -102,12 +102,12 @@ module _ (before now : Outside) (status : ℕ) (trail : List Record) where
 
   -- and one of nodes that are to run
   abbrev RefusedOffer : Option Subcommand → ℕ → Reason → Option Script → Type 0
-  RefusedOffer sub line reason said = (policy : RoundPolicy) × (limit : ℕ) × (sub ≡ Some (Run policy limit)) × (said ≡ None) × HasReadOffers before.source now.source (λ read. read ≡ offers.RefusedAt line reason)
+  RefusedOffer sub line reason said = (policy : RoundPolicy) × (limit : ℕ) × (viewed : Option (List ℕ)) × (sub ≡ Some (Run policy limit viewed)) × (said ≡ None) × HasReadOffers before.source now.source (λ read. read ≡ offers.RefusedAt line reason)
 
   refused_at : (sub : Option Subcommand) (line : ℕ) (reason : Reason) (said : Option Script) → Causes sub (Refuses line reason said) → RefusedAt sub line reason said ⊎ RefusedOffer sub line reason said
   refused_at None line reason said cause = cc
   refused_at (Some (Play operations)) line reason said cause = inl (operations, refl, cause)
-  refused_at (Some (Run policy limit)) line reason said cause = let said_so = cause.says in inr (policy, limit, refl, said_so.0, record { bytes = cause.bytes; taken = cause.taken; steady = cause.steady; says = said_so.1 })
+  refused_at (Some (Run policy limit viewed)) line reason said cause = let said_so = cause.says in inr (policy, limit, viewed, refl, said_so.0, record { bytes = cause.bytes; taken = cause.taken; steady = cause.steady; says = said_so.1 })
   refused_at (Some (Sim seed n)) line reason said cause = elim cause [ inl is ↦ cc | inr is ↦ cc ]
   refused_at (Some (Drive a l n)) line reason said cause = elim cause [ inl is ↦ cc | inr is ↦ cc ]
   refused_at (Some (Log k)) line reason said cause = absurd cause
@@ -133,11 +133,12 @@ module _ (before now : Outside) (status : ℕ) (trail : List Record) where
     | inr offer ↦ inr (inl (record {
       policy = offer.0;
       limit = offer.1;
-      is_run = offer.2;
+      viewed = offer.2;
+      is_run = offer.3;
       line = line;
       reason = reason;
-      read = offer.4;
-      no_trail = no_records trail (run ∙ ap run_before offer.3);
+      read = offer.5;
+      no_trail = no_records trail (run ∙ ap run_before offer.4);
       told = told;
     }))
   ]
@@ -148,7 +149,7 @@ module _ (before now : Outside) (status : ℕ) (trail : List Record) where
   stops words DiskFails cause run list told e = cc
   stops words (Overflows size need) cause run list told e = cc
   stops words (Breaks place) cause run list told e = cc
-  stops words (Runs why config records) cause run list told e = absurd (no_run_status why 3 e (omega arith) (omega arith))
+  stops words (Runs why config records text) cause run list told e = absurd (no_run_status why 3 e (omega arith) (omega arith))
   stops words (Rejects line reason said) cause run list told e = let rejected = rejects_at before now status trail (named words) line reason said cause in inr (inr (record {
     is_audit = rejected.0;
     line = line;
@@ -174,7 +175,7 @@ module _ (before now : Outside) (status : ℕ) (trail : List Record) where
   to_its_end operations DiskFails cause e = absurd cause
   to_its_end operations (Overflows size need) cause e = absurd cause
   to_its_end operations (Breaks place) cause e = absurd cause
-  to_its_end operations (Runs why config list) cause e = absurd cause
+  to_its_end operations (Runs why config list text) cause e = absurd cause
   to_its_end operations (Rejects line reason said) cause e = absurd cause
   to_its_end operations (Upholds config events text) cause e = absurd cause
   to_its_end operations Starved cause e = cc
@@ -191,7 +192,7 @@ module _ (before now : Outside) (status : ℕ) (trail : List Record) where
   completes operations DiskFails cause told holds read_well written_well = absurd cause
   completes operations (Overflows size need) cause told holds read_well written_well = absurd cause
   completes operations (Breaks place) cause told holds read_well written_well = absurd cause
-  completes operations (Runs why config list) cause told holds read_well written_well = absurd cause
+  completes operations (Runs why config list text) cause told holds read_well written_well = absurd cause
   completes operations (Rejects line reason said) cause told holds read_well written_well = absurd cause
   completes operations (Upholds config events text) cause told holds read_well written_well = absurd cause
   completes operations Starved cause told holds read_well written_well = inr (starved_status before.sink now.sink [] status told)
@@ -208,7 +209,7 @@ module _ (before now : Outside) (status : ℕ) (trail : List Record) where
   refuses operations DiskFails cause told holds read_well = absurd cause
   refuses operations (Overflows size need) cause told holds read_well = absurd cause
   refuses operations (Breaks place) cause told holds read_well = absurd cause
-  refuses operations (Runs why config list) cause told holds read_well = absurd cause
+  refuses operations (Runs why config list text) cause told holds read_well = absurd cause
   refuses operations (Rejects line reason said) cause told holds read_well = absurd cause
   refuses operations (Upholds config events text) cause told holds read_well = absurd cause
   refuses operations Starved cause told holds read_well = inr (starved_status before.sink now.sink [] status told)
@@ -257,7 +258,7 @@ module _ (before now : Outside) (status : ℕ) (trail : List Record) where
   shows_log k DiskFails cause told none_failed = absurd (clash DiskFails (λ e. cc) told none_failed)
   shows_log k (Overflows size need) cause told none_failed = absurd cause
   shows_log k (Breaks place) cause told none_failed = absurd (clash (Breaks place) (λ e. cc) told none_failed)
-  shows_log k (Runs why config list) cause told none_failed = absurd cause
+  shows_log k (Runs why config list text) cause told none_failed = absurd cause
   shows_log k (Rejects line reason said) cause told none_failed = absurd cause
   shows_log k (Upholds config events text) cause told none_failed = absurd cause
   shows_log k Starved cause told none_failed = absurd (clash Starved (λ e. cc) told none_failed)
@@ -279,7 +280,7 @@ module _ (before now : Outside) (status : ℕ) (trail : List Record) where
   shows_taken_on k DiskFails cause told none_failed = absurd (clash DiskFails (λ e. cc) told none_failed)
   shows_taken_on k (Overflows size need) cause told none_failed = absurd (clash (Overflows size need) (λ e. cc) told none_failed)
   shows_taken_on k (Breaks place) cause told none_failed = absurd (clash (Breaks place) (λ e. cc) told none_failed)
-  shows_taken_on k (Runs why config list) cause told none_failed = absurd cause
+  shows_taken_on k (Runs why config list text) cause told none_failed = absurd cause
   shows_taken_on k (Rejects line reason said) cause told none_failed = absurd cause
   shows_taken_on k (Upholds config events text) cause told none_failed = absurd cause
   shows_taken_on k Starved cause told none_failed = absurd (clash Starved (λ e. cc) told none_failed)
@@ -298,7 +299,7 @@ module _ (before now : Outside) (status : ℕ) (trail : List Record) where
   log_completes k DiskFails cause told holds disk_well written_well = absurd (disk_well cause.0)
   log_completes k (Overflows size need) cause told holds disk_well written_well = absurd cause
   log_completes k (Breaks place) cause told (s, log, is, reads) disk_well written_well = absurd (no_clash (seen_at k before.disks).bytes s log place is reads cause.1)
-  log_completes k (Runs why config list) cause told holds disk_well written_well = absurd cause
+  log_completes k (Runs why config list text) cause told holds disk_well written_well = absurd cause
   log_completes k (Rejects line reason said) cause told holds disk_well written_well = absurd cause
   log_completes k (Upholds config events text) cause told holds disk_well written_well = absurd cause
   log_completes k Starved cause told holds disk_well written_well = inr (starved_status before.sink now.sink [] status told)
@@ -331,7 +332,7 @@ module _ (before now : Outside) (status : ℕ) (trail : List Record) where
   upgrade_completes k (Overflows size need) cause told (s, log, is, reads, room) disk_well written_well =
       absurd (room_clash log size need room (one_log (seen_at k before.disks).bytes s log (λ l. HasNoRoom size need l.limit l.entries) is reads cause.1))
   upgrade_completes k (Breaks place) cause told (s, log, is, reads, room) disk_well written_well = absurd (no_clash (seen_at k before.disks).bytes s log place is reads cause.1)
-  upgrade_completes k (Runs why config list) cause told holds disk_well written_well = absurd cause
+  upgrade_completes k (Runs why config list text) cause told holds disk_well written_well = absurd cause
   upgrade_completes k (Rejects line reason said) cause told holds disk_well written_well = absurd cause
   upgrade_completes k (Upholds config events text) cause told holds disk_well written_well = absurd cause
   upgrade_completes k Starved cause told holds disk_well written_well = inr (starved_status before.sink now.sink [] status told)
@@ -348,7 +349,7 @@ module _ (before now : Outside) (status : ℕ) (trail : List Record) where
   overflows_if_full k DiskFails cause told holds well = absurd (well cause)
   overflows_if_full k (Overflows size need) cause told holds well = same_status before.sink now.sink (text_of (Overflows size need)) 7 status told
   overflows_if_full k (Breaks place) cause told (s, log, size, need, is, reads, none) well = absurd (no_clash (seen_at k before.disks).bytes s log place is reads cause.1)
-  overflows_if_full k (Runs why config list) cause told holds well = absurd cause
+  overflows_if_full k (Runs why config list text) cause told holds well = absurd cause
   overflows_if_full k (Rejects line reason said) cause told holds well = absurd cause
   overflows_if_full k (Upholds config events text) cause told holds well = absurd cause
   overflows_if_full k Starved cause told holds well = inr (starved_status before.sink now.sink [] status told)
@@ -357,7 +358,7 @@ module _ (before now : Outside) (status : ℕ) (trail : List Record) where
   overflowed : (sub : Option Subcommand) (size need : ℕ) → Causes sub (Overflows size need) → Tells (Overflows size need) → (k : ℕ) × (sub ≡ Some (Upgrade k)) × Causes (Some (Upgrade k)) (Overflows size need)
   overflowed None size need cause told = cc
   overflowed (Some (Play operations)) size need cause told = absurd cause
-  overflowed (Some (Run policy limit)) size need cause told = absurd cause
+  overflowed (Some (Run policy limit viewed)) size need cause told = absurd cause
   overflowed (Some (Sim seed n)) size need cause told = elim cause [ inl is ↦ cc | inr is ↦ cc ]
   overflowed (Some (Drive a l n)) size need cause told = elim cause [ inl is ↦ cc | inr is ↦ cc ]
   overflowed (Some (Log k)) size need cause told = absurd cause
@@ -367,7 +368,7 @@ module _ (before now : Outside) (status : ℕ) (trail : List Record) where
   broke : (sub : Option Subcommand) (place : ℕ) → Causes sub (Breaks place) → (k : ℕ) × (disk_used sub ≡ Some k) × Causes (Some (Log k)) (Breaks place)
   broke None place cause = cc
   broke (Some (Play operations)) place cause = absurd cause
-  broke (Some (Run policy limit)) place cause = absurd cause
+  broke (Some (Run policy limit viewed)) place cause = absurd cause
   broke (Some (Sim seed n)) place cause = elim cause [ inl is ↦ cc | inr is ↦ cc ]
   broke (Some (Drive a l n)) place cause = elim cause [ inl is ↦ cc | inr is ↦ cc ]
   broke (Some (Log k)) place cause = (k, refl, cause)
@@ -377,7 +378,7 @@ module _ (before now : Outside) (status : ℕ) (trail : List Record) where
   disk_failed : (sub : Option Subcommand) → Causes sub DiskFails → DiskFailed sub before now
   disk_failed None cause = cc
   disk_failed (Some (Play operations)) cause = absurd cause
-  disk_failed (Some (Run policy limit)) cause = absurd cause
+  disk_failed (Some (Run policy limit viewed)) cause = absurd cause
   disk_failed (Some (Sim seed n)) cause = elim cause [ inl is ↦ cc | inr is ↦ cc ]
   disk_failed (Some (Drive a l n)) cause = elim cause [ inl is ↦ cc | inr is ↦ cc ]
   disk_failed (Some (Log k)) cause = cause.0
@@ -390,7 +391,7 @@ module _ (before now : Outside) (status : ℕ) (trail : List Record) where
   named_nothing (Some sub) Misused cause two = absurd (by sub cause) where
     by : (sub : Subcommand) → Causes (Some sub) Misused → ⊥
     by (Play operations) cause = cause
-    by (Run policy limit) cause = cause
+    by (Run policy limit viewed) cause = cause
     by (Sim seed n) cause = elim cause [ inl is ↦ cc | inr is ↦ cc ]
     by (Drive a l n) cause = elim cause [ inl is ↦ cc | inr is ↦ cc ]
     by (Log k) cause = cause
@@ -405,7 +406,7 @@ module _ (before now : Outside) (status : ℕ) (trail : List Record) where
   named_nothing (Some sub) DiskFails cause two = cc
   named_nothing (Some sub) (Overflows size need) cause two = cc
   named_nothing (Some sub) (Breaks place) cause two = cc
-  named_nothing (Some sub) (Runs why config list) cause two = absurd (no_run_status why 2 two (omega arith) (omega arith))
+  named_nothing (Some sub) (Runs why config list text) cause two = absurd (no_run_status why 2 two (omega arith) (omega arith))
   named_nothing (Some sub) (Rejects line reason said) cause two = cc
   named_nothing (Some sub) (Upholds config events text) cause two = cc
   named_nothing (Some sub) Starved cause two = cc
@@ -413,7 +414,7 @@ module _ (before now : Outside) (status : ℕ) (trail : List Record) where
   source_failed : (sub : Option Subcommand) → Causes sub Unread → Rose before.source.faults now.source.faults
   source_failed None cause = cc
   source_failed (Some (Play operations)) cause = cause.0
-  source_failed (Some (Run policy limit)) cause = cause.0
+  source_failed (Some (Run policy limit viewed)) cause = cause.0
   source_failed (Some (Sim seed n)) cause = elim cause [ inl is ↦ cc | inr is ↦ cc ]
   source_failed (Some (Drive a l n)) cause = elim cause [ inl is ↦ cc | inr is ↦ cc ]
   source_failed (Some (Log k)) cause = absurd cause
@@ -435,12 +436,12 @@ module _ (before now : Outside) (status : ℕ) (trail : List Record) where
   unread_is DiskFails e = cc
   unread_is (Overflows size need) e = cc
   unread_is (Breaks place) e = cc
-  unread_is (Runs why config list) e = absurd (no_run_status why 4 e (omega arith) (omega arith))
+  unread_is (Runs why config list text) e = absurd (no_run_status why 4 e (omega arith) (omega arith))
   unread_is (Rejects line reason said) e = cc
   unread_is (Upholds config events text) e = cc
   unread_is Starved e = cc
 
-  disk_fails_is : (ending : Ending) → status_of ending ≡ 6 → (ending ≡ DiskFails) ⊎ ((config : Counts) × (list : List Record) × (ending ≡ Runs end.Disk config list))
+  disk_fails_is : (ending : Ending) → status_of ending ≡ 6 → (ending ≡ DiskFails) ⊎ ((config : Counts) × (list : List Record) × (text : List ℕ) × (ending ≡ Runs end.Disk config list text))
   disk_fails_is Misused e = cc
   disk_fails_is Unread e = cc
   disk_fails_is (Refuses line reason said) e = cc
@@ -451,17 +452,17 @@ module _ (before now : Outside) (status : ℕ) (trail : List Record) where
   disk_fails_is DiskFails e = inl refl
   disk_fails_is (Overflows size need) e = cc
   disk_fails_is (Breaks place) e = cc
-  disk_fails_is (Runs end.Learned config list) e = cc
-  disk_fails_is (Runs end.NoMemory config list) e = cc
-  disk_fails_is (Runs end.Disk config list) e = inr (config, list, refl)
-  disk_fails_is (Runs (end.Full size need) config list) e = cc
-  disk_fails_is (Runs (end.NotLog at) config list) e = cc
-  disk_fails_is (Runs end.Changed config list) e = cc
+  disk_fails_is (Runs end.Learned config list text) e = cc
+  disk_fails_is (Runs end.NoMemory config list text) e = cc
+  disk_fails_is (Runs end.Disk config list text) e = inr (config, list, text, refl)
+  disk_fails_is (Runs (end.Full size need) config list text) e = cc
+  disk_fails_is (Runs (end.NotLog at) config list text) e = cc
+  disk_fails_is (Runs end.Changed config list text) e = cc
   disk_fails_is (Rejects line reason said) e = cc
   disk_fails_is (Upholds config events text) e = cc
   disk_fails_is Starved e = cc
 
-  overflows_is : (ending : Ending) → status_of ending ≡ 7 → (size : ℕ) × (need : ℕ) × ((ending ≡ Overflows size need) ⊎ ((config : Counts) × (list : List Record) × (ending ≡ Runs (end.Full size need) config list)))
+  overflows_is : (ending : Ending) → status_of ending ≡ 7 → (size : ℕ) × (need : ℕ) × ((ending ≡ Overflows size need) ⊎ ((config : Counts) × (list : List Record) × (text : List ℕ) × (ending ≡ Runs (end.Full size need) config list text)))
   overflows_is Misused e = cc
   overflows_is Unread e = cc
   overflows_is (Refuses line reason said) e = cc
@@ -472,19 +473,19 @@ module _ (before now : Outside) (status : ℕ) (trail : List Record) where
   overflows_is DiskFails e = cc
   overflows_is (Overflows size need) e = (size, need, inl refl)
   overflows_is (Breaks place) e = cc
-  overflows_is (Runs end.Learned config list) e = cc
-  overflows_is (Runs end.NoMemory config list) e = cc
-  overflows_is (Runs end.Disk config list) e = cc
-  overflows_is (Runs (end.Full size need) config list) e = (size, need, inr (config, list, refl))
-  overflows_is (Runs (end.NotLog at) config list) e = cc
-  overflows_is (Runs end.Changed config list) e = cc
+  overflows_is (Runs end.Learned config list text) e = cc
+  overflows_is (Runs end.NoMemory config list text) e = cc
+  overflows_is (Runs end.Disk config list text) e = cc
+  overflows_is (Runs (end.Full size need) config list text) e = (size, need, inr (config, list, text, refl))
+  overflows_is (Runs (end.NotLog at) config list text) e = cc
+  overflows_is (Runs end.Changed config list text) e = cc
   overflows_is (Rejects line reason said) e = cc
   overflows_is (Upholds config events text) e = cc
   overflows_is Starved e = cc
 
   -- an ending with status 8
   abbrev IsBroken : Ending → Type 0
-  IsBroken ending = ((place : ℕ) × (ending ≡ Breaks place)) ⊎ (((at : ℕ) × (config : Counts) × (list : List Record) × (ending ≡ Runs (end.NotLog at) config list)) ⊎ ((config : Counts) × (list : List Record) × (ending ≡ Runs end.Changed config list)))
+  IsBroken ending = ((place : ℕ) × (ending ≡ Breaks place)) ⊎ (((at : ℕ) × (config : Counts) × (list : List Record) × (text : List ℕ) × (ending ≡ Runs (end.NotLog at) config list text)) ⊎ ((config : Counts) × (list : List Record) × (text : List ℕ) × (ending ≡ Runs end.Changed config list text)))
 
   breaks_is : (ending : Ending) → status_of ending ≡ 8 → IsBroken ending
   breaks_is Misused e = cc
@@ -497,12 +498,12 @@ module _ (before now : Outside) (status : ℕ) (trail : List Record) where
   breaks_is DiskFails e = cc
   breaks_is (Overflows size need) e = cc
   breaks_is (Breaks place) e = inl (place, refl)
-  breaks_is (Runs end.Learned config list) e = cc
-  breaks_is (Runs end.NoMemory config list) e = cc
-  breaks_is (Runs end.Disk config list) e = cc
-  breaks_is (Runs (end.Full size need) config list) e = cc
-  breaks_is (Runs (end.NotLog at) config list) e = inr (inl (at, config, list, refl))
-  breaks_is (Runs end.Changed config list) e = inr (inr (config, list, refl))
+  breaks_is (Runs end.Learned config list text) e = cc
+  breaks_is (Runs end.NoMemory config list text) e = cc
+  breaks_is (Runs end.Disk config list text) e = cc
+  breaks_is (Runs (end.Full size need) config list text) e = cc
+  breaks_is (Runs (end.NotLog at) config list text) e = inr (inl (at, config, list, text, refl))
+  breaks_is (Runs end.Changed config list text) e = inr (inr (config, list, text, refl))
   breaks_is (Rejects line reason said) e = cc
   breaks_is (Upholds config events text) e = cc
   breaks_is Starved e = cc
@@ -524,7 +525,7 @@ module _ (before now : Outside) (status : ℕ) (trail : List Record) where
   unlogged k DiskFails cause told holds well = absurd (well cause.0)
   unlogged k (Overflows size need) cause told holds well = absurd cause
   unlogged k (Breaks place) cause told holds well = same_status before.sink now.sink (text_of (Breaks place)) 8 status told
-  unlogged k (Runs why config list) cause told holds well = absurd cause
+  unlogged k (Runs why config list text) cause told holds well = absurd cause
   unlogged k (Rejects line reason said) cause told holds well = absurd cause
   unlogged k (Upholds config events text) cause told holds well = absurd cause
   unlogged k Starved cause told holds well = inr (starved_status before.sink now.sink [] status told)
@@ -540,7 +541,7 @@ module _ (before now : Outside) (status : ℕ) (trail : List Record) where
   unlogged_upgrade k DiskFails cause told holds well = absurd (well cause)
   unlogged_upgrade k (Overflows size need) cause told (s, place, is, broken) well = absurd (no_log_shown (seen_at k before.disks).bytes s place _ is broken cause.1)
   unlogged_upgrade k (Breaks place) cause told holds well = same_status before.sink now.sink (text_of (Breaks place)) 8 status told
-  unlogged_upgrade k (Runs why config list) cause told holds well = absurd cause
+  unlogged_upgrade k (Runs why config list text) cause told holds well = absurd cause
   unlogged_upgrade k (Rejects line reason said) cause told holds well = absurd cause
   unlogged_upgrade k (Upholds config events text) cause told holds well = absurd cause
   unlogged_upgrade k Starved cause told holds well = inr (starved_status before.sink now.sink [] status told)
@@ -627,8 +628,8 @@ module _ (words : List (List ℕ)) (before now : Outside) (status : ℕ) (trail 
             let over = overflowed before now status trail (named words) is.0 is.1 (cause_at (Overflows is.0 is.1) at) (told_at (Overflows is.0 is.1) at) in
             record { disk = over.0; size = is.0; need = is.1; is_upgrade = over.1; same = over.2.0; no_room = over.2.1; told = told_at (Overflows is.0 is.1) at })
         | inr at ↦ inr (
-            let ending = Runs (end.Full is.0 is.1) at.0 at.1 in
-            fills_log before now status trail words is.0 is.1 at.0 at.1 (cause_at ending at.2) (list_at ending at.2) (told_at ending at.2))
+            let ending = Runs (end.Full is.0 is.1) at.0 at.1 at.2 in
+            fills_log before now status trail words is.0 is.1 at.0 at.1 at.2 (cause_at ending at.3) (list_at ending at.3) (told_at ending at.3))
       ]
 
   pub broken : status ≡ 8 → IsBrokenAt words before now status ⊎ LosesLog words before now status trail
@@ -637,17 +638,17 @@ module _ (words : List (List ℕ)) (before now : Outside) (status : ℕ) (trail 
         let at = broke before now status trail (named words) is.0 (cause_at (Breaks is.0) is.1) in
         record { disk = at.0; place = is.0; used = at.1; same = at.2.0; broken = at.2.1; told = told_at (Breaks is.0) is.1 })
     | inr (inl is) ↦ inr (
-        let ending = Runs (end.NotLog is.0) is.1 is.2 in
-        breaks_log before now status trail words is.0 is.1 is.2 (cause_at ending is.3) (list_at ending is.3) (told_at ending is.3))
+        let ending = Runs (end.NotLog is.0) is.1 is.2 is.3 in
+        breaks_log before now status trail words is.0 is.1 is.2 is.3 (cause_at ending is.4) (list_at ending is.4) (told_at ending is.4))
     | inr (inr is) ↦ inr (
-        let ending = Runs end.Changed is.0 is.1 in
-        changes_log before now status trail words is.0 is.1 (cause_at ending is.2) (list_at ending is.2) (told_at ending is.2))
+        let ending = Runs end.Changed is.0 is.1 is.2 in
+        changes_log before now status trail words is.0 is.1 is.2 (cause_at ending is.3) (list_at ending is.3) (told_at ending is.3))
   ]
 
   no_log_for : (k : ℕ) (sub : Option Subcommand) → named words ≡ sub → disk_used sub ≡ Some k → HoldsNoLog k before → ¬ Rose (seen_at k before.disks).faults (seen_at k now.disks).faults → (status ≡ 8) ⊎ (status ≡ 1)
   no_log_for k None is used holds well = cc
   no_log_for k (Some (Play operations)) is used holds well = cc
-  no_log_for k (Some (Run policy limit)) is used holds well = cc
+  no_log_for k (Some (Run policy limit viewed)) is used holds well = cc
   no_log_for k (Some (Sim seed n)) is used holds well = cc
   no_log_for k (Some (Drive a l n)) is used holds well = cc
   no_log_for k (Some (Log j)) is used holds well =
@@ -676,31 +677,31 @@ module _ (words : List (List ℕ)) (before now : Outside) (status : ℕ) (trail 
   pub disk_fault : status ≡ 6 → DiskFailed (named words) before now
   disk_fault six = elim (disk_fails_is before now status trail ends.ending (own 4 six (λ e. cc))) [
     | inl is ↦ disk_failed before now status trail (named words) (cause_at DiskFails is)
-    | inr is ↦ ran_to_fault before now status trail (named words) is.0 is.1 (cause_at (Runs end.Disk is.0 is.1) is.2)
+    | inr is ↦ ran_to_fault before now status trail (named words) is.0 is.1 is.2 (cause_at (Runs end.Disk is.0 is.1 is.2) is.3)
   ]
 
   -- ---- nodes in threads
 
-  pub nodes_printed : (policy : RoundPolicy) (limit : ℕ) → named words ≡ Some (Run policy limit) → status ≡ 0 → PrintsNodes policy limit before now trail
-  nodes_printed policy limit is none_failed = prints_nodes before now status trail policy limit ends.ending (by_name (Some (Run policy limit)) is) ends.list ends.told none_failed
+  pub nodes_printed : (policy : RoundPolicy) (limit : ℕ) (viewed : Option (List ℕ)) → named words ≡ Some (Run policy limit viewed) → status ≡ 0 → PrintsNodes policy limit viewed before now trail
+  nodes_printed policy limit viewed is none_failed = prints_nodes before now status trail policy limit viewed ends.ending (by_name (Some (Run policy limit viewed)) is) ends.list ends.told none_failed
 
-  pub nodes_completed : (policy : RoundPolicy) (limit : ℕ) (offers : Offers) → named words ≡ Some (Run policy limit) → HoldsOffers offers before.source → ¬ Rose before.source.faults now.source.faults → ¬ Rose before.sink.faults now.sink.faults → ¬ SomeFailed before.disks now.disks
+  pub nodes_completed : (policy : RoundPolicy) (limit : ℕ) (viewed : Option (List ℕ)) (offers : Offers) → named words ≡ Some (Run policy limit viewed) → HoldsOffers offers before.source → ¬ Rose before.source.faults now.source.faults → ¬ Rose before.sink.faults now.sink.faults → ¬ SomeFailed before.disks now.disks
       → HasRoomForNext offers.config limit trail → (status ≡ 0) ⊎ (status ≡ 1)
-  nodes_completed policy limit offers is holds read_well written_well disks_well room =
-      nodes_complete before now status trail policy limit offers ends.ending (by_name (Some (Run policy limit)) is) ends.list ends.told holds read_well written_well disks_well room
+  nodes_completed policy limit viewed offers is holds read_well written_well disks_well room =
+      nodes_complete before now status trail policy limit viewed offers ends.ending (by_name (Some (Run policy limit viewed)) is) ends.list ends.told holds read_well written_well disks_well room
 
-  pub nodes_refused : (policy : RoundPolicy) (limit : ℕ) → named words ≡ Some (Run policy limit) → HoldsBadOffers before.source → ¬ Rose before.source.faults now.source.faults → (status ≡ 3) ⊎ (status ≡ 1)
-  nodes_refused policy limit is holds read_well = nodes_refuse before now status trail policy limit ends.ending (by_name (Some (Run policy limit)) is) ends.told holds read_well
+  pub nodes_refused : (policy : RoundPolicy) (limit : ℕ) (viewed : Option (List ℕ)) → named words ≡ Some (Run policy limit viewed) → HoldsBadOffers before.source → ¬ Rose before.source.faults now.source.faults → (status ≡ 3) ⊎ (status ≡ 1)
+  nodes_refused policy limit viewed is holds read_well = nodes_refuse before now status trail policy limit viewed ends.ending (by_name (Some (Run policy limit viewed)) is) ends.told holds read_well
 
-  pub offered : (policy : RoundPolicy) (limit : ℕ) → named words ≡ Some (Run policy limit) → (trail ≡ []) ⊎ ((offers : Offers) × OffersAll policy before now trail offers)
-  offered policy limit is = nodes_offered before now status trail policy limit ends.ending (by_name (Some (Run policy limit)) is) ends.run ends.list
+  pub offered : (policy : RoundPolicy) (limit : ℕ) (viewed : Option (List ℕ)) → named words ≡ Some (Run policy limit viewed) → (trail ≡ []) ⊎ ((offers : Offers) × OffersAll policy before now trail offers)
+  offered policy limit viewed is = nodes_offered before now status trail policy limit viewed ends.ending (by_name (Some (Run policy limit viewed)) is) ends.run ends.list
 
-  pub offers_read : (policy : RoundPolicy) (limit : ℕ) → named words ≡ Some (Run policy limit) → status ≢ 1 → status ≢ 3 → status ≢ 4 → IfSome now.source.bytes (λ rest. rest ≡ [])
-  offers_read policy limit is no_one no_three no_four = nodes_left before now status trail policy limit ends.ending (by_name (Some (Run policy limit)) is) ends.told no_one no_three no_four
+  pub offers_read : (policy : RoundPolicy) (limit : ℕ) (viewed : Option (List ℕ)) → named words ≡ Some (Run policy limit viewed) → status ≢ 1 → status ≢ 3 → status ≢ 4 → IfSome now.source.bytes (λ rest. rest ≡ [])
+  offers_read policy limit viewed is no_one no_three no_four = nodes_left before now status trail policy limit viewed ends.ending (by_name (Some (Run policy limit viewed)) is) ends.told no_one no_three no_four
 
-  pub script_order : (policy : RoundPolicy) (limit : ℕ) → named words ≡ Some (Run policy limit) → status ≡ 0 → (offers : Offers) × OffersAll policy before now trail offers × (AllCommute offers.list → RunsInScriptOrder offers trail)
-  script_order policy limit is none_failed =
-      let printed = nodes_printed policy limit is none_failed in
+  pub script_order : (policy : RoundPolicy) (limit : ℕ) (viewed : Option (List ℕ)) → named words ≡ Some (Run policy limit viewed) → status ≡ 0 → (offers : Offers) × OffersAll policy before now trail offers × (AllCommute offers.list → RunsInScriptOrder offers trail)
+  script_order policy limit viewed is none_failed =
+      let printed = nodes_printed policy limit viewed is none_failed in
       let learned = printed.learned in
       (printed.offers, printed.whole, λ commute. in_script_order before now trail printed.offers policy printed.whole learned.all commute)
 

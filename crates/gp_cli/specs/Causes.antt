@@ -131,7 +131,7 @@ IsMisuse ending = ending ≡ Misused
 abbrev pub IsCauseFor : Option Subcommand → Outside → Outside → Ending → Type 0
 IsCauseFor None before now ending = IsMisuse ending
 IsCauseFor (Some (Play operations)) before now ending = IsReadCause operations before.source now.source ending
-IsCauseFor (Some (Run policy limit)) before now ending = IsNodesCause policy limit before.source now.source before.disks now.disks ending
+IsCauseFor (Some (Run policy limit viewed)) before now ending = IsNodesCause policy limit viewed before.source now.source before.disks now.disks ending
 IsCauseFor (Some (Sim seed commands)) before now ending = IsRunCause (Simulates seed commands) ending
 IsCauseFor (Some (Drive acceptors learners commands)) before now ending = IsRunCause (Drives (driven_config acceptors learners) commands) ending
 IsCauseFor (Some (Log k)) before now ending = IsLogCause k (seen_at k before.disks) (seen_at k now.disks) ending
@@ -146,7 +146,7 @@ IsCause words before now ending = IsCauseFor (named words) before now ending
 abbrev pub IsReader : Option Subcommand → Type 0
 IsReader None = ⊥
 IsReader (Some (Play operations)) = Unit {0}
-IsReader (Some (Run policy limit)) = Unit {0}
+IsReader (Some (Run policy limit viewed)) = Unit {0}
 IsReader (Some (Sim seed commands)) = ⊥
 IsReader (Some (Drive acceptors learners commands)) = ⊥
 IsReader (Some (Log k)) = ⊥
@@ -157,7 +157,7 @@ IsReader (Some Audit) = Unit {0}
 abbrev pub RunsNodes : Option Subcommand → Type 0
 RunsNodes None = ⊥
 RunsNodes (Some (Play operations)) = ⊥
-RunsNodes (Some (Run policy limit)) = Unit {0}
+RunsNodes (Some (Run policy limit viewed)) = Unit {0}
 RunsNodes (Some (Sim seed commands)) = ⊥
 RunsNodes (Some (Drive acceptors learners commands)) = ⊥
 RunsNodes (Some (Log k)) = ⊥
@@ -168,7 +168,7 @@ RunsNodes (Some Audit) = ⊥
 abbrev pub disk_used : Option Subcommand → Option ℕ
 disk_used None = None
 disk_used (Some (Play operations)) = None
-disk_used (Some (Run policy limit)) = None
+disk_used (Some (Run policy limit viewed)) = None
 disk_used (Some (Sim seed commands)) = None
 disk_used (Some (Drive acceptors learners commands)) = None
 disk_used (Some (Log k)) = Some k

@@ -26,7 +26,7 @@ pub record Shown : Type 0 where
   pub parts : List EpochPart
   pub size : ℕ
 
--- the words name no subcommand; the source failed; a line of the script is refused, and this is what the lines before it said; the script of a machine was played; commands were driven; the workload of a seed was settled; the log of a disk is shown; the disk failed; the renewed log, of this size, would need too much; the disk's bytes are no log, at this place; nodes ran in threads until this end, and posted these records; an audit refuses a line of its input, and this is what the lines before it said; an audit upholds its input, a run of these events, with these certificates; memory ran out before any of these was known
+-- the words name no subcommand; the source failed; a line of the script is refused, and this is what the lines before it said; the script of a machine was played; commands were driven; the workload of a seed was settled; the log of a disk is shown; the disk failed; the renewed log, of this size, would need too much; the disk's bytes are no log, at this place; nodes ran in threads until this end, posted these records, and left this text; an audit refuses a line of its input, and this is what the lines before it said; an audit upholds its input, a run of these events, with these certificates; memory ran out before any of these was known
 pub data Ending : Type 0 where
   Misused : Ending
   Unread : Ending
@@ -38,7 +38,7 @@ pub data Ending : Type 0 where
   DiskFails : Ending
   Overflows : ℕ → ℕ → Ending
   Breaks : ℕ → Ending
-  Runs : RunEnd → Counts → List Record → Ending
+  Runs : RunEnd → Counts → List Record → List ℕ → Ending
   Rejects : ℕ → AuditReason → Option Script → Ending
   Upholds : Counts → List Event → List ℕ → Ending
   Starved : Ending
@@ -64,7 +64,7 @@ status_of (Shows disk log) = 0
 status_of DiskFails = 6
 status_of (Overflows size need) = 7
 status_of (Breaks place) = 8
-status_of (Runs end config list) = run_status end
+status_of (Runs end config list text) = run_status end
 status_of (Rejects line reason before) = 3
 status_of (Upholds config events text) = 0
 status_of Starved = 1
@@ -95,7 +95,7 @@ text_of (Shows disk log) = log_text disk log.parts log.size
 text_of DiskFails = disk_fault
 text_of (Overflows size need) = full_text size need
 text_of (Breaks place) = broken_text place
-text_of (Runs end config list) = end_text end config list
+text_of (Runs end config list text) = text
 text_of (Rejects line reason before) = rejection_text line reason
 text_of (Upholds config events text) = text
 text_of Starved = []
@@ -112,7 +112,7 @@ run_to (Shows disk log) = []
 run_to DiskFails = []
 run_to (Overflows size need) = []
 run_to (Breaks place) = []
-run_to (Runs end config list) = entries_in list
+run_to (Runs end config list text) = entries_in list
 run_to (Rejects line reason before) = run_before before
 run_to (Upholds config events text) = run_of config events
 run_to Starved = []
@@ -134,7 +134,7 @@ config_of (Shows disk log) = None
 config_of DiskFails = None
 config_of (Overflows size need) = None
 config_of (Breaks place) = None
-config_of (Runs end config list) = Some config
+config_of (Runs end config list text) = Some config
 config_of (Rejects line reason before) = config_in before
 config_of (Upholds config events text) = Some config
 config_of Starved = None

@@ -8,8 +8,10 @@ pub mod Audits
 pub mod Causes
 pub mod Logs
 pub mod Serving
+pub mod ProgramRuns
 pub mod LogRuns
 pub mod NodesRuns
 pub mod AuditRuns
 pub mod Trails
 pub mod Program
+pub mod Viewed

@@ -20,7 +20,6 @@ use Rattle.gp_offers.specs.Offering.{Offer, Offered, RefusedAt, offers_reading}
 use Rattle.gp_offers.specs.Offered.{AreOffered}
 use Rattle.gp_cluster.specs.declared.policy.RoundPolicy.{RoundPolicy}
 use Rattle.gp_cluster.specs.Runs.{IsRunOf, IsOverLimit}
-use Rattle.gp_retelling.specs.Texts.{run_text}
 use Rattle.gp_cli.specs.declared.runs.TheConstants.{MOST_READ}
 use Rattle.gp_cli.specs.declared.subcommand.Subcommand.{Subcommand}
 use Rattle.gp_cli.specs.declared.subcommand.Subcommand.TheVariants.{Play, Run, Sim, Drive, Log, Upgrade, Audit}
@@ -29,7 +28,7 @@ use Rattle.gp_cli.specs.Texts.{log_changed, full_text, broken_text, refusal_text
 use Rattle.gp_cli.specs.Machines.{IsInAgreementOfAll}
 use Rattle.gp_cli.specs.Outside.{Seen, Outside, Told}
 use Rattle.gp_cli.specs.Causes.{seen_at}
-use Rattle.gp_cli.specs.Run.{SomeFailed, HasLearned, HasReadOffers}
+use Rattle.gp_cli.specs.Run.{SomeFailed, HasLearned, HasReadOffers, IsLearnedText}
 
 -- the source reveals its bytes, and up to one more than a script may have they say these offers
 abbrev pub HoldsOffers : Offers → Seen → Type 0
@@ -46,13 +45,15 @@ pub record OffersAll (policy : RoundPolicy) (before now : Outside) (trail : List
   pub run : IsRunOf policy offers.config offers.list trail
   pub agreement : IsInAgreementOfAll offers.config (entries_in trail)
 
--- such nodes ran until all was learned, and their trace and report were written whole without a fault
-pub record PrintsNodes (policy : RoundPolicy) (limit : ℕ) (before now : Outside) (trail : List Record) : Type 0 where
+-- such nodes ran until all was learned, and their trace and report, and what readers saw of a key that was viewed, were written whole without a fault
+pub record PrintsNodes (policy : RoundPolicy) (limit : ℕ) (viewed : Option (List ℕ)) (before now : Outside) (trail : List Record) : Type 0 where
   pub offers : Offers
   pub whole : OffersAll policy before now trail offers
   pub learned : HasLearned policy limit before.disks now.disks offers trail
   pub steady : now.sink.faults ≡ before.sink.faults
-  pub written : AppendsWhole before.sink.bytes now.sink.bytes (run_text offers.config trail)
+  pub text : List ℕ
+  pub says : IsLearnedText viewed offers.config trail text
+  pub written : AppendsWhole before.sink.bytes now.sink.bytes text
 
 -- no two of the commands that the offers make conflict
 abbrev pub AllCommute : List Offer → Type 0
@@ -63,11 +64,18 @@ pub record RunsInScriptOrder (offers : Offers) (trail : List Record) : Type 0 wh
   pub state : (l : ℕ) → l < offers.config.learners → state_of store_rules (learned_at offers.config l (entries_in trail)) ≡ state_after store_rules (commands_of offers.list)
   pub replies : (l : ℕ) → l < offers.config.learners → (id : CommandId) → reply_of store_rules (learned_at offers.config l (entries_in trail)) id ≡ lookup (is_named id) (replies_to store_rules (commands_of offers.list))
 
+-- such offers were made, and if no two of their commands conflict, what they came to is what the script says
+pub record CommutesAsInTheScript (policy : RoundPolicy) (before now : Outside) (trail : List Record) : Type 0 where
+  pub offers : Offers
+  pub whole : OffersAll policy before now trail offers
+  pub in_order : AllCommute offers.list → RunsInScriptOrder offers trail
+
 -- `run` was to read a script, a line of which is refused, as was told; no node ran
 pub record RefusesOffers (words : List (List ℕ)) (before now : Outside) (status : ℕ) (trail : List Record) : Type 0 where
   pub policy : RoundPolicy
   pub limit : ℕ
-  pub is_run : named words ≡ Some (Run policy limit)
+  pub viewed : Option (List ℕ)
+  pub is_run : named words ≡ Some (Run policy limit viewed)
   pub line : ℕ
   pub reason : Reason
   pub read : HasReadOffers before.source now.source (λ read. read ≡ RefusedAt line reason)
@@ -82,7 +90,8 @@ HasRoomForNext config limit trail = (size need : ℕ) → ¬ IsOverLimit config 
 pub record FillsLog (words : List (List ℕ)) (before now : Outside) (status : ℕ) (trail : List Record) : Type 0 where
   pub policy : RoundPolicy
   pub limit : ℕ
-  pub is_run : named words ≡ Some (Run policy limit)
+  pub viewed : Option (List ℕ)
+  pub is_run : named words ≡ Some (Run policy limit viewed)
   pub offers : Offers
   pub whole : OffersAll policy before now trail offers
   pub size : ℕ
@@ -98,7 +107,8 @@ TellsChange before now status = ((place : ℕ) × Told before.sink now.sink (bro
 pub record LosesLog (words : List (List ℕ)) (before now : Outside) (status : ℕ) (trail : List Record) : Type 0 where
   pub policy : RoundPolicy
   pub limit : ℕ
-  pub is_run : named words ≡ Some (Run policy limit)
+  pub viewed : Option (List ℕ)
+  pub is_run : named words ≡ Some (Run policy limit viewed)
   pub offers : Offers
   pub whole : OffersAll policy before now trail offers
   pub failed : SomeFailed before.disks now.disks
@@ -108,7 +118,7 @@ pub record LosesLog (words : List (List ℕ)) (before now : Outside) (status : �
 abbrev pub DiskFailed : Option Subcommand → Outside → Outside → Type 0
 DiskFailed None before now = ⊥
 DiskFailed (Some (Play operations)) before now = ⊥
-DiskFailed (Some (Run policy limit)) before now = SomeFailed before.disks now.disks
+DiskFailed (Some (Run policy limit viewed)) before now = SomeFailed before.disks now.disks
 DiskFailed (Some (Sim seed commands)) before now = ⊥
 DiskFailed (Some (Drive acceptors learners commands)) before now = ⊥
 DiskFailed (Some (Log k)) before now = Rose (seen_at k before.disks).faults (seen_at k now.disks).faults

@@ -1,5 +1,5 @@
 -- Why a run of nodes in threads ends as it does.
-use Rattle.std.specs.Prelude.{◌≡◌, ◌⊎◌, ℕ, List, [], Some, None}
+use Rattle.std.specs.Prelude.{◌≡◌, ◌⊎◌, ℕ, List, [], Option, Some, None}
 use Rattle.gp_round.specs.Counts.{Counts}
 use Rattle.gp_msg.specs.declared.record.Record.{Record}
 use Rattle.gp_run.specs.Runs.{entries_in}
@@ -11,8 +11,10 @@ use Rattle.gp_shelf.specs.Making.{SomeRose}
 use Rattle.gp_ending.specs.declared.ends.RunEnd.{RunEnd}
 use Rattle.gp_ending.specs.declared.ends.RunEnd.TheVariants as end
 use Rattle.gp_cluster.specs.declared.policy.RoundPolicy.{RoundPolicy}
+use Rattle.gp_retelling.specs.Texts.{run_text, IsViewsText}
 use Rattle.gp_cluster.specs.Runs.{IsRunOf, HasLearnedAll, IsQuietOrSettled, EndCause, HoldParts}
 use Rattle.gp_cli.specs.declared.runs.TheConstants.{MOST_READ}
+use Rattle.gp_cli.specs.Texts.{disk_fault, log_changed, full_text, broken_text}
 use Rattle.gp_cli.specs.Outside.{Seen, faults_seen, bytes_seen}
 use Rattle.gp_cli.specs.Endings.{Ending, Unread, Refuses, Runs, Starved}
 
@@ -36,21 +38,36 @@ pub record HasLearned (policy : RoundPolicy) (limit : ℕ) (old new : List Seen)
   pub quiet : ¬ SomeFailed old new → IsQuietOrSettled policy offers.config offers.list list
   pub parts : HoldParts bytes_seen offers.config limit (entries_in list) new
 
--- nodes ran that offered what a script says, and ended so, by the disks before and now
-pub record HasRun (policy : RoundPolicy) (limit : ℕ) (old new : List Seen) (offers : Offers) (why : RunEnd) (config : Counts) (list : List Record) : Type 0 where
+-- what is printed of a run in which all was learned: its trace and report, and behind them, if readers viewed a key, the order in which a replica of learner 0 ran what that learned, and what each reader saw of the key along it
+abbrev pub IsLearnedText : Option (List ℕ) → Counts → List Record → List ℕ → Type 0
+IsLearnedText None config list text = text ≡ run_text config list
+IsLearnedText (Some key) config list text = IsViewsText key config list text
+
+-- what is printed of a run that ended so
+abbrev pub IsEndText : Option (List ℕ) → RunEnd → Counts → List Record → List ℕ → Type 0
+IsEndText viewed end.Learned config list text = IsLearnedText viewed config list text
+IsEndText viewed end.NoMemory config list text = text ≡ []
+IsEndText viewed end.Disk config list text = text ≡ disk_fault
+IsEndText viewed (end.Full size need) config list text = text ≡ full_text size need
+IsEndText viewed (end.NotLog at) config list text = text ≡ broken_text at
+IsEndText viewed end.Changed config list text = text ≡ log_changed
+
+-- nodes ran that offered what a script says, and ended so, with this text, by the disks before and now
+pub record HasRun (policy : RoundPolicy) (limit : ℕ) (viewed : Option (List ℕ)) (old new : List Seen) (offers : Offers) (why : RunEnd) (config : Counts) (list : List Record) (text : List ℕ) : Type 0 where
   pub own_config : config ≡ offers.config
   pub posted : ArePosted policy offers why list
   pub cause : EndCause faults_seen config limit old new (Some list) why
   pub learned : why ≡ end.Learned → HasLearned policy limit old new offers list
+  pub says : IsEndText viewed why config list text
 
 -- ---- the script
 
 -- why a run ends so with the script at hand, by what the script says
-abbrev pub IsOffersCause : RoundPolicy → ℕ → OffersReading → List Seen → List Seen → Ending → Type 0
-IsOffersCause policy limit read old new (Refuses line reason said) = (said ≡ None) × (read ≡ RefusedAt line reason)
-IsOffersCause policy limit read old new (Runs why config list) = (offers : Offers) × (read ≡ Offered offers) × HasRun policy limit old new offers why config list
-IsOffersCause policy limit read old new Starved = Unit {0}
-IsOffersCause policy limit read old new ending = ⊥
+abbrev pub IsOffersCause : RoundPolicy → ℕ → Option (List ℕ) → OffersReading → List Seen → List Seen → Ending → Type 0
+IsOffersCause policy limit viewed read old new (Refuses line reason said) = (said ≡ None) × (read ≡ RefusedAt line reason)
+IsOffersCause policy limit viewed read old new (Runs why config list text) = (offers : Offers) × (read ≡ Offered offers) × HasRun policy limit viewed old new offers why config list text
+IsOffersCause policy limit viewed read old new Starved = Unit {0}
+IsOffersCause policy limit viewed read old new ending = ⊥
 
 -- the bytes read, up to one more than a script may have, say this as a script of `run`, and no fault was counted
 pub record HasReadOffers (before now : Seen) (Says : OffersReading → Type 0) : Type 0 where
@@ -60,9 +77,9 @@ pub record HasReadOffers (before now : Seen) (Says : OffersReading → Type 0) :
   pub says : Says (offers_reading bytes)
 
 -- why it ends so if a script is to be read first, by the source and the disks before and now
-abbrev pub IsNodesCause : RoundPolicy → ℕ → Seen → Seen → List Seen → List Seen → Ending → Type 0
-IsNodesCause policy limit before now old new Unread = Rose before.faults now.faults × LosesUpTo MOST_READ before.bytes now.bytes
-IsNodesCause policy limit before now old new (Refuses line reason said) = HasReadOffers before now (λ read. IsOffersCause policy limit read old new (Refuses line reason said))
-IsNodesCause policy limit before now old new (Runs why config list) = HasReadOffers before now (λ read. IsOffersCause policy limit read old new (Runs why config list))
-IsNodesCause policy limit before now old new Starved = (now.faults ≡ before.faults) × LosesUpTo MOST_READ before.bytes now.bytes
-IsNodesCause policy limit before now old new ending = ⊥
+abbrev pub IsNodesCause : RoundPolicy → ℕ → Option (List ℕ) → Seen → Seen → List Seen → List Seen → Ending → Type 0
+IsNodesCause policy limit viewed before now old new Unread = Rose before.faults now.faults × LosesUpTo MOST_READ before.bytes now.bytes
+IsNodesCause policy limit viewed before now old new (Refuses line reason said) = HasReadOffers before now (λ read. IsOffersCause policy limit viewed read old new (Refuses line reason said))
+IsNodesCause policy limit viewed before now old new (Runs why config list text) = HasReadOffers before now (λ read. IsOffersCause policy limit viewed read old new (Runs why config list text))
+IsNodesCause policy limit viewed before now old new Starved = (now.faults ≡ before.faults) × LosesUpTo MOST_READ before.bytes now.bytes
+IsNodesCause policy limit viewed before now old new ending = ⊥

@@ -7,6 +7,7 @@ use Rattle.gp_round.specs.Configs.{is_between, bad_count}
 use Rattle.gp_words.specs.Numbers.{number_of}
 use Rattle.gp_random.specs.declared.workload.TheConstants.{MOST_COMMANDS}
 use Rattle.gp_sim.specs.declared.driving.TheConstants.{MOST_DRIVEN}
+use Rattle.gp_command.specs.Key.{is_key}
 use Rattle.gp_cluster.specs.declared.policy.RoundPolicy.TheVariants.{Multi, Adaptive}
 use Rattle.gp_cli.specs.declared.subcommand.Operations.TheVariants.{Store, Bank}
 use Rattle.gp_cli.specs.declared.subcommand.TheConstants.{LEAST_LIMIT, MOST_LIMIT}
@@ -35,13 +36,17 @@ abbrev pub named_by_one : List ℕ → Option Subcommand
 named_by_one word =
     if bytes_eq word (codes "play") then Some (Play Store)
     else if bytes_eq word (codes "bank") then Some (Play Bank)
-    else if bytes_eq word (codes "run") then Some (Run Multi MOST_LIMIT)
-    else if bytes_eq word (codes "adapt") then Some (Run Adaptive MOST_LIMIT)
+    else if bytes_eq word (codes "run") then Some (Run Multi MOST_LIMIT None)
+    else if bytes_eq word (codes "adapt") then Some (Run Adaptive MOST_LIMIT None)
     else if bytes_eq word (codes "audit") then Some Audit else None
 
 -- the limit of each log of nodes that run
 abbrev pub run_named : List ℕ → Option Subcommand
-run_named limit = option_map (λ n. Run Multi n) (number_within LEAST_LIMIT MOST_LIMIT limit)
+run_named limit = option_map (λ n. Run Multi n None) (number_within LEAST_LIMIT MOST_LIMIT limit)
+
+-- the key that readers view while nodes run with the greatest limit
+abbrev pub views_named : List ℕ → Option Subcommand
+views_named key = if is_key key then Some (Run Multi MOST_LIMIT (Some key)) else None
 
 -- the number of a disk
 abbrev pub disk_named : List ℕ → Option ℕ
@@ -55,9 +60,11 @@ log_named word k = if bytes_eq word (codes "log") then Some (Log k) else if byte
 abbrev pub logged_disk : List ℕ → List ℕ → Option Subcommand
 logged_disk word number = option_and_then (log_named word) (disk_named number)
 
--- `run LIMIT`, `log K` and `upgrade K`
+-- `run LIMIT`, `views KEY`, `log K` and `upgrade K`
 abbrev pub named_by_two : List ℕ → List ℕ → Option Subcommand
-named_by_two word number = if bytes_eq word (codes "run") then run_named number else logged_disk word number
+named_by_two word other =
+    if bytes_eq word (codes "run") then run_named other
+    else if bytes_eq word (codes "views") then views_named other else logged_disk word other
 
 -- the subcommand that the words name
 abbrev pub named : List (List ℕ) → Option Subcommand
@@ -71,7 +78,7 @@ named (word ∷ x ∷ y ∷ z ∷ other ∷ others) = None
 -- the numbers of a subcommand are in range
 abbrev pub IsWithin : Subcommand → Type 0
 IsWithin (Play operations) = Unit {0}
-IsWithin (Run policy limit) = (LEAST_LIMIT ≤ limit) × (limit ≤ MOST_LIMIT)
+IsWithin (Run policy limit viewed) = (LEAST_LIMIT ≤ limit) × (limit ≤ MOST_LIMIT)
 IsWithin (Sim seed commands) = (1 ≤ commands) × (commands ≤ MOST_COMMANDS)
 IsWithin (Drive acceptors learners commands) = (bad_count acceptors 3 learners ≡ None) × (commands ≤ MOST_DRIVEN)
 IsWithin (Log disk) = disk < 12

@@ -7,7 +7,7 @@ use Rattle.gp_verdict.specs.declared.reason.AuditReason.TheVariants as audit
 
 -- what is printed if the words name no subcommand
 abbrev pub usage : List ℕ
-usage = codes "usage: mcgp play | run [LIMIT] | sim SEED COMMANDS | drive A L K | log K | upgrade K | audit | adapt | bank\n"
+usage = codes "usage: mcgp play | run [LIMIT] | sim SEED COMMANDS | drive A L K | log K | upgrade K | audit | adapt | bank | views KEY\n"
 
 -- what is printed if the source failed
 abbrev pub read_fault : List ℕ

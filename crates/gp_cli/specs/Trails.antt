@@ -30,7 +30,7 @@ IsOfNodes status (Posted list) = (status ≡ 0) ⊎ (status ≡ 1) ⊎ (status �
 abbrev pub IsMadeFor : Option Subcommand → ℕ → Trail → Type 0
 IsMadeFor None status trail = IsFolded trail
 IsMadeFor (Some (Play operations)) status trail = IsFolded trail
-IsMadeFor (Some (Run policy limit)) status trail = IsOfNodes status trail
+IsMadeFor (Some (Run policy limit viewed)) status trail = IsOfNodes status trail
 IsMadeFor (Some (Sim seed commands)) status trail = IsFolded trail
 IsMadeFor (Some (Drive acceptors learners commands)) status trail = IsFolded trail
 IsMadeFor (Some (Log k)) status trail = IsFolded trail

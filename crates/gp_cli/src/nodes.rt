@@ -1,5 +1,5 @@
 //! The subcommand that runs nodes in threads.
-ghost use Rattle.std.specs.Prelude.{◌≡◌, ◌≤◌, ℕ, [], Some, Err, length};
+ghost use Rattle.std.specs.Prelude.{◌≡◌, ◌≤◌, ℕ, List, [], Option, Some, None, Err, length};
 ghost use Rattle.gp_run.specs.Legal.{Legal};
 ghost use Rattle.gp_run.specs.Runs.{entries_in};
 ghost use Rattle.gp_cluster.specs.declared.policy.RoundPolicy.{RoundPolicy};
@@ -9,7 +9,10 @@ ghost use Rattle.gp_offers.specs.Offered.{AreOffered};
 ghost use Rattle.gp_cli.specs.declared.subcommand.Subcommand.TheVariants.{Run};
 ghost use Rattle.gp_cli.specs.declared.ran.Trail.TheVariants.{Folded};
 ghost use Rattle.gp_cli.specs.Outside.{seen, disks_seen};
-ghost use Rattle.gp_cli.specs.Endings.{Runs};
+ghost use Rattle.gp_phase.specs.Beside.{topics};
+ghost use Rattle.gp_onlookers.specs.Ends.{AreWatching, topic_of};
+ghost use Rattle.gp_cli.specs.Endings.{Runs, end_text};
+ghost use Rattle.gp_cli.specs.Viewed.{TellsViewed};
 ghost use Rattle.gp_cli.specs.Run.{IsOffersCause, IsNodesCause};
 ghost use Rattle.gp_cli.specs.Logs.{TellsEnding};
 ghost use Rattle.gp_cli.specs.Serving.{EndsBy, EachDisk, KeepsUnused};
@@ -22,11 +25,14 @@ use crate::telling::{
     DISK_FAULT, LOG_CHANGED, READ_FAULT, broken_text, full_text, refusal_text, tell, tell_of,
 };
 use gp_cluster::{RoundPolicy, run_nodes};
+use gp_command::{Key, NoMemory};
 use gp_edge::{Disk, Gate, Refused, Sink, Source, read_up_to};
 use gp_ending::RunEnd;
 use gp_msg::{Record, Records};
 use gp_offers::{Offers, Unread, read_offers};
-use gp_retelling::run_text;
+use gp_onlookers::{Onlookers, close, watch};
+use gp_phase::Trio;
+use gp_retelling::{run_text, views_text};
 use gp_round::Config;
 use std::alloc::Global;
 use std::sync::Wait;
@@ -54,7 +60,7 @@ fn tell_end<K: Sink>(
     sink: &mut K,
 ) -> u8
     requires legal { Legal config.now (entries_in records.now) }
-    ensures told { TellsEnding (Runs end config.now records.now) (seen (K.written sink.old) (K.faults sink.old)) (seen (K.written sink.new) (K.faults sink.new)) result }
+    ensures told { TellsEnding (Runs end config.now records.now (end_text end config.now records.now)) (seen (K.written sink.old) (K.faults sink.old)) (seen (K.written sink.new) (K.faults sink.new)) result }
     ensures never_falls { K.faults sink.old ≤ K.faults sink.new }
 {
     match end {
@@ -69,8 +75,36 @@ fn tell_end<K: Sink>(
     }
 }
 
+// Prints how a run of nodes ended that posted these records, and if all was learned what onlookers saw of the key.
+fn tell_viewed<K: Sink, W: Wait>(
+    rt: &W,
+    alloc: Global,
+    config: &Config,
+    key: Key,
+    end: RunEnd,
+    records: &[Record],
+    onlookers: Onlookers,
+    sink: &mut K,
+) -> u8
+    requires legal { Legal config.now (entries_in records.now) }
+    requires watching { AreWatching key (topics (λ p. p.feed) topic_of onlookers) }
+    ensures told { TellsViewed key end config.now records.now (seen (K.written sink.old) (K.faults sink.old)) (seen (K.written sink.new) (K.faults sink.new)) result }
+    ensures never_falls { K.faults sink.old ≤ K.faults sink.new }
+{
+    match end {
+        RunEnd::Learned => match views_text(rt, alloc, config, key, records, onlookers) {
+            Ok(text) => tell(sink, &text, DONE, UNWRITTEN),
+            Err(NoMemory) => NO_MEMORY,
+        },
+        _ => {
+            close(rt, onlookers);
+            tell_end(alloc, config, end, records, sink)
+        }
+    }
+}
+
 // Runs the nodes of a configuration, and prints how they ended.
-fn run_offers<K: Sink, D: Disk + Send, W: Threads + Wait + Sync, G: Gate + Sync>(
+fn run_plainly<K: Sink, D: Disk + Send, W: Threads + Wait + Sync, G: Gate + Sync>(
     rt: &W,
     alloc: Global,
     policy: RoundPolicy,
@@ -84,14 +118,15 @@ fn run_offers<K: Sink, D: Disk + Send, W: Threads + Wait + Sync, G: Gate + Sync>
     requires low { 64 ≤ limit }
     requires high { limit ≤ 67108864 }
     requires right { AreOffered offers.now }
-    ensures ends { EndsBy (IsOffersCause policy limit (Offered offers.now) (disks_seen D.content D.faults disks.items) (disks_seen D.content D.faults result.disks.items))
+    ensures ends { EndsBy (IsOffersCause policy limit None (Offered offers.now) (disks_seen D.content D.faults disks.items) (disks_seen D.content D.faults result.disks.items))
         (seen (K.written sink.old) (K.faults sink.old)) (seen (K.written sink.new) (K.faults sink.new)) result.status (records_in result.trail) }
     ensures posted { IsOfNodes result.status result.trail }
-    ensures others { KeepsUnused (Some (Run policy limit)) (IsOffersCause policy limit (Offered offers.now) (disks_seen D.content D.faults disks.items) (disks_seen D.content D.faults result.disks.items))
+    ensures others { KeepsUnused (Some (Run policy limit None)) (IsOffersCause policy limit None (Offered offers.now) (disks_seen D.content D.faults disks.items) (disks_seen D.content D.faults result.disks.items))
         disks.items result.disks.items }
     ensures disks_never_fall { EachDisk (λ was is. D.faults was ≤ D.faults is) disks.items result.disks.items }
     ensures never_falls { K.faults sink.old ≤ K.faults sink.new }
 {
+    let mut beside = Trio::NOTHING;
     let run = run_nodes(
         rt,
         alloc,
@@ -99,6 +134,7 @@ fn run_offers<K: Sink, D: Disk + Send, W: Threads + Wait + Sync, G: Gate + Sync>
         policy,
         limit,
         &offers.list,
+        &mut beside,
         disks,
         gate,
     );
@@ -111,10 +147,96 @@ fn run_offers<K: Sink, D: Disk + Send, W: Threads + Wait + Sync, G: Gate + Sync>
     }
 }
 
+// Runs the nodes of a configuration while onlookers look at a key, and prints how they ended and what was seen.
+fn run_viewed<K: Sink, D: Disk + Send, W: Threads + Wait + Sync, G: Gate + Sync>(
+    rt: &W,
+    alloc: Global,
+    policy: RoundPolicy,
+    limit: u32,
+    key: Key,
+    offers: &Offers,
+    sink: &mut K,
+    disks: Vec<D>,
+    gate: &G,
+) -> Ran<D>
+    requires twelve { length disks.items ≡ 12 }
+    requires low { 64 ≤ limit }
+    requires high { limit ≤ 67108864 }
+    requires right { AreOffered offers.now }
+    ensures ends { EndsBy (IsOffersCause policy limit (Some key) (Offered offers.now) (disks_seen D.content D.faults disks.items) (disks_seen D.content D.faults result.disks.items))
+        (seen (K.written sink.old) (K.faults sink.old)) (seen (K.written sink.new) (K.faults sink.new)) result.status (records_in result.trail) }
+    ensures posted { IsOfNodes result.status result.trail }
+    ensures others { KeepsUnused (Some (Run policy limit (Some key))) (IsOffersCause policy limit (Some key) (Offered offers.now) (disks_seen D.content D.faults disks.items) (disks_seen D.content D.faults result.disks.items))
+        disks.items result.disks.items }
+    ensures disks_never_fall { EachDisk (λ was is. D.faults was ≤ D.faults is) disks.items result.disks.items }
+    ensures never_falls { K.faults sink.old ≤ K.faults sink.new }
+{
+    let Ok(mut onlookers) = watch(rt, alloc, key) else {
+        return without_nodes(alloc, NO_MEMORY, disks);
+    };
+    let run = run_nodes(
+        rt,
+        alloc,
+        offers.config,
+        policy,
+        limit,
+        &offers.list,
+        &mut onlookers,
+        disks,
+        gate,
+    );
+    let trail = Trail::of(alloc, run.posted);
+    let status = tell_viewed(
+        rt,
+        alloc,
+        &offers.config,
+        key,
+        run.end,
+        trail.records(),
+        onlookers,
+        sink,
+    );
+    Ran {
+        status,
+        trail,
+        disks: run.disks,
+    }
+}
+
+// Runs the nodes of a configuration, and prints how they ended.
+fn run_offers<K: Sink, D: Disk + Send, W: Threads + Wait + Sync, G: Gate + Sync>(
+    rt: &W,
+    alloc: Global,
+    policy: RoundPolicy,
+    limit: u32,
+    viewed: Option<Key>,
+    offers: &Offers,
+    sink: &mut K,
+    disks: Vec<D>,
+    gate: &G,
+) -> Ran<D>
+    requires twelve { length disks.items ≡ 12 }
+    requires low { 64 ≤ limit }
+    requires high { limit ≤ 67108864 }
+    requires right { AreOffered offers.now }
+    ensures ends { EndsBy (IsOffersCause policy limit viewed (Offered offers.now) (disks_seen D.content D.faults disks.items) (disks_seen D.content D.faults result.disks.items))
+        (seen (K.written sink.old) (K.faults sink.old)) (seen (K.written sink.new) (K.faults sink.new)) result.status (records_in result.trail) }
+    ensures posted { IsOfNodes result.status result.trail }
+    ensures others { KeepsUnused (Some (Run policy limit viewed)) (IsOffersCause policy limit viewed (Offered offers.now) (disks_seen D.content D.faults disks.items) (disks_seen D.content D.faults result.disks.items))
+        disks.items result.disks.items }
+    ensures disks_never_fall { EachDisk (λ was is. D.faults was ≤ D.faults is) disks.items result.disks.items }
+    ensures never_falls { K.faults sink.old ≤ K.faults sink.new }
+{
+    match viewed {
+        None => run_plainly(rt, alloc, policy, limit, offers, sink, disks, gate),
+        Some(key) => run_viewed(rt, alloc, policy, limit, key, offers, sink, disks, gate),
+    }
+}
+
 // No node runs for a script that was not read to its end. Prints its first refused line.
 fn refuse<K: Sink, D: Disk>(alloc: Global, why: Unread, sink: &mut K, disks: Vec<D>) -> Ran<D>
-    ensures ends { (policy : RoundPolicy) (limit : ℕ) (read : OffersReading) → Reads read (Err why)
-        → EndsBy (IsOffersCause policy limit read (disks_seen D.content D.faults disks.items) (disks_seen D.content D.faults result.disks.items))
+    ensures ends { (policy : RoundPolicy) (limit : ℕ) (viewed : Option (List ℕ)) (read : OffersReading) → Reads read (Err why)
+        → EndsBy (IsOffersCause policy limit viewed read (disks_seen D.content D.faults disks.items) (disks_seen D.content D.faults result.disks.items))
         (seen (K.written sink.old) (K.faults sink.old)) (seen (K.written sink.new) (K.faults sink.new)) result.status (records_in result.trail) }
     ensures posted { IsOfNodes result.status result.trail }
     ensures disks { result.disks.items ≡ disks.items }
@@ -136,6 +258,7 @@ fn run_script<K: Sink, D: Disk + Send, W: Threads + Wait + Sync, G: Gate + Sync>
     alloc: Global,
     policy: RoundPolicy,
     limit: u32,
+    viewed: Option<Key>,
     script: &[u8],
     sink: &mut K,
     disks: Vec<D>,
@@ -144,21 +267,22 @@ fn run_script<K: Sink, D: Disk + Send, W: Threads + Wait + Sync, G: Gate + Sync>
     requires twelve { length disks.items ≡ 12 }
     requires low { 64 ≤ limit }
     requires high { limit ≤ 67108864 }
-    ensures ends { EndsBy (IsOffersCause policy limit (offers_reading script.now) (disks_seen D.content D.faults disks.items) (disks_seen D.content D.faults result.disks.items))
+    ensures ends { EndsBy (IsOffersCause policy limit viewed (offers_reading script.now) (disks_seen D.content D.faults disks.items) (disks_seen D.content D.faults result.disks.items))
         (seen (K.written sink.old) (K.faults sink.old)) (seen (K.written sink.new) (K.faults sink.new)) result.status (records_in result.trail) }
     ensures posted { IsOfNodes result.status result.trail }
-    ensures others { KeepsUnused (Some (Run policy limit)) (IsOffersCause policy limit (offers_reading script.now) (disks_seen D.content D.faults disks.items) (disks_seen D.content D.faults result.disks.items))
+    ensures others { KeepsUnused (Some (Run policy limit viewed)) (IsOffersCause policy limit viewed (offers_reading script.now) (disks_seen D.content D.faults disks.items) (disks_seen D.content D.faults result.disks.items))
         disks.items result.disks.items }
     ensures disks_never_fall { EachDisk (λ was is. D.faults was ≤ D.faults is) disks.items result.disks.items }
     ensures never_falls { K.faults sink.old ≤ K.faults sink.new }
 {
     match read_offers(alloc, script) {
-        Ok(offers) => run_offers(rt, alloc, policy, limit, &offers, sink, disks, gate),
+        Ok(offers) => run_offers(rt, alloc, policy, limit, viewed, &offers, sink, disks, gate),
         Err(why) => refuse(alloc, why, sink, disks),
     }
 }
 
-/// Reads a script of offers, and runs its nodes in threads over logs of this limit.
+/// Reads a script of offers, and runs its nodes in threads over logs of this limit, while readers view the key if there
+/// is one.
 pub(crate) fn read_and_run<
     S: Source,
     K: Sink,
@@ -170,6 +294,7 @@ pub(crate) fn read_and_run<
     alloc: Global,
     policy: RoundPolicy,
     limit: u32,
+    viewed: Option<Key>,
     source: &mut S,
     sink: &mut K,
     disks: Vec<D>,
@@ -178,17 +303,17 @@ pub(crate) fn read_and_run<
     requires twelve { length disks.items ≡ 12 }
     requires low { 64 ≤ limit }
     requires high { limit ≤ 67108864 }
-    ensures ends { EndsBy (IsNodesCause policy limit (seen (S.rest source.old) (S.faults source.old)) (seen (S.rest source.new) (S.faults source.new)) (disks_seen D.content D.faults disks.items) (disks_seen D.content D.faults result.disks.items))
+    ensures ends { EndsBy (IsNodesCause policy limit viewed (seen (S.rest source.old) (S.faults source.old)) (seen (S.rest source.new) (S.faults source.new)) (disks_seen D.content D.faults disks.items) (disks_seen D.content D.faults result.disks.items))
         (seen (K.written sink.old) (K.faults sink.old)) (seen (K.written sink.new) (K.faults sink.new)) result.status (records_in result.trail) }
     ensures posted { IsOfNodes result.status result.trail }
-    ensures others { KeepsUnused (Some (Run policy limit)) (IsNodesCause policy limit (seen (S.rest source.old) (S.faults source.old)) (seen (S.rest source.new) (S.faults source.new)) (disks_seen D.content D.faults disks.items) (disks_seen D.content D.faults result.disks.items))
+    ensures others { KeepsUnused (Some (Run policy limit viewed)) (IsNodesCause policy limit viewed (seen (S.rest source.old) (S.faults source.old)) (seen (S.rest source.new) (S.faults source.new)) (disks_seen D.content D.faults disks.items) (disks_seen D.content D.faults result.disks.items))
         disks.items result.disks.items }
     ensures disks_never_fall { EachDisk (λ was is. D.faults was ≤ D.faults is) disks.items result.disks.items }
     ensures source_never_falls { S.faults source.old ≤ S.faults source.new }
     ensures sink_never_falls { K.faults sink.old ≤ K.faults sink.new }
 {
     match read_up_to(alloc, source, MOST_READ) {
-        Ok(script) => run_script(rt, alloc, policy, limit, &script, sink, disks, gate),
+        Ok(script) => run_script(rt, alloc, policy, limit, viewed, &script, sink, disks, gate),
         Err(Refused::Failed) => {
             let status = tell(sink, READ_FAULT, UNREAD, UNREAD);
             without_nodes(alloc, status, disks)

@@ -144,9 +144,13 @@ pub fn serve<W: Threads + Wait + Sync, S: Source, K: Sink, D: Disk + Send, G: Ga
         Some(Subcommand::Play { operations }) => {
             with_disks(read_and_play(alloc, operations, source, sink), disks)
         }
-        Some(Subcommand::Run { policy, limit }) => {
-            read_and_run(rt, alloc, policy, limit, source, sink, disks, gate)
-        }
+        Some(
+            Subcommand::Run {
+                policy,
+                limit,
+                viewed,
+            },
+        ) => read_and_run(rt, alloc, policy, limit, viewed, source, sink, disks, gate),
         Some(Subcommand::Sim { seed, commands }) => {
             with_disks(
                 simulate_and_summarize(rt, alloc, seed, commands, sink),

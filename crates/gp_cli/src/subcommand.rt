@@ -1,8 +1,9 @@
 //! The subcommands, and the words that name them.
 ghost use Rattle.std.specs.Prelude.{◌≡◌, IfSome};
-ghost use Rattle.gp_cli.specs.Subcommands.{texts_of, number_within, drive_named, sim_named, run_named, logged_disk, named_by_one, named_by_two, named, IsWithin};
+ghost use Rattle.gp_cli.specs.Subcommands.{texts_of, number_within, drive_named, sim_named, run_named, views_named, logged_disk, named_by_one, named_by_two, named, IsWithin};
 
 use gp_cluster::RoundPolicy;
+use gp_command::Key;
 use gp_random::MOST_COMMANDS;
 use gp_sim::MOST_DRIVEN;
 use gp_words::number_of;
@@ -39,6 +40,8 @@ pub enum Subcommand {
         policy: RoundPolicy,
         /// The limit of each log, in bytes, 64 to 67,108,864.
         limit: u32,
+        /// The key that two readers read while the nodes run, if one is to be viewed.
+        viewed: Option<Key>,
     },
     /// Make a workload from a seed, play and settle it, and print a summary.
     Sim {
@@ -116,10 +119,12 @@ fn of_one(word: &str) -> Option<Subcommand>
         "run" => Some(Subcommand::Run {
             policy: RoundPolicy::Multi,
             limit: MOST_LIMIT,
+            viewed: None,
         }),
         "adapt" => Some(Subcommand::Run {
             policy: RoundPolicy::Adaptive,
             limit: MOST_LIMIT,
+            viewed: None,
         }),
         "audit" => Some(Subcommand::Audit),
         _ => None,
@@ -132,6 +137,17 @@ fn run_of(limit: &str) -> Option<Subcommand>
     Some(Subcommand::Run {
         policy: RoundPolicy::Multi,
         limit: number_within(LEAST_LIMIT, MOST_LIMIT, limit)?,
+        viewed: None,
+    })
+}
+
+fn views_of(key: &str) -> Option<Subcommand>
+    ensures { result ≡ views_named key.now }
+{
+    Some(Subcommand::Run {
+        policy: RoundPolicy::Multi,
+        limit: MOST_LIMIT,
+        viewed: Some(Key::new(key.as_bytes()).ok()?),
     })
 }
 
@@ -147,13 +163,14 @@ fn of_disk(word: &str, number: &str) -> Option<Subcommand>
     }
 }
 
-// A word and a number.
-fn of_two(word: &str, number: &str) -> Option<Subcommand>
-    ensures { result ≡ named_by_two word.now number.now }
+// A word, and a number or a key.
+fn of_two(word: &str, other: &str) -> Option<Subcommand>
+    ensures { result ≡ named_by_two word.now other.now }
 {
     match word {
-        "run" => run_of(number),
-        _ => of_disk(word, number),
+        "run" => run_of(other),
+        "views" => views_of(other),
+        _ => of_disk(word, other),
     }
 }
 

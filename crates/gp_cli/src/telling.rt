@@ -13,7 +13,7 @@ use std::alloc::Global;
 
 /// What is printed if the words name no subcommand.
 pub const USAGE: &[u8] =
-    b"usage: mcgp play | run [LIMIT] | sim SEED COMMANDS | drive A L K | log K | upgrade K | audit | adapt | bank\n";
+    b"usage: mcgp play | run [LIMIT] | sim SEED COMMANDS | drive A L K | log K | upgrade K | audit | adapt | bank | views KEY\n";
 
 /// What is printed if the source failed.
 pub const READ_FAULT: &[u8] = b"read fault\n";

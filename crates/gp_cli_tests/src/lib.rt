@@ -30,4 +30,6 @@ mod steps_at_once;
 #[cfg(test)]
 mod upgrades;
 #[cfg(test)]
+mod viewed_runs;
+#[cfg(test)]
 mod words;

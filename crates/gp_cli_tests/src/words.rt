@@ -14,7 +14,7 @@ use std::test::Fail;
 use std::thread::Threads;
 
 const USAGE: &[u8] =
-    b"usage: mcgp play | run [LIMIT] | sim SEED COMMANDS | drive A L K | log K | upgrade K | audit | adapt | bank\n";
+    b"usage: mcgp play | run [LIMIT] | sim SEED COMMANDS | drive A L K | log K | upgrade K | audit | adapt | bank | views KEY\n";
 
 const SCRIPT: &[u8] = b"nodes 3 1 1\n";
 
@@ -57,6 +57,10 @@ fn unknown_words_print_the_usage(rt: HostRuntime) -> Result<(), Fail> {
     assert!(rt; are_refused(&rt, alloc, &["bank", "x"])?);
     assert!(rt; are_refused(&rt, alloc, &["bank", "0"])?);
     assert!(rt; are_refused(&rt, alloc, &["Bank"])?);
+    assert!(rt; are_refused(&rt, alloc, &["views"])?);
+    assert!(rt; are_refused(&rt, alloc, &["views", "A"])?);
+    assert!(rt; are_refused(&rt, alloc, &["views", ""])?);
+    assert!(rt; are_refused(&rt, alloc, &["views", "a", "a"])?);
     assert!(rt; are_refused(&rt, alloc, &["Play"])?);
     assert!(rt; are_refused(&rt, alloc, &["--help"])?);
     Ok(())

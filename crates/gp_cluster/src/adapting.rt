@@ -3,6 +3,7 @@ ghost use Rattle.std.specs.Prelude.{◌≡◌, ◌<◌, ◌+◌, ◌^◌, length
 ghost use Rattle.std.specs.List.{All};
 ghost use Rattle.gp_seats.specs.Offering.{IsKnown};
 ghost use Rattle.gp_shelf.specs.Lists.{HasRoomFor};
+ghost use Rattle.gp_phase.specs.Beside.{topics};
 ghost use Rattle.gp_cluster.specs.declared.policy.RoundPolicy.TheVariants.{Adaptive};
 ghost use Rattle.gp_cluster.specs.Seated.{IsSeated, RunsFrom, logs_in};
 
@@ -12,7 +13,9 @@ use gp_caller::{AdaptiveCaller, mode_after};
 use gp_closing::Closed;
 use gp_edge::{Disk, Gate};
 use gp_ending::{Worked, go_on, work};
+use gp_node::Cell;
 use gp_offers::OfferList;
+use gp_phase::{Beside, Trio};
 use gp_round::Config;
 use gp_rules::PaxosRules;
 use gp_seats::{Seated, offer_all};
@@ -22,12 +25,19 @@ use std::sync::Wait;
 use std::thread::Threads;
 
 /// Works until nothing is left to do, posts the offers, works again, and closes the wire.
-pub(crate) fn run_adapting<D: Disk + Send, W: Threads + Wait + Sync, G: Gate + Sync>(
+pub(crate) fn run_adapting<
+    D: Disk + Send,
+    A: Beside<Wire<PaxosRules>, Cell<D>> + Send,
+    B: Beside<Wire<PaxosRules>, Cell<D>> + Send,
+    W: Threads + Wait + Sync,
+    G: Gate + Sync,
+>(
     rt: &W,
     alloc: Global,
     config: Config,
     seated: Seated<D>,
     offers: &OfferList,
+    beside: &mut Trio<A, B>,
     room: Room<D>,
     gate: &G,
 ) -> Closed<D>
@@ -36,7 +46,8 @@ pub(crate) fn run_adapting<D: Disk + Send, W: Threads + Wait + Sync, G: Gate + S
     requires known { All IsKnown offers.now }
     requires cells_room { HasRoomFor (length seated.jobs.items + length seated.proposers.items) room.cells }
     requires logs_room { HasRoomFor (length (logs_in seated.jobs.items)) room.logs }
-    ensures { RunsFrom Adaptive D.faults D.content config offers.now (logs_in seated.jobs.items) result.logs.items result.posted result.end }
+    ensures run { RunsFrom Adaptive D.faults D.content config offers.now (logs_in seated.jobs.items) result.logs.items result.posted result.end }
+    ensures topics { topics A.topic B.topic beside.new ≡ topics A.topic B.topic beside.old }
 {
     know(config);
     let choose: ChooseMode = match Box::new(alloc, |scene: &Scene| mode_after(scene)) {
@@ -52,7 +63,17 @@ pub(crate) fn run_adapting<D: Disk + Send, W: Threads + Wait + Sync, G: Gate + S
         proposers,
     } = seated;
     let nobody = Vec::new(alloc);
-    let rested = work(rt, alloc, config, &wire, &mut caller, &nobody, jobs, gate);
+    let rested = work(
+        rt,
+        alloc,
+        config,
+        &wire,
+        &mut caller,
+        beside,
+        &nobody,
+        jobs,
+        gate,
+    );
     if rested.end.is_some() {
         return close_run(rt, alloc, config, wire, rested, proposers, room, 0, gate);
     }
@@ -65,6 +86,7 @@ pub(crate) fn run_adapting<D: Disk + Send, W: Threads + Wait + Sync, G: Gate + S
         config,
         &wire,
         &mut caller,
+        beside,
         &offered,
         rested.jobs,
         gate,

@@ -6,6 +6,7 @@ ghost use Rattle.gp_seats.specs.Offering.{IsKnown};
 ghost use Rattle.gp_shelf.specs.Lists.{KeepsOthers};
 ghost use Rattle.gp_shelf.specs.Making.{SomeRose, NoneFell};
 ghost use Rattle.gp_ending.specs.declared.ends.RunEnd.TheVariants as RunEnd;
+ghost use Rattle.gp_phase.specs.Beside.{topics};
 ghost use Rattle.gp_cluster.specs.Runs.{IsRunOf, HasLearnedAll, IsQuietOrSettled, EndCause, HoldParts};
 ghost use Rattle.gp_cluster.specs.Seated.{lent_end};
 
@@ -14,10 +15,13 @@ use crate::seated::{know, run_logs, take_room};
 use gp_closing::Closed;
 use gp_edge::{Disk, Gate};
 use gp_ending::RunEnd;
-use gp_node::Posted;
+use gp_node::{Cell, Posted};
 use gp_offers::OfferList;
+use gp_phase::{Beside, Trio};
 use gp_round::Config;
+use gp_rules::PaxosRules;
 use gp_shelf::{LendFault, Lent, Unlent, give_back, lend};
+use gp_wire::Wire;
 use std::alloc::Global;
 use std::sync::Wait;
 use std::thread::Threads;
@@ -48,13 +52,20 @@ fn end_of(why: LendFault) -> RunEnd
 /// are. The proposers post the offers, and phases follow in which all other nodes work, until nothing is left to do; the policy
 /// says which rounds begin, and whether phases come before the offers too. If a learner still lacks an offered command, the
 /// run is settled. Why a run ends is told by `RunEnd`.
-pub fn run_nodes<D: Disk + Send, W: Threads + Wait + Sync, G: Gate + Sync>(
+pub fn run_nodes<
+    D: Disk + Send,
+    A: Beside<Wire<PaxosRules>, Cell<D>> + Send,
+    B: Beside<Wire<PaxosRules>, Cell<D>> + Send,
+    W: Threads + Wait + Sync,
+    G: Gate + Sync,
+>(
     rt: &W,
     alloc: Global,
     config: Config,
     policy: RoundPolicy,
     limit: u32,
     offers: &OfferList,
+    beside: &mut Trio<A, B>,
     disks: Vec<D>,
     gate: &G,
 ) -> NodesRun<D>
@@ -71,6 +82,7 @@ pub fn run_nodes<D: Disk + Send, W: Threads + Wait + Sync, G: Gate + Sync>(
     ensures parts { result.end ≡ RunEnd.Learned → IfSome result.posted (λ list. HoldParts D.content config limit (entries_in list) result.disks.items) }
     ensures others { KeepsOthers config disks.items result.disks.items }
     ensures none_fell { NoneFell D.faults disks.items result.disks.items }
+    ensures topics { topics A.topic B.topic beside.new ≡ topics A.topic B.topic beside.old }
 {
     know(config);
     let Ok(room) = take_room(alloc) else {
@@ -83,7 +95,7 @@ pub fn run_nodes<D: Disk + Send, W: Threads + Wait + Sync, G: Gate + Sync>(
     match lend(alloc, config, limit, disks) {
         Ok(Lent { logs, shelf }) => {
             let Closed { end, posted, logs } = run_logs(
-                rt, alloc, config, policy, logs, offers, room, gate,
+                rt, alloc, config, policy, logs, offers, beside, room, gate,
             );
             let disks = give_back(shelf, logs);
             NodesRun { end, posted, disks }

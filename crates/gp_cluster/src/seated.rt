@@ -1,6 +1,7 @@
 //! A run from its offers to its end.
 ghost use Rattle.std.specs.Prelude.{◌≡◌, ◌≤◌, ◌<◌, ◌+◌, ◌^◌, ℕ, List, None, length, IfOk};
 ghost use Rattle.std.specs.List.{All};
+ghost use Rattle.gp_phase.specs.Beside.{topics};
 ghost use Rattle.gp_command.specs.Views.{DraftView};
 ghost use Rattle.gp_work.specs.declared.job.Job.{Job as JobOf};
 ghost use Rattle.gp_cell.specs.Cells.{CellState};
@@ -20,6 +21,7 @@ use gp_edge::{Disk, Gate};
 use gp_ending::{RunEnd, Worked};
 use gp_node::{Cell, Job};
 use gp_offers::OfferList;
+use gp_phase::{Beside, Trio};
 use gp_round::Config;
 use gp_rules::PaxosRules;
 use gp_seats::{Seated, Unseated, seat_all};
@@ -106,13 +108,20 @@ pub(crate) fn close_run<D: Disk, W: Wait, G: Gate>(
 }
 
 /// Runs the nodes of a configuration that are seated at a wire, in rounds that are chosen so, and closes the wire.
-fn run_seated<D: Disk + Send, W: Threads + Wait + Sync, G: Gate + Sync>(
+fn run_seated<
+    D: Disk + Send,
+    A: Beside<Wire<PaxosRules>, Cell<D>> + Send,
+    B: Beside<Wire<PaxosRules>, Cell<D>> + Send,
+    W: Threads + Wait + Sync,
+    G: Gate + Sync,
+>(
     rt: &W,
     alloc: Global,
     config: Config,
     policy: RoundPolicy,
     seated: Seated<D>,
     offers: &OfferList,
+    beside: &mut Trio<A, B>,
     room: Room<D>,
     gate: &G,
 ) -> Closed<D>
@@ -121,22 +130,32 @@ fn run_seated<D: Disk + Send, W: Threads + Wait + Sync, G: Gate + Sync>(
     requires known { All IsKnown offers.now }
     requires cells_room { HasRoomFor (length seated.jobs.items + length seated.proposers.items) room.cells }
     requires logs_room { HasRoomFor (length (logs_in seated.jobs.items)) room.logs }
-    ensures { RunsFrom policy D.faults D.content config offers.now (logs_in seated.jobs.items) result.logs.items result.posted result.end }
+    ensures run { RunsFrom policy D.faults D.content config offers.now (logs_in seated.jobs.items) result.logs.items result.posted result.end }
+    ensures topics { topics A.topic B.topic beside.new ≡ topics A.topic B.topic beside.old }
 {
     match policy {
-        RoundPolicy::Multi => run_in_turn(rt, alloc, config, seated, offers, room, gate),
-        RoundPolicy::Adaptive => run_adapting(rt, alloc, config, seated, offers, room, gate),
+        RoundPolicy::Multi => run_in_turn(rt, alloc, config, seated, offers, beside, room, gate),
+        RoundPolicy::Adaptive => run_adapting(
+            rt, alloc, config, seated, offers, beside, room, gate,
+        ),
     }
 }
 
 /// Runs the nodes of a configuration that have these logs, from the seating of the nodes to the closing of their wire.
-pub(crate) fn run_logs<D: Disk + Send, W: Threads + Wait + Sync, G: Gate + Sync>(
+pub(crate) fn run_logs<
+    D: Disk + Send,
+    A: Beside<Wire<PaxosRules>, Cell<D>> + Send,
+    B: Beside<Wire<PaxosRules>, Cell<D>> + Send,
+    W: Threads + Wait + Sync,
+    G: Gate + Sync,
+>(
     rt: &W,
     alloc: Global,
     config: Config,
     policy: RoundPolicy,
     logs: Vec<Log<D>>,
     offers: &OfferList,
+    beside: &mut Trio<A, B>,
     room: Room<D>,
     gate: &G,
 ) -> Closed<D>
@@ -146,11 +165,14 @@ pub(crate) fn run_logs<D: Disk + Send, W: Threads + Wait + Sync, G: Gate + Sync>
     requires known { All IsKnown offers.now }
     requires cells_room { HasRoomFor 24 room.cells }
     requires logs_room { HasRoomFor 12 room.logs }
-    ensures { RunsFrom policy D.faults D.content config offers.now logs.items result.logs.items result.posted result.end }
+    ensures run { RunsFrom policy D.faults D.content config offers.now logs.items result.logs.items result.posted result.end }
+    ensures topics { topics A.topic B.topic beside.new ≡ topics A.topic B.topic beside.old }
 {
     know(config);
     match seat_all(alloc, config, logs) {
-        Ok(seated) => run_seated(rt, alloc, config, policy, seated, offers, room, gate),
+        Ok(seated) => run_seated(
+            rt, alloc, config, policy, seated, offers, beside, room, gate,
+        ),
         Err(Unseated { logs }) => Closed {
             end: RunEnd::NoMemory,
             posted: None,

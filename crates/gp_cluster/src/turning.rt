@@ -3,6 +3,7 @@ ghost use Rattle.std.specs.Prelude.{◌≡◌, ◌<◌, ◌+◌, ◌^◌, length
 ghost use Rattle.std.specs.List.{All};
 ghost use Rattle.gp_seats.specs.Offering.{IsKnown};
 ghost use Rattle.gp_shelf.specs.Lists.{HasRoomFor};
+ghost use Rattle.gp_phase.specs.Beside.{topics};
 ghost use Rattle.gp_cluster.specs.declared.policy.RoundPolicy.TheVariants.{Multi};
 ghost use Rattle.gp_cluster.specs.Seated.{IsSeated, RunsFrom, logs_in};
 
@@ -11,20 +12,31 @@ use gp_caller::RoundCaller;
 use gp_closing::Closed;
 use gp_edge::{Disk, Gate};
 use gp_ending::work;
+use gp_node::Cell;
 use gp_offers::OfferList;
+use gp_phase::{Beside, Trio};
 use gp_round::Config;
+use gp_rules::PaxosRules;
 use gp_seats::{Seated, offer_all};
+use gp_wire::Wire;
 use std::alloc::Global;
 use std::sync::Wait;
 use std::thread::Threads;
 
 /// Posts the offers, works until nothing is left to do, and closes the wire.
-pub(crate) fn run_in_turn<D: Disk + Send, W: Threads + Wait + Sync, G: Gate + Sync>(
+pub(crate) fn run_in_turn<
+    D: Disk + Send,
+    A: Beside<Wire<PaxosRules>, Cell<D>> + Send,
+    B: Beside<Wire<PaxosRules>, Cell<D>> + Send,
+    W: Threads + Wait + Sync,
+    G: Gate + Sync,
+>(
     rt: &W,
     alloc: Global,
     config: Config,
     seated: Seated<D>,
     offers: &OfferList,
+    beside: &mut Trio<A, B>,
     room: Room<D>,
     gate: &G,
 ) -> Closed<D>
@@ -33,7 +45,8 @@ pub(crate) fn run_in_turn<D: Disk + Send, W: Threads + Wait + Sync, G: Gate + Sy
     requires known { All IsKnown offers.now }
     requires cells_room { HasRoomFor (length seated.jobs.items + length seated.proposers.items) room.cells }
     requires logs_room { HasRoomFor (length (logs_in seated.jobs.items)) room.logs }
-    ensures { RunsFrom Multi D.faults D.content config offers.now (logs_in seated.jobs.items) result.logs.items result.posted result.end }
+    ensures run { RunsFrom Multi D.faults D.content config offers.now (logs_in seated.jobs.items) result.logs.items result.posted result.end }
+    ensures topics { topics A.topic B.topic beside.new ≡ topics A.topic B.topic beside.old }
 {
     let Seated {
         wire,
@@ -47,7 +60,17 @@ pub(crate) fn run_in_turn<D: Disk + Send, W: Threads + Wait + Sync, G: Gate + Sy
     let Ok(offered) = offer_all(rt, alloc, &wire, proposers, offers, gate) else {
         return unclosed(jobs, room);
     };
-    let worked = work(rt, alloc, config, &wire, &mut caller, &offered, jobs, gate);
+    let worked = work(
+        rt,
+        alloc,
+        config,
+        &wire,
+        &mut caller,
+        beside,
+        &offered,
+        jobs,
+        gate,
+    );
     let commands = offers.as_slice().len();
     close_run(
         rt, alloc, config, wire, worked, offered, room, commands, gate,

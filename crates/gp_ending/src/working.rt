@@ -5,6 +5,7 @@ ghost use Rattle.std.specs.List.{All};
 ghost use Rattle.gp_work.specs.declared.job.Job.{Job as JobOf};
 ghost use Rattle.gp_cell.specs.Cells.{CellState};
 ghost use Rattle.gp_cell.specs.Working.{process_of, IsAt};
+ghost use Rattle.gp_phase.specs.Beside.{topics};
 ghost use Rattle.gp_phase.specs.Phases.{IsNew, AreReady, total};
 ghost use Rattle.gp_begins.specs.Begins.{leader};
 ghost use Rattle.gp_quiet.specs.Ended.{HaveWorked};
@@ -14,7 +15,7 @@ use crate::ends::{RunEnd, deciding};
 use gp_cell::Cell;
 use gp_edge::{Disk, Gate};
 use gp_node::Job;
-use gp_phase::{Caller, PhasesEnd, call_first, run_phases};
+use gp_phase::{Beside, Caller, PhasesEnd, Trio, call_first, run_phases};
 use gp_round::Config;
 use gp_rules::PaxosRules;
 use gp_wire::Wire;
@@ -62,6 +63,8 @@ fn starved<D: Disk>(jobs: Vec<Job<D>>) -> Worked<D>
 pub fn go_on<
     D: Disk + Send,
     C: Caller<Wire<PaxosRules>, Cell<D>>,
+    A: Beside<Wire<PaxosRules>, Cell<D>> + Send,
+    B: Beside<Wire<PaxosRules>, Cell<D>> + Send,
     W: Threads + Wait + Sync,
     G: Gate + Sync,
 >(
@@ -70,6 +73,7 @@ pub fn go_on<
     config: Config,
     wire: &Wire<PaxosRules>,
     caller: &mut C,
+    beside: &mut Trio<A, B>,
     offered: &[Job<D>],
     jobs: Vec<Job<D>>,
     gate: &G,
@@ -83,12 +87,13 @@ pub fn go_on<
     ensures worked { result.end ≡ None → HaveWorked C.answers D.faults wire.now config.acceptors (total (process_of D.faults) 0 offered.now) (C.called caller.new) jobs.items result.jobs.items }
     ensures caller { result.end ≡ None → IsCallerAt config (C.config caller.new) (C.node caller.new) (λ seen. C.knows caller.new seen) config.acceptors result.jobs.items }
     ensures decided { IfSome result.end (IsDecided result.jobs.items) }
+    ensures topics { topics A.topic B.topic beside.new ≡ topics A.topic B.topic beside.old }
 {
     let at = config.acceptors() as usize;
     let Some(others) = count::<Wire<PaxosRules>, Cell<D>>(0, offered) else {
         return starved(jobs);
     };
-    let phases = run_phases(rt, alloc, wire, jobs, at, caller, others, gate);
+    let phases = run_phases(rt, alloc, wire, jobs, at, caller, beside, others, gate);
     let end = match phases.end {
         PhasesEnd::Quiet => None,
         PhasesEnd::Fault | PhasesEnd::NoMemory => {
@@ -106,6 +111,8 @@ pub fn go_on<
 pub fn work<
     D: Disk + Send,
     C: Caller<Wire<PaxosRules>, Cell<D>>,
+    A: Beside<Wire<PaxosRules>, Cell<D>> + Send,
+    B: Beside<Wire<PaxosRules>, Cell<D>> + Send,
     W: Threads + Wait + Sync,
     G: Gate + Sync,
 >(
@@ -114,6 +121,7 @@ pub fn work<
     config: Config,
     wire: &Wire<PaxosRules>,
     caller: &mut C,
+    beside: &mut Trio<A, B>,
     offered: &[Job<D>],
     starting: Vec<Job<D>>,
     gate: &G,
@@ -130,11 +138,12 @@ pub fn work<
     ensures quiet { result.end ≡ None → RestsAfter C.answers D.faults wire.now config.acceptors (total (process_of D.faults) 0 offered.now) (C.called caller.new) starting.items result.jobs.items }
     ensures caller { result.end ≡ None → IsCallerAt config (C.config caller.new) (C.node caller.new) (λ seen. C.knows caller.new seen) config.acceptors result.jobs.items }
     ensures decided { IfSome result.end (IsDecided result.jobs.items) }
+    ensures topics { topics A.topic B.topic beside.new ≡ topics A.topic B.topic beside.old }
 {
     let at = config.acceptors() as usize;
     let mut jobs = starting;
     if call_first(rt, wire, &mut jobs, at, caller).is_err() {
         return starved(jobs);
     }
-    go_on(rt, alloc, config, wire, caller, offered, jobs, gate)
+    go_on(rt, alloc, config, wire, caller, beside, offered, jobs, gate)
 }

@@ -14,7 +14,7 @@ use gp_edge::{Idle, MemDisk};
 use gp_history::Hist;
 use gp_msg::Node;
 use gp_node::{Cell, Job, Move, Moves, PaxosRules, workers};
-use gp_phase::{Call, PhasesEnd, call_first, run_phases};
+use gp_phase::{Call, PhasesEnd, Trio, call_first, run_phases};
 use gp_round::{Config, Mode, Round};
 use gp_wire::{Pass, Wire};
 use gp_work::Process;
@@ -115,7 +115,18 @@ fn run<R: Threads + Wait + Sync>(
     let mut caller = RoundCaller::new(alloc, config)?;
     call_first(rt, &wire, &mut jobs, at, &mut caller)?;
     let others = keys.len() as u64;
-    let phases = run_phases(rt, alloc, &wire, jobs, at, &mut caller, others, &Idle);
+    let mut beside = Trio::NOTHING;
+    let phases = run_phases(
+        rt,
+        alloc,
+        &wire,
+        jobs,
+        at,
+        &mut caller,
+        &mut beside,
+        others,
+        &Idle,
+    );
     Ok((
         phases.end == PhasesEnd::Quiet,
         caller.calls() == calls,

@@ -5,12 +5,14 @@ ghost use Rattle.std.specs.Prelude.{None};
 ghost use Rattle.gp_work.specs.declared.job.Job.{Job};
 ghost use Rattle.gp_work.specs.Doing.{Goes, Posted};
 ghost use Rattle.gp_phase.specs.declared.phases.PhasesEnd.TheVariants as PhasesEnd;
+ghost use Rattle.gp_phase.specs.Beside.{topics};
 ghost use Rattle.gp_phase.specs.Phases.{rounds, only_at, total, AreReady, Carried, Finished, Opens, Asked, Follows};
 
+use crate::beside::{Beside, Trio, workers_beside};
 use crate::caller::Caller;
 use gp_command::NoMemory;
 use gp_edge::Gate;
-use gp_work::{Job, Move, Process, workers};
+use gp_work::{Job, Move, Process};
 use std::alloc::Global;
 use std::sync::Wait;
 use std::thread::Threads;
@@ -115,16 +117,18 @@ pub fn call_round<N, P: Process<N>, C: Caller<N, P>, W: Wait>(
     }
 }
 
-/// Runs phases: in each of them the jobs are done, each in a thread of its own, and behind it the caller is asked which round
-/// the node of job `at` is to begin in the next one.
+/// Runs phases: in each of them the jobs are done, each in a thread of its own, beside other work, and behind it the caller
+/// is asked which round the node of job `at` is to begin in the next one.
 ///
 /// They end after a phase in which a job has a fault, or if memory runs out. They also end after a phase in which no node
 /// posted a record, behind which each node has seen as many records as all nodes posted, and which leaves no round to begin.
 /// `others` is how many records the nodes without a job posted.
 pub fn run_phases<
     N: Sync,
-    P: Process<N> + Send,
+    P: Process<N> + Send + Drop,
     C: Caller<N, P>,
+    A: Beside<N, P> + Send,
+    B: Beside<N, P> + Send,
     W: Threads + Wait + Sync,
     G: Gate + Sync,
 >(
@@ -134,6 +138,7 @@ pub fn run_phases<
     mut jobs: Vec<Job<P>>,
     at: usize,
     caller: &mut C,
+    beside: &mut Trio<A, B>,
     others: u64,
     gate: &G,
 ) -> Phases<P>
@@ -152,10 +157,11 @@ pub fn run_phases<
     ensures node { C.node caller.new ≡ C.node caller.old }
     ensures config { C.config caller.new ≡ C.config caller.old }
     ensures knows { result.end ≡ PhasesEnd.Quiet → (d : Job P) → C.knows caller.new (P.state (slice_index_or result.jobs.items at d).cell).list }
+    ensures topics { topics A.topic B.topic beside.new ≡ topics A.topic B.topic beside.old }
 {
     for _ in rt.forever() {
         let before = count(others, &jobs);
-        jobs = workers(rt, alloc, net, jobs, gate);
+        jobs = workers_beside(rt, alloc, net, jobs, beside, gate);
         if has_fault(&jobs) {
             let end = PhasesEnd::Fault;
             return Phases { jobs, end };

@@ -2,7 +2,9 @@
 #![tactic(auto)]
 
 mod texts;
+mod views;
 mod worlds;
 
 pub use texts::run_text;
+pub use views::views_text;
 pub use worlds::world_of;

@@ -32,13 +32,13 @@ pub fn world_of(alloc: Global, config: Config, records: &[Record]) -> Result<Wor
 }
 
 // The event of a record, which may come next, happens again. Such an event is refused only if memory runs out.
-fn retell(world: &mut World, record: &Record) -> Result<(), NoMemory>
+fn retell(world: &mut World, happened: &Record) -> Result<(), NoMemory>
     requires few { length world.old.records < 2 ^ 31 }
-    requires follows { Follows world.old.config (entries_of world.old) (entry_of record.now) }
+    requires follows { Follows world.old.config (entries_of world.old) (entry_of happened.now) }
     ensures config { OnOk result (world.new.config ≡ world.old.config) }
-    ensures entries { OnOk result (entries_of world.new ≡ entry_of record.now ∷ entries_of world.old) }
+    ensures entries { OnOk result (entries_of world.new ≡ entry_of happened.now ∷ entries_of world.old) }
 {
-    match world.step(record.event.copy()?) {
+    match world.step(happened.event.copy()?) {
         Ok(_) => Ok(()),
         Err(_) => Err(NoMemory),
     }

@@ -3,10 +3,10 @@ use Rattle.gp_cli.proofs.Statuses.{plays_whole, stops_at_line, read_to_end}
 use Rattle.gp_cli.proofs.laws.a_script_was_played_or_refused.Goals as goal
 
 pub returns-clause-played : goal.returns-clause-played
-returns-clause-played g = λ words before now status trail ends. plays_whole words before now status trail ends
+returns-clause-played g = λ run. plays_whole run.words run.before run.now run.status run.trail run.ends
 
 pub returns-clause-refused : goal.returns-clause-refused
-returns-clause-refused g = λ words before now status trail ends. stops_at_line words before now status trail ends
+returns-clause-refused g = λ run. stops_at_line run.words run.before run.now run.status run.trail run.ends
 
 pub returns-clause-read_to_end : goal.returns-clause-read_to_end
-returns-clause-read_to_end g = λ words before now status trail ends. read_to_end words before now status trail ends
+returns-clause-read_to_end g = λ run. read_to_end run.words run.before run.now run.status run.trail run.ends

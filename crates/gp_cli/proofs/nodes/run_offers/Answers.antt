@@ -1,54 +1,14 @@
-use Rattle.std.proofs.Common.{List, ◌<◌, ◌≤◌, sym, subst, arith}
-use Rattle.gp_msg.specs.declared.record.Record.{Record}
-use Rattle.gp_run.specs.Legal.{Legal}
-use Rattle.gp_run.specs.Runs.{entries_in}
-use Rattle.gp_cli.specs.declared.ran.Trail.{Trail}
-use Rattle.gp_cli.specs.Outside.{seen, disks_seen}
-use Rattle.gp_cli.specs.Endings.{Runs}
-use Rattle.gp_cli.specs.Run.{HasRun}
-use Rattle.gp_cli.specs.Logs.{TellsEnding}
-use Rattle.gp_cli.specs.Trails.{records_in}
-use Rattle.gp_cli.proofs.NodesCauses.{has_run, legal_trail, nodes_end, nodes_keep, each_of}
-use Rattle.gp_cli.proofs.nodes.run_offers.Given as given
+use Rattle.std.proofs.Common.{List, ℕ, Option, Some, sym, subst}
+use Rattle.gp_offers.specs.Offering.{Offered}
+use Rattle.gp_cli.specs.declared.subcommand.Subcommand.TheVariants.{Run}
+use Rattle.gp_cli.specs.Outside.{disks_seen}
+use Rattle.gp_cli.specs.Run.{IsOffersCause}
+use Rattle.gp_cli.specs.Serving.{KeepsUnused}
 use Rattle.gp_cli.proofs.nodes.run_offers.Goals as goal
 
--- the disks as they are seen before and after
-abbrev Has : (g : given.Over) (c : goal.After-tell_end-status g) → Trail → Type 0
-Has g c trail =
-    let run = c.run_nodes-run.result in
-    let offers = c.args.offers.now in
-    HasRun c.args.policy c.args.limit (disks_seen g.D.Disk.content g.D.Disk.faults c.args.disks.items) (disks_seen g.D.Disk.content g.D.Disk.faults run.disks.items) offers run.end offers.config (records_in trail)
-
-has : (g : given.Over) (c : goal.After-tell_end-status g) → Has g c c.of-trail.result
-has g c =
-    let run = c.run_nodes-run.result in
-    let says = c.run_nodes-run.ensures in
-    subst (Has g c) (sym c.of-trail.ensures)
-    (has_run g.D.Disk.content g.D.Disk.faults c.args.policy c.args.limit c.args.offers.now c.args.disks.items run.disks.items run.end run.posted says.posted says.none says.learned says.quiet says.cause says.parts)
-
-pub returns-clause-ends : goal.returns-clause-ends
-returns-clause-ends g c =
-    let run = c.run_nodes-run.result in
-    let says = c.run_nodes-run.ensures in
-    let offers = c.args.offers.now in
-    let before = seen (g.K.Sink.written c.args.sink.now) (g.K.Sink.faults c.args.sink.now) in
-    let now = seen (g.K.Sink.written c.tell_end-status.new.sink) (g.K.Sink.faults c.tell_end-status.new.sink) in
-    let right = c.requires.right in
-    let range = right.range in
-    let some : 0 < offers.config.acceptors = let three = range.three_acceptors in omega (arith, three) in
-    let legal : Legal offers.config (entries_in (records_in c.of-trail.result)) =
-    subst (λ (t : Trail). Legal offers.config (entries_in (records_in t))) (sym c.of-trail.ensures) (legal_trail c.args.policy offers run.posted says.posted) in
-    let told = subst (λ (list : List Record). TellsEnding (Runs run.end offers.config list) before now c.tell_end-status.result) c.records.ensures c.tell_end-status.ensures.told in
-    nodes_end c.args.policy c.args.limit offers (disks_seen g.D.Disk.content g.D.Disk.faults c.args.disks.items) (disks_seen g.D.Disk.content g.D.Disk.faults run.disks.items) run.end (records_in c.of-trail.result) before now c.tell_end-status.result some legal (has g c) told
-
-pub returns-clause-others : goal.returns-clause-others
-returns-clause-others g c =
-    let run = c.run_nodes-run.result in
-    let says = c.run_nodes-run.ensures in
-    nodes_keep c.args.policy c.args.limit c.args.offers.now (disks_seen g.D.Disk.content g.D.Disk.faults c.args.disks.items) (disks_seen g.D.Disk.content g.D.Disk.faults run.disks.items) run.end (records_in c.of-trail.result) g.D.Disk.faults c.args.disks.items run.disks.items (has g c) says.others says.none_fell
-
-pub returns-clause-disks_never_fall : goal.returns-clause-disks_never_fall
-returns-clause-disks_never_fall g c =
-    let run = c.run_nodes-run.result in
-    let says = c.run_nodes-run.ensures in
-    each_of (λ was is. g.D.Disk.faults was ≤ g.D.Disk.faults is) c.args.disks.items run.disks.items says.none_fell
+pub returns-in-Some-clause-others : goal.returns-in-Some-clause-others
+returns-in-Some-clause-others g c =
+    let old = disks_seen g.D.Disk.content g.D.Disk.faults c.args.disks.items in
+    let new = disks_seen g.D.Disk.content g.D.Disk.faults c.run_viewed.result.disks.items in
+    let P : Option (List ℕ) → Type 0 = λ viewed. KeepsUnused (Some (Run c.args.policy c.args.limit viewed)) (IsOffersCause c.args.policy c.args.limit viewed (Offered c.args.offers.now) old new) c.args.disks.items c.run_viewed.result.disks.items in
+    subst P (sym c.in-Some.is) c.run_viewed.ensures.others

@@ -19,12 +19,12 @@ use Rattle.gp_cluster.proofs.Carried.{offers_nothing, logs_carried, some_no_none
 use Rattle.gp_cluster.proofs.Left.{nothing_said, unposted, ended_early, as_many_logs}
 use Rattle.gp_cluster.proofs.adapting.run_adapting.Goals as goal
 
-pub returns-in-Err : goal.returns-in-Err
-returns-in-Err g c = let e = c.unclosed.ensures in
+pub returns-in-Err-clause-run : goal.returns-in-Err-clause-run
+returns-in-Err-clause-run g c = let e = c.unclosed.ensures in
     nothing_said g.D.Disk.faults Adaptive g.D.Disk.content c.args.config c.args.offers.now _ _ c.unclosed.result.posted c.unclosed.result.end e.posted e.end e.logs
 
-pub returns-in_default : goal.returns-in_default
-returns-in_default g c = let e = c.unclosed-in_default.ensures in
+pub returns-in_default-clause-run : goal.returns-in_default-clause-run
+returns-in_default-clause-run g c = let e = c.unclosed-in_default.ensures in
     nothing_said g.D.Disk.faults Adaptive g.D.Disk.content c.args.config c.args.offers.now _ _ c.unclosed-in_default.result.posted c.unclosed-in_default.result.end e.posted e.end e.logs
 
 pub work-rested-requires-clause-new : goal.work-rested-requires-clause-new
@@ -70,8 +70,14 @@ close_run-requires-clause-run g c =
       fits = c.requires.logs_room;
     }
 
-pub returns-then-is_some : goal.returns-then-is_some
-returns-then-is_some g c =
+pub close_run-requires-clause-cells_room : goal.close_run-requires-clause-cells_room
+close_run-requires-clause-cells_room g c =
+    let room = c.requires.cells_room.1 in
+    let a = c.work-rested.ensures.size in
+    (c.requires.cells_room.0, omega (arith, room, a))
+
+pub returns-then-is_some-clause-run : goal.returns-then-is_some-clause-run
+returns-then-is_some-clause-run g c =
     let stopped = c.if-is_some.ensures in
     let new = sitting.proposing_new g.D.Disk.faults c.args.config c.args.seated.wire c.args.seated.jobs.items c.args.seated.proposers.items c.requires.seated in
     let run : IsCarriedRun g.D.Disk.faults Adaptive c.args.config c.args.seated.wire [] c.args.seated.jobs.items c.args.seated.proposers.items c.work-rested.result.jobs.items c.args.seated.proposers.items c.work-rested.result.end = record {
@@ -94,8 +100,8 @@ pub unclosed-requires-in_default-offer_all-clause-logs_room : goal.unclosed-requ
 unclosed-requires-in_default-offer_all-clause-logs_room g c =
     as_many_logs g.D.Disk.faults _ _ c.args.room.logs (logs_carried g.D.Disk.faults c.args.seated.wire c.args.seated.jobs.items c.work-rested.result.jobs.items c.work-rested.ensures.size c.work-rested.ensures.carried) c.requires.logs_room
 
-pub returns-in_default-offer_all : goal.returns-in_default-offer_all
-returns-in_default-offer_all g c =
+pub returns-in_default-offer_all-clause-run : goal.returns-in_default-offer_all-clause-run
+returns-in_default-offer_all-clause-run g c =
     let e = c.unclosed-in_default-offer_all.ensures in
     unposted g.D.Disk.faults Adaptive g.D.Disk.content c.args.config c.args.offers.now _ _ c.unclosed-in_default-offer_all.result.posted c.unclosed-in_default-offer_all.result.end e.posted e.end
     (subst (λ (ls : List (LogState g.row.D.Denot)). AllZip (LogGoes g.D.Disk.faults) (logs_in c.args.seated.jobs.items) ls) (sym e.logs) (logs_carried g.D.Disk.faults c.args.seated.wire c.args.seated.jobs.items c.work-rested.result.jobs.items c.work-rested.ensures.size c.work-rested.ensures.carried))
@@ -144,8 +150,8 @@ close_run-requires-2-clause-cells_room g c =
     let p = c.in-Ok-offer_all.ensures.size in
     (c.requires.cells_room.0, omega (arith, room, a, b, p))
 
-pub returns : goal.returns
-returns g c =
+pub returns-clause-run : goal.returns-clause-run
+returns-clause-run g c =
     let rested : c.work-rested.result.end ≡ None = none_of c.work-rested.result.end c.if-is_some.ensures in
     let offers = c.in-Ok-offer_all.ensures in
     let first = c.work-rested.ensures in

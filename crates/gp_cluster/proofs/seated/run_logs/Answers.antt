@@ -26,11 +26,11 @@ run_seated-requires-clause-logs_room g c κs within =
     let a = c.know.ensures.acceptors.1 in let o = c.know.ensures.coordinators.1 in let room = c.requires.logs_room.1 in
     (c.requires.logs_room.0, omega (arith, same, a, o, room))
 
-pub returns-in-Ok : goal.returns-in-Ok
-returns-in-Ok g c =
+pub returns-in-Ok-clause-run : goal.returns-in-Ok-clause-run
+returns-in-Ok-clause-run g c =
     let e = c.in-Ok.ensures in let s = c.in-Ok.seated in let r = c.run_seated.result in
     subst (λ (first : List (LogState g.row.D.Denot)). RunsFrom c.args.policy g.D.Disk.faults g.D.Disk.content c.args.config c.args.offers.now first r.logs.items r.posted r.end)
-    (sitting.same_logs c.args.config s.wire s.jobs.items s.proposers.items c.args.logs.items c.requires.count c.requires.blank e.jobs) c.run_seated.ensures
+    (sitting.same_logs c.args.config s.wire s.jobs.items s.proposers.items c.args.logs.items c.requires.count c.requires.blank e.jobs) c.run_seated.ensures.run
 
-pub returns-in-Err : goal.returns-in-Err
-returns-in-Err g c = nothing_said g.D.Disk.faults c.args.policy g.D.Disk.content c.args.config c.args.offers.now c.args.logs.items c.in-Err.field-0.logs.items None NoMemory refl refl c.in-Err.ensures.back
+pub returns-in-Err-clause-run : goal.returns-in-Err-clause-run
+returns-in-Err-clause-run g c = nothing_said g.D.Disk.faults c.args.policy g.D.Disk.content c.args.config c.args.offers.now c.args.logs.items c.in-Err.field-0.logs.items None NoMemory refl refl c.in-Err.ensures.back

@@ -11,15 +11,15 @@ use Rattle.gp_cluster.proofs.Quieting.{carried_run}
 use Rattle.gp_cluster.proofs.Left.{nothing_said}
 use Rattle.gp_cluster.proofs.turning.run_in_turn.Goals as goal
 
-pub returns-in_default : goal.returns-in_default
-returns-in_default g c = let e = c.unclosed.ensures in
+pub returns-in_default-clause-run : goal.returns-in_default-clause-run
+returns-in_default-clause-run g c = let e = c.unclosed.ensures in
     nothing_said g.D.Disk.faults Multi g.D.Disk.content c.args.config c.args.offers.now _ _ c.unclosed.result.posted c.unclosed.result.end e.posted e.end e.logs
 
 pub offer_all-requires-clause-new : goal.offer_all-requires-clause-new
 offer_all-requires-clause-new g c κs within k d l = sitting.proposing_new g.D.Disk.faults c.args.config c.args.seated.wire c.args.seated.jobs.items c.args.seated.proposers.items c.requires.seated k d l
 
-pub returns-in_default-offer_all : goal.returns-in_default-offer_all
-returns-in_default-offer_all g c = let e = c.unclosed-in_default-offer_all.ensures in
+pub returns-in_default-offer_all-clause-run : goal.returns-in_default-offer_all-clause-run
+returns-in_default-offer_all-clause-run g c = let e = c.unclosed-in_default-offer_all.ensures in
     nothing_said g.D.Disk.faults Multi g.D.Disk.content c.args.config c.args.offers.now _ _ c.unclosed-in_default-offer_all.result.posted c.unclosed-in_default-offer_all.result.end e.posted e.end e.logs
 
 pub work-worked-requires-clause-new : goal.work-worked-requires-clause-new
@@ -58,8 +58,8 @@ close_run-requires-clause-run g c =
       fits = c.requires.logs_room;
     }
 
-pub returns : goal.returns
-returns g c =
+pub returns-clause-run : goal.returns-clause-run
+returns-clause-run g c =
     let offers = c.in-Ok-offer_all.ensures in
     let rests : c.work-worked.result.end ≡ None → RestsAfter IsCalled g.D.Disk.faults c.args.seated.wire c.args.config.acceptors (total (process_of g.D.Disk.faults) 0 c.in-Ok-offer_all.offered.items) c.work-worked.new.caller.calls c.args.seated.jobs.items c.work-worked.result.jobs.items
     = λ none. subst (λ (js : List (Job (CellState g.row.D.Denot))). RestsAfter IsCalled g.D.Disk.faults c.args.seated.wire c.args.config.acceptors (total (process_of g.D.Disk.faults) 0 js) c.work-worked.new.caller.calls c.args.seated.jobs.items c.work-worked.result.jobs.items) c.deref.ensures.value (c.work-worked.ensures.quiet none) in

@@ -1,0 +1,154 @@
+//! Nodes that run in threads while two readers view a key.
+use crate::nodes::{EIGHT, Printed, count, parts_of, plays_again, show_eight};
+use crate::stage::{disks_with, served_with};
+use std::alloc::Global;
+use std::sync::Wait;
+use std::test::Fail;
+use std::thread::Threads;
+
+// Five puts at the key `a`, in the order of their values.
+const PUTS: &[u8] =
+    b"nodes 3 2 1\noffer p0 put a 1\noffer p0 put a 2\noffer p0 put a 3\noffer p0 put a 4\noffer p0 put a 5\n";
+
+// What a read of reader 0 or 1 shows behind the number of the reader, by how many of the puts it saw.
+const LOOKS: [&[u8]; 6] = [
+    b" seen 0 value none",
+    b" seen 1 value 1",
+    b" seen 2 value 2",
+    b" seen 3 value 3",
+    b" seen 4 value 4",
+    b" seen 5 value 5",
+];
+
+const RUNS: usize = 5;
+
+// The lines of the run, and those of the readers.
+#[derive(Drop)]
+struct Viewed {
+    run: Printed,
+    looks: Vec<u8>,
+}
+
+// What a run of this script printed that ended with all learned.
+fn run_viewed<W: Threads + Wait + Sync>(
+    rt: &W,
+    alloc: Global,
+    key: &str,
+    script: &[u8],
+) -> Result<Option<Viewed>, Fail> {
+    let disks = disks_with(alloc, 0, b"", &[])?;
+    let finished = served_with(rt, alloc, &["views", key], script, disks)?;
+    if finished.ran.status != 0 {
+        return Ok(None);
+    }
+    let whole = parts_of(alloc, finished.sink.written())?;
+    let behind = parts_of(alloc, &whole.report)?;
+    let run = Printed {
+        trace: whole.trace,
+        report: behind.trace,
+    };
+    Ok(Some(Viewed {
+        run,
+        looks: behind.report,
+    }))
+}
+
+// The last line that begins so.
+fn last_of<'a>(text: &'a [u8], begin: &[u8]) -> &'a [u8] {
+    let mut last: &'a [u8] = b"";
+    for line in text.split(|byte| *byte == b'\n') {
+        if line.starts_with(begin) {
+            last = line;
+        }
+    }
+    last
+}
+
+// How many of the puts a read saw that shows this, if any shows it.
+fn puts_seen(shown: &[u8]) -> Option<usize> {
+    LOOKS.iter().position(|look| **look == *shown)
+}
+
+// Whether each read of a reader shows a beginning of the puts, none a shorter one than the read before it, and the last one
+// shows all.
+fn are_right(looks: &[u8], reader: &[u8]) -> bool {
+    let mut before = 0;
+    for line in looks.split(|byte| *byte == b'\n') {
+        if let Some(shown) = line.strip_prefix(reader) {
+            match puts_seen(shown) {
+                Some(seen) if seen >= before => before = seen,
+                _ => return false,
+            }
+        }
+    }
+    before + 1 == LOOKS.len()
+}
+
+#[test]
+fn the_last_read_of_each_reader_sees_all(rt: HostRuntime) -> Result<(), Fail> {
+    let alloc = rt.alloc();
+    match run_viewed(&rt, alloc, "a", EIGHT)? {
+        Some(viewed) => {
+            assert!(rt; show_eight(alloc, &viewed.run.report)?);
+            assert!(rt; plays_again(&rt, alloc, &viewed.run)?);
+            assert!(rt; viewed.looks.starts_with(b"order: "));
+            assert!(rt; last_of(&viewed.looks, b"r0") == b"r0 seen 8 value 1".as_slice());
+            assert!(rt; last_of(&viewed.looks, b"r1") == b"r1 seen 8 value 1".as_slice());
+        }
+        None => assert!(rt; false),
+    }
+    Ok(())
+}
+
+#[test]
+fn a_key_that_no_command_writes_has_no_value(rt: HostRuntime) -> Result<(), Fail> {
+    let alloc = rt.alloc();
+    match run_viewed(&rt, alloc, "z", EIGHT)? {
+        Some(viewed) => {
+            assert!(rt; last_of(&viewed.looks, b"r0") == b"r0 seen 8 value none".as_slice());
+            assert!(rt; last_of(&viewed.looks, b"r1") == b"r1 seen 8 value none".as_slice());
+        }
+        None => assert!(rt; false),
+    }
+    Ok(())
+}
+
+#[test]
+fn a_run_that_learns_nothing_has_no_order(rt: HostRuntime) -> Result<(), Fail> {
+    let alloc = rt.alloc();
+    match run_viewed(&rt, alloc, "a", b"nodes 3 1 1\n")? {
+        Some(viewed) => {
+            assert!(rt; count(&viewed.looks, b"order: -") == 1);
+            assert!(rt; last_of(&viewed.looks, b"r0") == b"r0 seen 0 value none".as_slice());
+            assert!(rt; last_of(&viewed.looks, b"r1") == b"r1 seen 0 value none".as_slice());
+        }
+        None => assert!(rt; false),
+    }
+    Ok(())
+}
+
+#[test]
+fn each_read_shows_a_beginning_of_the_order(rt: HostRuntime) -> Result<(), Fail> {
+    let alloc = rt.alloc();
+    for _ in 0..RUNS {
+        match run_viewed(&rt, alloc, "a", PUTS)? {
+            Some(viewed) => {
+                assert!(rt; count(&viewed.looks, b"order: p0.1 p0.2 p0.3 p0.4 p0.5") == 1);
+                assert!(rt; are_right(&viewed.looks, b"r0"));
+                assert!(rt; are_right(&viewed.looks, b"r1"));
+            }
+            None => assert!(rt; false),
+        }
+    }
+    Ok(())
+}
+
+#[test]
+fn a_disk_that_fails_ends_the_run_with_no_looks(rt: HostRuntime) -> Result<(), Fail> {
+    let alloc = rt.alloc();
+    let disks = disks_with(alloc, 0, b"", &[0])?;
+    let finished = served_with(&rt, alloc, &["views", "a"], EIGHT, disks)?;
+    assert!(rt; finished.ran.status == 6);
+    assert!(rt; finished.sink.written() == b"disk fault\n".as_slice());
+    Ok(())
+}

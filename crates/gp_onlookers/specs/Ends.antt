@@ -1,0 +1,32 @@
+-- What contracts see of publishers and watchers.
+use Rattle.std.specs.Prelude.{◌≡◌, ℕ, List}
+use Rattle.logbook.specs.Pages.{Book}
+use Rattle.gp_command.specs.declared.command.Command.{Command}
+use Rattle.gp_phase.specs.Beside.{Topics}
+use Rattle.gp_onlookers.specs.declared.looks.Look.{Look}
+
+-- which feed it has, and the commands that its replica ran
+pub record PublisherView : Type 0 where
+  pub feed : Book
+  pub ran : List Command
+
+-- the key, whose reader it is, the commands that it has seen, those that it was told of, and its looks
+pub record WatcherView : Type 0 where
+  pub key : List ℕ
+  pub feed : Book
+  pub seen : List Command
+  pub told : List Command
+  pub looks : List Look
+
+-- what a watcher is about: the key, and whose reader it is
+pub record WatcherTopic : Type 0 where
+  pub key : List ℕ
+  pub feed : Book
+
+abbrev pub topic_of : WatcherView → WatcherTopic
+topic_of watcher = record { key = watcher.key; feed = watcher.feed }
+
+-- both watch the key, by readers of the publisher's feed
+pub record AreWatching (key : List ℕ) (topics : Topics Book WatcherTopic) : Type 0 where
+  pub first : topics.first ≡ record { key = key; feed = topics.main }
+  pub second : topics.second ≡ record { key = key; feed = topics.main }

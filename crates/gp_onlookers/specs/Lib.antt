@@ -1,0 +1,4 @@
+pub mod Ends
+pub mod Looks
+pub mod Steps
+pub mod Texts

@@ -1,0 +1,14 @@
+-- What a look leaves.
+use Rattle.std.specs.Prelude.{◌≡◌, [], ◌∷◌, ◌++◌, Result, OnOk}
+use Rattle.gp_command.specs.declared.memory.NoMemory.{NoMemory}
+use Rattle.gp_views.specs.Lists.{Extends}
+use Rattle.gp_onlookers.specs.Ends.{WatcherView}
+use Rattle.gp_onlookers.specs.Looks.{look_after}
+
+-- a read, which sees what was seen and told of before, and one look more if it could be kept
+pub record HasLookedOnce (before : WatcherView) (result : Result (Unit {0}) NoMemory) (after : WatcherView) : Type 0 where
+  pub key : after.key ≡ before.key
+  pub feed : after.feed ≡ before.feed
+  pub told : after.told ≡ before.told
+  pub as_told : Extends after.seen before.told
+  pub kept : OnOk result (after.looks ≡ before.looks ++ look_after before.key after.seen ∷ [])

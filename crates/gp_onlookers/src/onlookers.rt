@@ -1,0 +1,137 @@
+//! A publisher, and two watchers of one key.
+ghost use Rattle.std.specs.Prelude.{◌≡◌, IfOk, IsTrue};
+ghost use Rattle.gp_history.specs.Sequence.{history_of, no_repeat};
+ghost use Rattle.gp_phase.specs.Beside.{topics};
+ghost use Rattle.gp_views.specs.Lists.{Extends};
+ghost use Rattle.gp_onlookers.specs.Ends.{AreWatching, topic_of};
+ghost use Rattle.gp_onlookers.specs.Looks.{look_after, AreSeen};
+
+use crate::catching::{catch_up, ids_of};
+use crate::looks::{Look, Looks};
+use crate::publisher::Publisher;
+use crate::watcher::Watcher;
+use gp_command::{Key, NoMemory};
+use gp_history::Hist;
+use gp_index::History;
+use gp_phase::Trio;
+use gp_replica::Replica;
+use gp_store::KeyStore;
+use gp_views::Feed;
+use std::alloc::Global;
+use std::sync::Wait;
+
+/// A publisher whose replica has run nothing, and two watchers of its feed, who look at the key. It is not `Drop`: end it
+/// by `last_looks` or `close`.
+pub type Onlookers = Trio<Publisher, Watcher>;
+
+/// Onlookers at the key, who have seen nothing.
+pub fn watch<R: Wait>(rt: &R, alloc: Global, key: Key) -> Result<Onlookers, NoMemory>
+    ensures { IfOk result (λ o. AreWatching key (topics (λ p. p.feed) topic_of o)) }
+{
+    let replica = Replica::new(alloc)?;
+    let (feed, mut readers) = Feed::new(rt, alloc, 2)?;
+    match (readers.pop(), readers.pop()) {
+        (Some(first), Some(second)) => Ok(Trio {
+            main: Publisher {
+                feed,
+                replica,
+                failed: false,
+            },
+            first: Watcher::new(alloc, first, key),
+            second: Watcher::new(alloc, second, key),
+        }),
+        _ => {
+            feed.close(rt);
+            Err(NoMemory)
+        }
+    }
+}
+
+/// Closes the feed, and lets the readers go.
+pub fn close<R: Wait>(rt: &R, onlookers: Onlookers) {
+    let Trio {
+        main,
+        first: _first,
+        second: _second,
+    } = onlookers;
+    main.close(rt);
+}
+
+/// Catches up with the history, publishes, tells both readers of it, and has each read a last time: what they saw, at
+/// each look and then. The feed is closed also where there is an error. `NoMemory` is the answer too if a publish or a look
+/// was refused before.
+pub fn last_looks<R: Wait>(
+    rt: &R,
+    alloc: Global,
+    key: Key,
+    onlookers: Onlookers,
+    learned: &History,
+) -> Result<Looks, NoMemory>
+    requires { AreWatching key (topics (λ p. p.feed) topic_of onlookers) }
+    ensures { IfOk result (λ looks. AreSeen key (history_of learned.now) looks) }
+{
+    let Trio {
+        main: Publisher {
+            mut feed,
+            mut replica,
+            failed,
+        },
+        first,
+        second,
+    } = onlookers;
+    let looks = if failed {
+        Err(NoMemory)
+    } else {
+        looks_of_both(
+            rt,
+            alloc,
+            key,
+            &mut feed,
+            &mut replica,
+            (first, second),
+            learned,
+        )
+    };
+    feed.close(rt);
+    looks
+}
+
+// What both saw, once the replica has caught up, all is published, and both were told.
+fn looks_of_both<R: Wait>(
+    rt: &R,
+    alloc: Global,
+    key: Key,
+    feed: &mut Feed,
+    replica: &mut Replica<KeyStore>,
+    watchers: (Watcher, Watcher),
+    learned: &History,
+) -> Result<Looks, NoMemory>
+    requires list { Extends replica.old feed.old.list }
+    requires feed { (watchers.0.feed ≡ feed.old.feed) × (watchers.1.feed ≡ feed.old.feed) }
+    requires key { (watchers.0.key ≡ key) × (watchers.1.key ≡ key) }
+    ensures { IfOk result (λ looks. AreSeen key (history_of learned.now) looks) }
+{
+    let (first, second) = watchers;
+    catch_up(replica, learned)?;
+    feed.publish(rt, replica)?;
+    let order = ids_of(alloc, replica.ran())?;
+    let end = end_of(replica, key);
+    let first = first.last_looks(rt, feed.tell()?, end)?;
+    let second = second.last_looks(rt, feed.tell()?, end)?;
+    Ok(Looks {
+        order,
+        first,
+        second,
+    })
+}
+
+// What is seen of the key after all that the replica ran, which is no command twice.
+fn end_of(replica: &Replica<KeyStore>, key: Key) -> Look
+    ensures end { result ≡ look_after key replica.now }
+    ensures distinct { IsTrue (no_repeat replica.now) }
+{
+    Look {
+        seen: replica.ran().len() as u64,
+        value: replica.machine().get(key),
+    }
+}

@@ -1,0 +1,62 @@
+//! What readers of a key saw while nodes ran, behind what `run` prints of them.
+ghost use Rattle.std.specs.Prelude.{IfOk};
+ghost use Rattle.gp_run.specs.Learned.{learned_at};
+ghost use Rattle.gp_run.specs.Legal.{Legal};
+ghost use Rattle.gp_run.specs.Runs.{entries_in};
+ghost use Rattle.gp_phase.specs.Beside.{topics};
+ghost use Rattle.gp_onlookers.specs.Ends.{AreWatching, topic_of};
+ghost use Rattle.gp_onlookers.specs.Looks.{AreSeen};
+ghost use Rattle.gp_retelling.specs.Texts.{IsViewsText};
+
+use crate::texts::run_text;
+use crate::worlds::world_of;
+use gp_command::{Key, NoMemory};
+use gp_msg::Record;
+use gp_onlookers::{Looks, Onlookers, close, last_looks, push_sight};
+use gp_round::Config;
+use std::alloc::Global;
+use std::sync::Wait;
+
+// What the onlookers saw of the key along what learner 0 learned by these records.
+fn looks_along<W: Wait>(
+    rt: &W,
+    alloc: Global,
+    config: &Config,
+    key: Key,
+    records: &[Record],
+    onlookers: Onlookers,
+) -> Result<Looks, NoMemory>
+    requires legal { Legal config.now (entries_in records.now) }
+    requires watching { AreWatching key (topics (λ p. p.feed) topic_of onlookers) }
+    ensures { IfOk result (λ looks. AreSeen key (learned_at config.now 0 (entries_in records.now)) looks) }
+{
+    let _learners = config.learners();
+    match world_of(alloc, *config, records) {
+        Ok(world) => last_looks(rt, alloc, key, onlookers, world.learned(0)),
+        Err(none) => {
+            close(rt, onlookers);
+            Err(none)
+        }
+    }
+}
+
+/// What `run` prints of these records, and behind it the order in which a replica ran what learner 0 learned, and what
+/// each of the onlookers saw of the key, the last time at the end of that order. The records are a legal run of the
+/// configuration. The onlookers end also where memory runs out.
+pub fn views_text<W: Wait>(
+    rt: &W,
+    alloc: Global,
+    config: &Config,
+    key: Key,
+    records: &[Record],
+    onlookers: Onlookers,
+) -> Result<Vec<u8>, NoMemory>
+    requires legal { Legal config.now (entries_in records.now) }
+    requires watching { AreWatching key (topics (λ p. p.feed) topic_of onlookers) }
+    ensures { IfOk result (λ text. IsViewsText key config.now records.now text.items) }
+{
+    let looks = looks_along(rt, alloc, config, key, records, onlookers)?;
+    let mut text = run_text(alloc, config, records)?;
+    push_sight(&looks, &mut text)?;
+    Ok(text)
+}
