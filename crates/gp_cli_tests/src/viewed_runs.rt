@@ -20,6 +20,9 @@ const LOOKS: [&[u8]; 6] = [
     b" seen 5 value 5",
 ];
 
+// How many puts are made.
+const MADE: usize = 5;
+
 const RUNS: usize = 5;
 
 // The lines of the run, and those of the readers.
@@ -81,7 +84,7 @@ fn are_right(looks: &[u8], reader: &[u8]) -> bool {
             }
         }
     }
-    before + 1 == LOOKS.len()
+    before == MADE
 }
 
 #[test]
