@@ -9,10 +9,8 @@ use Rattle.gp_msg.specs.Messages.{Entry, entry_of}
 use Rattle.gp_run.specs.Runs.{entries_in, events_of}
 use Rattle.gp_edge.specs.Faults.{Rose}
 use Rattle.gp_edge.specs.Reads.{ReadsUpTo}
-use Rattle.gp_service.specs.Stores.{store_language}
 use Rattle.gp_report.specs.Texts.{report}
 use Rattle.gp_text.specs.Reading.{Script}
-use Rattle.gp_text.specs.Limits.{IsWithinScript}
 use Rattle.gp_text.specs.Traces.{trace, events_in}
 use Rattle.gp_verdict.specs.declared.reason.AuditReason.{AuditReason}
 use Rattle.gp_verdict.specs.Verdicts.{Upheld, Rejected, verdict, RulesLegally}
@@ -65,7 +63,7 @@ pub run_printed : (config : Counts) (list : List Record) (source : Seen) → Hol
 run_printed config list source holds =
     let run = entries_in list in
     let same = events_are list in
-    let upheld = run_upheld config run holds.range holds.legal (subst (IsWithinScript store_language) (sym same) holds.within) in
+    let upheld = let sayable = holds.run in run_upheld config run sayable.range sayable.legal sayable.within in
     let is : IsPrinted (printed config run) config (events_of run) = upheld_printed (printed config run) config (events_of run) upheld in
     let P : List Event → Type 0 = λ es. IsPrinted (trace config es ++ codes "--\n" ++ report config run) config es in
     (run_text config list, config, events_in list, holds.bytes, subst P same is)

@@ -1,16 +1,13 @@
 -- What the statuses say of audits of what a run printed.
 use Rattle.std.specs.Prelude.{◌≡◌, ℕ, List, Option, Some}
 use Rattle.gp_round.specs.Counts.{Counts}
-use Rattle.gp_round.specs.Ranges.{AreInRange}
 use Rattle.gp_msg.specs.declared.event.Event.{Event}
 use Rattle.gp_msg.specs.declared.record.Record.{Record}
-use Rattle.gp_run.specs.Legal.{Legal}
 use Rattle.gp_run.specs.Runs.{run_of, entries_in}
 use Rattle.gp_edge.specs.Writes.{AppendsWhole}
 use Rattle.gp_service.specs.Stores.{store_language}
 use Rattle.gp_text.specs.Reading.{Script, run_before}
-use Rattle.gp_text.specs.Limits.{IsLegalScript, IsLegalBefore, IsWithinScript}
-use Rattle.gp_text.specs.Traces.{events_in}
+use Rattle.gp_text.specs.Limits.{IsLegalScript, IsLegalBefore, IsSayable}
 use Rattle.gp_retelling.specs.Texts.{run_text}
 use Rattle.gp_verdict.specs.declared.reason.AuditReason.{AuditReason}
 use Rattle.gp_verdict.specs.Verdicts.{Rejected, verdict}
@@ -32,9 +29,7 @@ HoldsOther source = (rest : List ℕ) × (source.bytes ≡ Some rest) × ((confi
 
 -- the source reveals its bytes, and they are what `run` prints of these records, which are a legal run that a script can say
 pub record HoldsRun (config : Counts) (list : List Record) (source : Seen) : Type 0 where
-  pub range : AreInRange config.acceptors config.coordinators config.learners
-  pub legal : Legal config (entries_in list)
-  pub within : IsWithinScript store_language (events_in list)
+  pub run : IsSayable store_language config (entries_in list)
   pub bytes : source.bytes ≡ Some (run_text config list)
 
 -- all that was read is what a run prints, which is legal and in agreement; the trail is this run, and all its certificates were written without a fault

@@ -42,5 +42,5 @@ pub record NothingFails (run : ProgramRun) : Type 0 where
   pub disks : ¬ SomeFailed run.before.disks run.now.disks
 
 -- its words are those of nodes in threads
-abbrev pub RunsNodes : RoundPolicy → ℕ → Option (List ℕ) → ProgramRun → Type 0
-RunsNodes policy limit viewed run = named run.words ≡ Some (Run policy limit viewed)
+abbrev pub IsNodesRun : RoundPolicy → ℕ → Option (List ℕ) → ProgramRun → Type 0
+IsNodesRun policy limit viewed run = named run.words ≡ Some (Run policy limit viewed)

@@ -10,7 +10,7 @@ ghost use Rattle.gp_cli.specs.declared.subcommand.Subcommand.TheVariants.{Play, 
 ghost use Rattle.gp_cli.specs.Subcommands.{named};
 ghost use Rattle.gp_cli.specs.Outside.{Outside};
 ghost use Rattle.gp_cli.specs.Causes.{IsCause, driven_config, disk_used};
-ghost use Rattle.gp_cli.specs.ProgramRuns.{ProgramRun, EndsWith, ReadsWell, WritesWell, KeepsWell, NothingFails, RunsNodes};
+ghost use Rattle.gp_cli.specs.ProgramRuns.{ProgramRun, EndsWith, ReadsWell, WritesWell, KeepsWell, NothingFails, IsNodesRun};
 ghost use Rattle.gp_cli.specs.Serving.{Ends, HoldsScript, HoldsBadLine, PlaysWhole, StopsAtLine, PrintsDriven, PrintsSimulated};
 ghost use Rattle.gp_cli.specs.LogRuns.{HoldsLog, HoldsRoomyLog, HoldsFullLog, HoldsNoLog, ShowsLog, ShowsTakenOn, HasNoSpace, IsBrokenAt};
 ghost use Rattle.gp_cli.specs.AuditRuns.{HoldsPrinted, HoldsOther, HoldsRun, AuditsRun, RejectsInput};
@@ -50,15 +50,15 @@ pub fn a_script_has_its_status()
 /// script was read to its end.
 pub fn nodes_run_until_all_is_learned()
     ensures ran { (run : ProgramRun) (policy : RoundPolicy) (limit : ℕ) (viewed : Option (List ℕ))
-        → RunsNodes policy limit viewed run → run.status ≡ 0 → PrintsNodes policy limit viewed run.before run.now run.trail }
-    ensures complete { (run : ProgramRun) (policy : RoundPolicy) (limit : ℕ) (viewed : Option (List ℕ)) (offers : Offers) → RunsNodes policy limit viewed run
+        → IsNodesRun policy limit viewed run → run.status ≡ 0 → PrintsNodes policy limit viewed run.before run.now run.trail }
+    ensures complete { (run : ProgramRun) (policy : RoundPolicy) (limit : ℕ) (viewed : Option (List ℕ)) (offers : Offers) → IsNodesRun policy limit viewed run
         → HoldsOffers offers run.before.source → NothingFails run → HasRoomForNext offers.config limit run.trail → EndsWith 0 run }
     ensures refuses { (run : ProgramRun) (policy : RoundPolicy) (limit : ℕ) (viewed : Option (List ℕ))
-        → RunsNodes policy limit viewed run → HoldsBadOffers run.before.source → ReadsWell run → EndsWith 3 run }
+        → IsNodesRun policy limit viewed run → HoldsBadOffers run.before.source → ReadsWell run → EndsWith 3 run }
     ensures offered { (run : ProgramRun) (policy : RoundPolicy) (limit : ℕ) (viewed : Option (List ℕ))
-        → RunsNodes policy limit viewed run → (run.trail ≡ []) ⊎ ((offers : Offers) × OffersAll policy run.before run.now run.trail offers) }
+        → IsNodesRun policy limit viewed run → (run.trail ≡ []) ⊎ ((offers : Offers) × OffersAll policy run.before run.now run.trail offers) }
     ensures read_to_end { (run : ProgramRun) (policy : RoundPolicy) (limit : ℕ) (viewed : Option (List ℕ))
-        → RunsNodes policy limit viewed run → run.status ≢ 1 → run.status ≢ 3 → run.status ≢ 4 → IfSome run.now.source.bytes (λ rest. rest ≡ []) }
+        → IsNodesRun policy limit viewed run → run.status ≢ 1 → run.status ≢ 3 → run.status ≢ 4 → IfSome run.now.source.bytes (λ rest. rest ≡ []) }
 {}
 
 /// If no two of the commands that a script of `run` offers conflict, then with status 0 the key store of each
@@ -66,7 +66,7 @@ pub fn nodes_run_until_all_is_learned()
 /// script.
 pub fn commands_that_commute_run_as_in_the_script()
     ensures { (run : ProgramRun) (policy : RoundPolicy) (limit : ℕ) (viewed : Option (List ℕ))
-        → RunsNodes policy limit viewed run → run.status ≡ 0 → CommutesAsInTheScript policy run.before run.now run.trail }
+        → IsNodesRun policy limit viewed run → run.status ≡ 0 → CommutesAsInTheScript policy run.before run.now run.trail }
 {}
 
 /// `drive` and `sim` end with status 0 or 5, or because memory ran out; without a fault of the sink they do

@@ -98,7 +98,8 @@ fn use_log<D: Disk, K: Sink>(
 /// accounts, and its report has the totals of each learner's accounts. `run` reads a script of offers, makes
 /// new logs on the disks of the nodes of its configuration, and runs the nodes in threads until each learner
 /// holds each offered command. It prints the trace of what they posted, a line `--` and the report, or why
-/// they ended before. The gate is for their steps; no contract speaks of it. `sim` makes the workload of a
+/// they ended before. `adapt` does so in rounds that adapt, and `views` while two readers look at a key; behind the
+/// report it prints what they saw. The gate is for their steps; no contract speaks of it. `sim` makes the workload of a
 /// seed, settles it, and prints a summary. `drive` drives commands one by one in a multi round of which one coordinator takes no
 /// part, and prints the report. `log` prints the entries of the log of a disk, and changes no byte of it;
 /// `upgrade` does the same after it has renewed a log with entries of version 1 of the format. `audit` reads
@@ -124,10 +125,10 @@ pub fn serve<W: Threads + Wait + Sync, S: Source, K: Sink, D: Disk + Send, G: Ga
     ensures ends { Ends (IsCause (texts_of words.now)) (outside S.rest S.faults K.written K.faults D.content D.faults source.old sink.old disks.items)
         (outside S.rest S.faults K.written K.faults D.content D.faults source.new sink.new result.disks.items) result.status (records_in result.trail) }
 
-    // The records of `run` are those that nodes in threads posted. There are none if it ended before their list was closed.
+    // The records of `run`, `adapt` and `views` are those that nodes in threads posted. There are none if it ended before their list was closed.
     ensures posted { IsMadeFor (named (texts_of words.now)) result.status result.trail }
 
-    // But for `run`, a crash at any moment leaves of each disk what it might have left before the call, or a log with all its entries or with the last one.
+    // But for these three, a crash at any moment leaves of each disk what it might have left before the call, or a log with all its entries or with the last one.
     ensures crash { ¬ RunsNodes (named (texts_of words.now)) → EachDisk (KeepsLast D.content D.image D.moment D.since) disks.items result.disks.items }
 
     ensures untouched { ¬ IsReader (named (texts_of words.now)) → source.new ≡ source.old }

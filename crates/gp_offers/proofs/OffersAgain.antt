@@ -21,11 +21,11 @@ use Rattle.gp_script.specs.Items.{item_of}
 use Rattle.gp_script.proofs.Steps.{step_says}
 use Rattle.gp_script.proofs.ItemLemmas.{item_read}
 use Rattle.gp_text.specs.declared.limits.TheConstants as play
-use Rattle.gp_text.specs.Reading.{Whole, Refused, Sofar, Shown, messages_after, is_offer, lacks_kept, is_passed, holds_limit, nodes_line, add_event, add_item, item_in, opening, reading}
+use Rattle.gp_text.specs.Reading.{Whole, Refused, Sofar, Shown, messages_after, is_offer, lacks_kept, is_passed, holds_limit, nodes_line, add_event, add_item, item_in, reading_from, reading}
 use Rattle.gp_text.specs.Reading.{table_line as play_table_line, after_line as play_line, follow as play_lines, behind}
 use Rattle.gp_text.proofs.EventSteps.{count_more}
 use Rattle.gp_text.proofs.TraceLines.{with_event}
-use Rattle.gp_text.proofs.LineSteps.{reading_opens, opening_end, opening_too_long, opening_passed, opening_goes, opening_refused}
+use Rattle.gp_text.proofs.LineSteps.{reading_opens, reading_from_end, reading_from_too_long, reading_from_passed, reading_from_goes, reading_from_refused}
 use Rattle.gp_text.proofs.LineSteps.{follow_end as play_end, follow_too_long as play_too_long, follow_goes as play_goes, follow_refused as play_refused}
 use Rattle.gp_offers.specs.declared.script.Offers.{Offers}
 use Rattle.gp_offers.specs.declared.limits.TheConstants.{MOST_OFFERS}
@@ -252,29 +252,29 @@ unfolding after_line table_line
 configured text config passed said = rw (passed, said) refl
 
 first_again : (n place : ℕ) (whole : Offers) (line : List ℕ) (lines : List (List ℕ)) (r : Result Counts Reason) → length whole.list ≤ MOST_OFFERS → holds_limit place line ≡ false → is_passed (text_of line) ≡ false
-    → nodes_line (text_of line) ≡ r → opening store_language n place (line ∷ lines) ≡ Whole whole.config (offers_alone whole.list) → follow n place None (line ∷ lines) ≡ Offered whole
+    → nodes_line (text_of line) ≡ r → reading_from store_language n place (line ∷ lines) ≡ Whole whole.config (offers_alone whole.list) → follow n place None (line ∷ lines) ≡ Offered whole
 first_again n place whole line lines (Ok config) few short passed said e =
     let none : Offers = record { config = config; list = [] } in
     follow_goes n place None (Some none) line lines short (configured (text_of line) config passed said)
-    ∙ lines_again (n + 1) (place + length line) whole lines few none (sym (opening_goes store_language n place line lines config short passed said) ∙ e)
+    ∙ lines_again (n + 1) (place + length line) whole lines few none (sym (reading_from_goes store_language n place line lines config short passed said) ∙ e)
 first_again n place whole line lines (Err reason) few short passed said e =
-    let refused : Refused n reason None ≡ Whole whole.config (offers_alone whole.list) = sym (opening_refused store_language n place line lines reason short passed said) ∙ e in absurd cc
+    let refused : Refused n reason None ≡ Whole whole.config (offers_alone whole.list) = sym (reading_from_refused store_language n place line lines reason short passed said) ∙ e in absurd cc
 
-opening_cases : (n place : ℕ) (whole : Offers) (line : List ℕ) (lines : List (List ℕ)) (long passed : Bool) → length whole.list ≤ MOST_OFFERS → holds_limit place line ≡ long → is_passed (text_of line) ≡ passed
-    → (opening store_language (n + 1) (place + length line) lines ≡ Whole whole.config (offers_alone whole.list) → follow (n + 1) (place + length line) None lines ≡ Offered whole)
-    → opening store_language n place (line ∷ lines) ≡ Whole whole.config (offers_alone whole.list) → follow n place None (line ∷ lines) ≡ Offered whole
-opening_cases n place whole line lines true passed few is over go e =
-    let refused : Refused n TooLong None ≡ Whole whole.config (offers_alone whole.list) = sym (opening_too_long store_language n place line lines is) ∙ e in absurd cc
-opening_cases n place whole line lines false true few is over go e =
-    follow_goes n place None None line lines is (passed_before (text_of line) over) ∙ go (sym (opening_passed store_language n place line lines is over) ∙ e)
-opening_cases n place whole line lines false false few is over go e = first_again n place whole line lines (nodes_line (text_of line)) few is over refl e
+reading_from_cases : (n place : ℕ) (whole : Offers) (line : List ℕ) (lines : List (List ℕ)) (long passed : Bool) → length whole.list ≤ MOST_OFFERS → holds_limit place line ≡ long → is_passed (text_of line) ≡ passed
+    → (reading_from store_language (n + 1) (place + length line) lines ≡ Whole whole.config (offers_alone whole.list) → follow (n + 1) (place + length line) None lines ≡ Offered whole)
+    → reading_from store_language n place (line ∷ lines) ≡ Whole whole.config (offers_alone whole.list) → follow n place None (line ∷ lines) ≡ Offered whole
+reading_from_cases n place whole line lines true passed few is over go e =
+    let refused : Refused n TooLong None ≡ Whole whole.config (offers_alone whole.list) = sym (reading_from_too_long store_language n place line lines is) ∙ e in absurd cc
+reading_from_cases n place whole line lines false true few is over go e =
+    follow_goes n place None None line lines is (passed_before (text_of line) over) ∙ go (sym (reading_from_passed store_language n place line lines is over) ∙ e)
+reading_from_cases n place whole line lines false false few is over go e = first_again n place whole line lines (nodes_line (text_of line)) few is over refl e
 
-opening_again : (n place : ℕ) (whole : Offers) (lines : List (List ℕ)) → length whole.list ≤ MOST_OFFERS → opening store_language n place lines ≡ Whole whole.config (offers_alone whole.list) → follow n place None lines ≡ Offered whole
-opening_again n place whole [] few e =
-    let refused : Refused n NoNodesLine None ≡ Whole whole.config (offers_alone whole.list) = sym (opening_end store_language n place) ∙ e in absurd cc
-opening_again n place whole (line ∷ lines) few e =
-    opening_cases n place whole line lines (holds_limit place line) (is_passed (text_of line)) few refl refl (opening_again (n + 1) (place + length line) whole lines few) e
+reading_from_again : (n place : ℕ) (whole : Offers) (lines : List (List ℕ)) → length whole.list ≤ MOST_OFFERS → reading_from store_language n place lines ≡ Whole whole.config (offers_alone whole.list) → follow n place None lines ≡ Offered whole
+reading_from_again n place whole [] few e =
+    let refused : Refused n NoNodesLine None ≡ Whole whole.config (offers_alone whole.list) = sym (reading_from_end store_language n place) ∙ e in absurd cc
+reading_from_again n place whole (line ∷ lines) few e =
+    reading_from_cases n place whole line lines (holds_limit place line) (is_passed (text_of line)) few refl refl (reading_from_again (n + 1) (place + length line) whole lines few) e
 
 -- a whole script
 pub script_again : (bytes : List ℕ) (whole : Offers) → length whole.list ≤ MOST_OFFERS → reading bytes ≡ Whole whole.config (offers_alone whole.list) → offers_reading bytes ≡ Offered whole
-script_again bytes whole few e = sym (offers_open bytes) ∙ opening_again 1 0 whole (lines_of bytes) few (reading_opens store_language bytes ∙ e)
+script_again bytes whole few e = sym (offers_open bytes) ∙ reading_from_again 1 0 whole (lines_of bytes) few (reading_opens store_language bytes ∙ e)

@@ -12,9 +12,9 @@ use Rattle.gp_service.specs.Stores.{store_language}
 use Rattle.gp_script.specs.declared.reason.Reason.{Reason}
 use Rattle.gp_script.specs.declared.reason.Reason.TheVariants.{TooLong, NoNodesLine}
 use Rattle.gp_text.specs.declared.limits.TheConstants as play
-use Rattle.gp_text.specs.Reading.{Reading, Whole, Sofar, is_offer, is_passed, holds_limit, add_event, add_item, opening, reading}
+use Rattle.gp_text.specs.Reading.{Reading, Whole, Sofar, is_offer, is_passed, holds_limit, add_event, add_item, reading_from, reading}
 use Rattle.gp_text.specs.Reading.{table_line as play_table_line, after_line as play_line, follow as play_lines}
-use Rattle.gp_text.proofs.LineSteps.{reading_opens, opening_passed, opening_goes}
+use Rattle.gp_text.proofs.LineSteps.{reading_opens, reading_from_passed, reading_from_goes}
 use Rattle.gp_text.proofs.LineSteps.{follow_end as play_end, follow_goes as play_goes}
 use Rattle.gp_offers.specs.declared.script.Offers.{Offers}
 use Rattle.gp_offers.specs.declared.limits.TheConstants.{MOST_OFFERS}
@@ -101,28 +101,28 @@ lines_alone n place offers whole (line ∷ lines) a e =
 -- ---- up to the configuration
 
 first_alone : (n place : ℕ) (whole : Offers) (line : List ℕ) (lines : List (List ℕ)) (more : Option Offers) → IsFirst (text_of line) more → holds_limit place line ≡ false
-    → (follow (n + 1) (place + length line) None lines ≡ Offered whole → ArePlayed (opening store_language (n + 1) (place + length line) lines) whole)
-    → follow (n + 1) (place + length line) more lines ≡ Offered whole → ArePlayed (opening store_language n place (line ∷ lines)) whole
-first_alone n place whole line lines None (Before passed) short go e = played_by _ _ whole (opening_passed store_language n place line lines short passed) (go e)
+    → (follow (n + 1) (place + length line) None lines ≡ Offered whole → ArePlayed (reading_from store_language (n + 1) (place + length line) lines) whole)
+    → follow (n + 1) (place + length line) more lines ≡ Offered whole → ArePlayed (reading_from store_language n place (line ∷ lines)) whole
+first_alone n place whole line lines None (Before passed) short go e = played_by _ _ whole (reading_from_passed store_language n place line lines short passed) (go e)
 first_alone n place whole line lines (Some next) (Says config passed said) short go e =
-    played_by _ _ whole (opening_goes store_language n place line lines config short passed said)
+    played_by _ _ whole (reading_from_goes store_language n place line lines config short passed said)
     (lines_alone (n + 1) (place + length line) (record { config = config; list = [] }) whole lines (none_offered config (text_of line) said) e)
 
 begin_alone : (n place : ℕ) (whole : Offers) (line : List ℕ) (lines : List (List ℕ)) (said : Result (Option Offers) Reason) → after_line None (text_of line) ≡ said → holds_limit place line ≡ false
-    → (follow (n + 1) (place + length line) None lines ≡ Offered whole → ArePlayed (opening store_language (n + 1) (place + length line) lines) whole)
-    → follow n place None (line ∷ lines) ≡ Offered whole → ArePlayed (opening store_language n place (line ∷ lines)) whole
+    → (follow (n + 1) (place + length line) None lines ≡ Offered whole → ArePlayed (reading_from store_language (n + 1) (place + length line) lines) whole)
+    → follow n place None (line ∷ lines) ≡ Offered whole → ArePlayed (reading_from store_language n place (line ∷ lines)) whole
 begin_alone n place whole line lines (Ok more) is short go e =
     first_alone n place whole line lines more (line_first more (text_of line) is) short go (sym (follow_goes n place None more line lines short is) ∙ e)
 begin_alone n place whole line lines (Err reason) is short go e =
     let refused : RefusedAt n reason ≡ Offered whole = sym (follow_refused n place None line lines reason short is) ∙ e in absurd cc
 
-opening_alone : (n place : ℕ) (whole : Offers) (lines : List (List ℕ)) → follow n place None lines ≡ Offered whole → ArePlayed (opening store_language n place lines) whole
-opening_alone n place whole [] e = let refused : RefusedAt n NoNodesLine ≡ Offered whole = sym (follow_end n place None) ∙ e in absurd cc
-opening_alone n place whole (line ∷ lines) e =
+reading_from_alone : (n place : ℕ) (whole : Offers) (lines : List (List ℕ)) → follow n place None lines ≡ Offered whole → ArePlayed (reading_from store_language n place lines) whole
+reading_from_alone n place whole [] e = let refused : RefusedAt n NoNodesLine ≡ Offered whole = sym (follow_end n place None) ∙ e in absurd cc
+reading_from_alone n place whole (line ∷ lines) e =
     let short = not_too_long n place None whole line lines (holds_limit place line) refl e in
-    begin_alone n place whole line lines (after_line None (text_of line)) refl short (opening_alone (n + 1) (place + length line) whole lines) e
+    begin_alone n place whole line lines (after_line None (text_of line)) refl short (reading_from_alone (n + 1) (place + length line) whole lines) e
 
 -- a whole script
 pub script_alone : (bytes : List ℕ) (whole : Offers) → offers_reading bytes ≡ Offered whole → ArePlayed (reading bytes) whole
 script_alone bytes whole e =
-    played_by _ _ whole (sym (reading_opens store_language bytes)) (opening_alone 1 0 whole (lines_of bytes) (offers_open bytes ∙ e))
+    played_by _ _ whole (sym (reading_opens store_language bytes)) (reading_from_alone 1 0 whole (lines_of bytes) (offers_open bytes ∙ e))

@@ -27,13 +27,13 @@ use Rattle.gp_text.specs.declared.limits.TheConstants.{MOST_OFFERS, MOST_EVENTS,
 use Rattle.gp_text.specs.declared.played.Played.{Played}
 use Rattle.gp_text.specs.declared.played.Unplayed.{Unplayed}
 use Rattle.gp_text.specs.declared.played.Unplayed.TheVariants as unplayed
-use Rattle.gp_text.specs.Reading.{Whole, Sofar, nothing, messages_after, is_offer, is_passed, holds_limit, after_line, nodes_line, follow, opening, reading_in}
+use Rattle.gp_text.specs.Reading.{Whole, Sofar, nothing, messages_after, is_offer, is_passed, holds_limit, after_line, nodes_line, follow, reading_from, reading_in}
 use Rattle.gp_report.specs.Texts.{report_for}
 use Rattle.gp_text.specs.Texts.{output_for}
 use Rattle.gp_text.specs.Traces.{event_line, trace}
 use Rattle.gp_text.specs.Playing.{PlaysFor, IsPlayedFor}
 use Rattle.gp_text.specs.Limits.{IsOfOperation, IsWithinScript, IsLegalScriptFor, SaysLegallyFor, PlayedRun}
-use Rattle.gp_text.proofs.LineSteps.{no_lines, follow_end, follow_goes, opening_goes}
+use Rattle.gp_text.proofs.LineSteps.{no_lines, follow_end, follow_goes, reading_from_goes}
 use Rattle.gp_text.proofs.EventSteps.{run_more, count_more}
 use Rattle.gp_text.proofs.TraceLines.{with_event, IsSaid, event_said}
 use Rattle.gp_text.proofs.SaidLegally.{said_legal}
@@ -138,8 +138,8 @@ module _ (language : Language) (spelled : IsLanguage language) where
       let says : nodes_line (text_of line) ≡ Ok c = ap nodes_line (line_text (nodes_text c) (nodes_feedless c range)) ∙ nodes_said c range in
       let passed : is_passed (text_of line) ≡ false = ap is_passed (line_text (nodes_text c) (nodes_feedless c range)) in
       let split : lines_of (line ++ lines_text es) ≡ line ∷ lines_of (lines_text es) = ap lines_of (append_assoc (nodes_text c) (10 ∷ []) (lines_text es)) ∙ line_then (nodes_text c) (lines_text es) (nodes_feedless c range) in
-      ap (opening language 1 0) split
-      ∙ opening_goes language 1 0 line (lines_of (lines_text es)) c (within_limit 0 line near) passed says
+      ap (reading_from language 1 0) split
+      ∙ reading_from_goes language 1 0 line (lines_of (lines_text es)) c (within_limit 0 line near) passed says
       ∙ lines_say c (1 + 1) (0 + length line) nothing es said next
 
   -- events that fit are read again

@@ -24,7 +24,7 @@ use Rattle.gp_script.proofs.Steps.{step_says, test_then, ok_or_says}
 use Rattle.gp_script.proofs.FormLemmas.{form_says}
 use Rattle.gp_script.proofs.ItemLemmas.{line_for, item_read}
 use Rattle.gp_text.specs.declared.limits.TheConstants.{MOST_EVENTS}
-use Rattle.gp_text.specs.Reading.{Reading, Whole, Refused, Script, Sofar, nothing, behind, on_line, is_nodes, is_passed, holds_limit, add_event, add_item, item_in, table_line, after_line, nodes_line, follow, opening}
+use Rattle.gp_text.specs.Reading.{Reading, Whole, Refused, Script, Sofar, nothing, behind, on_line, is_nodes, is_passed, holds_limit, add_event, add_item, item_in, table_line, after_line, nodes_line, follow, reading_from}
 use Rattle.gp_verdict.specs.Parts.{is_divider, is_show, ends_trace, trace_lines, after_trace}
 
 -- ---- how many lines are shown
@@ -197,12 +197,12 @@ lines_show config own n place sofar whole (line ∷ lines) e =
 one_more : (whole : Sofar) (line : List ℕ) (lines : List (List ℕ)) → ends_trace (text_of line) ≡ false → length whole.shown ≡ endings lines → length whole.shown ≡ one_if (ends_trace (text_of line)) + endings lines
 one_more whole line lines stays rest = rw stays (omega (arith, rest))
 
-opening_shows : (own : Counts) (n place : ℕ) (whole : Sofar) (lines : List (List ℕ)) → opening store_language n place lines ≡ Whole own whole → length whole.shown ≡ endings lines
-unfolding opening endings
-opening_shows own n place whole [] e = absurd cc
-opening_shows own n place whole (line ∷ lines) e =
-    elim (opens_on (holds_limit place line) (is_passed (text_of line)) (opening store_language (n + 1) (place + length line) lines) (nodes_line (text_of line)) (λ config. follow store_language config (n + 1) (place + length line) nothing lines) n own whole e) [
-      | inl passed ↦ (let stays = passed_stays (text_of line) passed.0 in let rest = opening_shows own (n + 1) (place + length line) whole lines passed.1 in one_more whole line lines stays rest)
+reading_from_shows : (own : Counts) (n place : ℕ) (whole : Sofar) (lines : List (List ℕ)) → reading_from store_language n place lines ≡ Whole own whole → length whole.shown ≡ endings lines
+unfolding reading_from endings
+reading_from_shows own n place whole [] e = absurd cc
+reading_from_shows own n place whole (line ∷ lines) e =
+    elim (opens_on (holds_limit place line) (is_passed (text_of line)) (reading_from store_language (n + 1) (place + length line) lines) (nodes_line (text_of line)) (λ config. follow store_language config (n + 1) (place + length line) nothing lines) n own whole e) [
+      | inl passed ↦ (let stays = passed_stays (text_of line) passed.0 in let rest = reading_from_shows own (n + 1) (place + length line) whole lines passed.1 in one_more whole line lines stays rest)
       | inr said ↦ (let stays = nodes_stays (text_of line) said.0 said.1 in let rest = lines_show said.0 own (n + 1) (place + length line) nothing whole lines said.2 in one_more whole line lines stays (rest ∙ omega arith))
     ]
 
@@ -218,12 +218,12 @@ unfolding trace_lines endings
 trace_ends [] = refl
 trace_ends (line ∷ lines) = cond_ends line lines (ends_trace (text_of line)) refl (trace_ends lines)
 
-pub shows_nothing : (own : Counts) (whole : Sofar) (lines : List (List ℕ)) → opening store_language 1 0 (trace_lines lines) ≡ Whole own whole → whole.shown ≡ []
-shows_nothing own whole lines e = nil_from_length whole.shown (opening_shows own 1 0 whole (trace_lines lines) e ∙ trace_ends lines)
+pub shows_nothing : (own : Counts) (whole : Sofar) (lines : List (List ℕ)) → reading_from store_language 1 0 (trace_lines lines) ≡ Whole own whole → whole.shown ≡ []
+shows_nothing own whole lines e = nil_from_length whole.shown (reading_from_shows own 1 0 whole (trace_lines lines) e ∙ trace_ends lines)
 
 -- a script that shows nothing has no line that ends a trace
-pub ends_nowhere : (own : Counts) (whole : Sofar) (lines : List (List ℕ)) → opening store_language 1 0 lines ≡ Whole own whole → whole.shown ≡ [] → endings lines ≡ 0
-ends_nowhere own whole lines e none = sym (opening_shows own 1 0 whole lines e) ∙ ap length none
+pub ends_nowhere : (own : Counts) (whole : Sofar) (lines : List (List ℕ)) → reading_from store_language 1 0 lines ≡ Whole own whole → whole.shown ≡ [] → endings lines ≡ 0
+ends_nowhere own whole lines e none = sym (reading_from_shows own 1 0 whole lines e) ∙ ap length none
 
 -- and behind it the trace ends at a line that ends it
 parted_at : (line : List ℕ) (lines others : List (List ℕ)) (ends : Bool) → ends_trace (text_of line) ≡ ends → one_if ends + endings lines ≡ 0 → (endings lines ≡ 0 → (trace_lines (lines ++ others) ≡ lines) × (after_trace (lines ++ others) ≡ others))

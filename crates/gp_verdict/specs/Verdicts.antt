@@ -8,7 +8,7 @@ use Rattle.gp_service.specs.Stores.{store_language}
 use Rattle.gp_script.specs.declared.reason.Reason.TheVariants.{TooLong, BadLine}
 use Rattle.gp_report.specs.Texts.{report}
 use Rattle.gp_text.specs.declared.limits.TheConstants.{MOST_BYTES}
-use Rattle.gp_text.specs.Reading.{Reading, Whole, Refused, Script, opening}
+use Rattle.gp_text.specs.Reading.{Reading, Whole, Refused, Script, reading_from}
 use Rattle.gp_text.specs.Limits.{IsLegalScript, IsLegalBefore}
 use Rattle.gp_verdict.specs.declared.reason.AuditReason.{AuditReason}
 use Rattle.gp_verdict.specs.declared.reason.AuditReason.TheVariants as reason
@@ -25,7 +25,7 @@ said config events = Some (record { config = config; events = events })
 
 -- what these lines say as a script of the key store
 abbrev pub script_of : List (List ℕ) → Reading
-script_of lines = opening store_language 1 0 lines
+script_of lines = reading_from store_language 1 0 lines
 
 -- nothing differs, or the line with this number does
 abbrev pub on_difference : Counts → List Event → Option ℕ → Verdict

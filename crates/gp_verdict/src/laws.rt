@@ -1,15 +1,13 @@
 //! Laws of the audit. Each function does nothing, and its contract is the law.
 ghost use Rattle.std.specs.Prelude.{◌≡◌, ◌≤◌, ◌↔◌, ℕ, List, length, Option, Some, None, Result, MatchResult};
 ghost use Rattle.gp_round.specs.Counts.{Counts};
-ghost use Rattle.gp_round.specs.Ranges.{AreInRange};
 ghost use Rattle.gp_msg.specs.declared.event.Event.{Event};
 ghost use Rattle.gp_msg.specs.Messages.{Entry};
-ghost use Rattle.gp_run.specs.Legal.{Legal};
 ghost use Rattle.gp_run.specs.Runs.{events_of};
 ghost use Rattle.gp_words.specs.Lines.{lines_of};
 ghost use Rattle.gp_service.specs.Stores.{store_language};
 ghost use Rattle.gp_text.specs.Reading.{Script};
-ghost use Rattle.gp_text.specs.Limits.{IsWithinScript};
+ghost use Rattle.gp_text.specs.Limits.{IsSayable};
 ghost use Rattle.gp_verdict.specs.declared.answer.Audited.{Audited};
 ghost use Rattle.gp_verdict.specs.declared.answer.Unaudited.{Unaudited};
 ghost use Rattle.gp_verdict.specs.declared.answer.Unaudited.TheVariants.{NoMemory};
@@ -31,8 +29,10 @@ pub fn the_upheld_is_what_a_run_prints()
 /// last is refused. It has a wrong report exactly if it is such a script, a line `--`, and lines that are not those of
 /// the report of the script's run: the first one that differs is refused, or the line after the last if lines are missing.
 pub fn a_report_is_missing_or_wrong()
-    ensures missing { (bytes : List ℕ) (line : ℕ) (before : Option Script) → length bytes ≤ MOST_BYTES → (verdict bytes ≡ Rejected line reason.NoReport before) ↔ LacksReport (lines_of bytes) line before }
-    ensures wrong { (bytes : List ℕ) (line : ℕ) (before : Option Script) → length bytes ≤ MOST_BYTES → (verdict bytes ≡ Rejected line reason.WrongReport before) ↔ HasWrongReport (lines_of bytes) line before }
+    ensures missing { (bytes : List ℕ) (line : ℕ) (before : Option Script) → length bytes ≤ MOST_BYTES
+        → (verdict bytes ≡ Rejected line reason.NoReport before) ↔ LacksReport (lines_of bytes) line before }
+    ensures wrong { (bytes : List ℕ) (line : ℕ) (before : Option Script) → length bytes ≤ MOST_BYTES
+        → (verdict bytes ≡ Rejected line reason.WrongReport before) ↔ HasWrongReport (lines_of bytes) line before }
 {}
 
 /// Texts have no first difference exactly if they are the same, and else it is where they part.
@@ -44,7 +44,8 @@ pub fn the_first_difference_is_where_texts_part()
 /// What a legal run prints that a script can say is upheld: it has at most 1,048,576 bytes. Audited, it gives that
 /// run and its certificates, unless memory runs out.
 pub fn what_a_run_prints_is_upheld()
-    ensures short { (config : Counts) (run : List Entry) → AreInRange config.acceptors config.coordinators config.learners → Legal config run → IsWithinScript store_language (events_of run) → length (printed config run) ≤ MOST_BYTES }
-    ensures upheld { (config : Counts) (run : List Entry) → AreInRange config.acceptors config.coordinators config.learners → Legal config run → IsWithinScript store_language (events_of run) → verdict (printed config run) ≡ Upheld config (events_of run) }
-    ensures audited { (config : Counts) (run : List Entry) (result : Result Audited Unaudited) → AreInRange config.acceptors config.coordinators config.learners → Legal config run → IsWithinScript store_language (events_of run) → Audits (verdict (printed config run)) result → MatchResult result (IsAuditedRun config run) (λ e. e ≡ NoMemory) }
+    ensures short { (config : Counts) (run : List Entry) → IsSayable store_language config run → length (printed config run) ≤ MOST_BYTES }
+    ensures upheld { (config : Counts) (run : List Entry) → IsSayable store_language config run → verdict (printed config run) ≡ Upheld config (events_of run) }
+    ensures audited { (config : Counts) (run : List Entry) (result : Result Audited Unaudited) → IsSayable store_language config run
+        → Audits (verdict (printed config run)) result → MatchResult result (IsAuditedRun config run) (λ e. e ≡ NoMemory) }
 {}

@@ -1,0 +1,161 @@
+-- Where a script is refused.
+use Rattle.std.proofs.Common.{◌≡◌, inl, inr, ℕ, ◌+◌, true, false, List, [], ◌∷◌, ◌++◌, length, Option, Some, None, Result, Ok, Err, refl, sym, ap, subst, ◌∙◌, arith}
+use Rattle.std.proofs.lemmas.List.Elements.{All-nil, All-cons}
+use Rattle.gp_history.proofs.Tests.{by_cases}
+use Rattle.gp_round.specs.Counts.{Counts}
+use Rattle.gp_service.specs.Languages.{Language}
+use Rattle.gp_words.specs.Lines.{lines_of, text_of}
+use Rattle.gp_script.specs.declared.reason.Reason.{Reason}
+use Rattle.gp_text.specs.Reading.{Reading, Whole, Refused, Sofar, Script, nothing, behind, is_passed, holds_limit, nodes_line, after_line, follow, reading_from, reading_in}
+use Rattle.gp_text.specs.Refusals.{size_of, IsRefusedFirst, IsRefusedBehind, BreaksFrom, BreaksAt}
+use Rattle.gp_text.proofs.LineSteps.{reading_opens, reading_from_end, reading_from_too_long, reading_from_passed, reading_from_goes, reading_from_refused, follow_end, follow_too_long, follow_goes, follow_refused}
+
+abbrev IsPassed : List ℕ → Type 0
+IsPassed line = is_passed (text_of line) ≡ true
+
+no_more : (place : ℕ) → place ≡ place + 0
+no_more place = omega arith
+
+one_more : (place size more : ℕ) → place + size + more ≡ place + (size + more)
+one_more place size more = omega arith
+
+module _ (language : Language) where
+  -- ---- behind the `nodes` line
+
+  -- of these lines, one of this number is the first that is refused
+  record Stops (c : Counts) (n place : ℕ) (sofar : Sofar) (lines : List (List ℕ)) (number : ℕ) (reason : Reason) (before : Option Script) : Type 0 where
+    front : List (List ℕ)
+    rest : List (List ℕ)
+    parts : lines ≡ front ++ rest
+    numbered : number ≡ n + length front
+    said : Sofar
+    whole : follow language c n place sofar front ≡ Whole c said
+    was : before ≡ behind c said
+    why : IsRefusedBehind language c said (place + size_of front) rest reason
+
+  abbrev Follows : Counts → ℕ → ℕ → Sofar → List (List ℕ) → Reading → Type 0
+  Follows c n place sofar lines (Whole d said) = Unit {0}
+  Follows c n place sofar lines (Refused number reason before) = Stops c n place sofar lines number reason before
+
+  -- the next line is the refused one
+  here : (c : Counts) (n place : ℕ) (sofar : Sofar) (line : List ℕ) (lines : List (List ℕ)) (reason : Reason) → IsRefusedBehind language c sofar place (line ∷ lines) reason → Stops c n place sofar (line ∷ lines) n reason (behind c sofar)
+  here c n place sofar line lines reason why = record {
+    front = [];
+    rest = line ∷ lines;
+    parts = refl;
+    numbered = no_more n;
+    said = sofar;
+    whole = follow_end language c n place sofar;
+    was = refl;
+    why = subst (λ (k : ℕ). IsRefusedBehind language c sofar k (line ∷ lines) reason) (no_more place) why;
+  }
+
+  -- it stands behind the next line
+  later : (c : Counts) (n place : ℕ) (sofar next : Sofar) (line : List ℕ) (lines : List (List ℕ)) → holds_limit place line ≡ false → after_line language c sofar (text_of line) ≡ Ok next → (read : Reading) → Follows c (n + 1) (place + length line) next lines read → Follows c n place sofar (line ∷ lines) read
+  later c n place sofar next line lines short says (Whole d said) f = tt
+  later c n place sofar next line lines short says (Refused number reason before) f =
+      let numbered = f.numbered in
+      record {
+        front = line ∷ f.front;
+        rest = f.rest;
+        parts = ap (λ (ls : List (List ℕ)). line ∷ ls) f.parts;
+        numbered = omega (arith, numbered);
+        said = f.said;
+        whole = follow_goes language c n place sofar next line f.front short says ∙ f.whole;
+        was = f.was;
+        why = subst (λ (k : ℕ). IsRefusedBehind language c f.said k f.rest reason) (one_more place (length line) (size_of f.front)) f.why;
+      }
+
+  after : (c : Counts) (n place : ℕ) (sofar : Sofar) (line : List ℕ) (lines : List (List ℕ)) (r : Result Sofar Reason) → after_line language c sofar (text_of line) ≡ r → holds_limit place line ≡ false
+      → ((next : Sofar) → Follows c (n + 1) (place + length line) next lines (follow language c (n + 1) (place + length line) next lines)) → Follows c n place sofar (line ∷ lines) (follow language c n place sofar (line ∷ lines))
+  after c n place sofar line lines (Ok next) says short go =
+      subst (Follows c n place sofar (line ∷ lines)) (sym (follow_goes language c n place sofar next line lines short says)) (later c n place sofar next line lines short says (follow language c (n + 1) (place + length line) next lines) (go next))
+  after c n place sofar line lines (Err reason) says short go =
+      subst (Follows c n place sofar (line ∷ lines)) (sym (follow_refused language c n place sofar line lines reason short says)) (here c n place sofar line lines reason (inr (short, says)))
+
+  follows : (c : Counts) (n place : ℕ) (sofar : Sofar) (lines : List (List ℕ)) → Follows c n place sofar lines (follow language c n place sofar lines)
+  follows c n place sofar [] = subst (Follows c n place sofar []) (sym (follow_end language c n place sofar)) tt
+  follows c n place sofar (line ∷ lines) =
+      by_cases (holds_limit place line)
+      (λ long. subst (Follows c n place sofar (line ∷ lines)) (sym (follow_too_long language c n place sofar line lines long)) (here c n place sofar line lines _ (inl (long, refl))))
+      (λ short. after c n place sofar line lines (after_line language c sofar (text_of line)) refl short (λ next. follows c (n + 1) (place + length line) next lines))
+
+  -- ---- from the first line on
+
+  abbrev Opens : ℕ → ℕ → List (List ℕ) → Reading → Type 0
+  Opens n place lines (Whole d said) = Unit {0}
+  Opens n place lines (Refused number reason before) = BreaksFrom language n place lines number reason before
+
+  first : (n place : ℕ) (lines : List (List ℕ)) (reason : Reason) → IsRefusedFirst place lines reason → BreaksFrom language n place lines n reason None
+  first n place lines reason why = record {
+    front = [];
+    rest = lines;
+    parts = refl;
+    numbered = no_more n;
+    breaks = (All-nil IsPassed, subst (λ (k : ℕ). IsRefusedFirst k lines reason) (no_more place) why);
+  }
+
+  over : (n place : ℕ) (line : List ℕ) (lines : List (List ℕ)) → holds_limit place line ≡ false → IsPassed line → (read : Reading) → Opens (n + 1) (place + length line) lines read → Opens n place (line ∷ lines) read
+  over n place line lines short passed (Whole d said) o = tt
+  over n place line lines short passed (Refused number reason None) o =
+      let numbered = o.numbered in
+      let breaks = o.breaks in
+      record {
+        front = line ∷ o.front;
+        rest = o.rest;
+        parts = ap (λ (ls : List (List ℕ)). line ∷ ls) o.parts;
+        numbered = omega (arith, numbered);
+        breaks = (All-cons IsPassed line o.front passed breaks.0, subst (λ (k : ℕ). IsRefusedFirst k o.rest reason) (one_more place (length line) (size_of o.front)) breaks.1);
+      }
+  over n place line lines short passed (Refused number reason (Some script)) o =
+      let numbered = o.numbered in
+      let breaks = o.breaks in
+      record {
+        front = line ∷ o.front;
+        rest = o.rest;
+        parts = ap (λ (ls : List (List ℕ)). line ∷ ls) o.parts;
+        numbered = omega (arith, numbered);
+        breaks = (
+          breaks.0,
+          breaks.1,
+          reading_from_passed language n place line o.front short passed ∙ breaks.2,
+          subst (λ (k : ℕ). IsRefusedBehind language script.config breaks.0 k o.rest reason) (one_more place (length line) (size_of o.front)) breaks.3,
+        );
+      }
+
+  behind_nodes : (n place : ℕ) (line : List ℕ) (lines : List (List ℕ)) (c : Counts) → holds_limit place line ≡ false → is_passed (text_of line) ≡ false → nodes_line (text_of line) ≡ Ok c → (read : Reading)
+      → Follows c (n + 1) (place + length line) nothing lines read → Opens n place (line ∷ lines) read
+  behind_nodes n place line lines c short read_it says (Whole d said) f = tt
+  behind_nodes n place line lines c short read_it says (Refused number reason before) f =
+      let numbered = f.numbered in
+      subst (BreaksFrom language n place (line ∷ lines) number reason) (sym f.was) (record {
+        front = line ∷ f.front;
+        rest = f.rest;
+        parts = ap (λ (ls : List (List ℕ)). line ∷ ls) f.parts;
+        numbered = omega (arith, numbered);
+        breaks = (
+          f.said,
+          refl,
+          reading_from_goes language n place line f.front c short read_it says ∙ f.whole,
+          subst (λ (k : ℕ). IsRefusedBehind language c f.said k f.rest reason) (one_more place (length line) (size_of f.front)) f.why,
+        );
+      })
+
+  at_nodes : (n place : ℕ) (line : List ℕ) (lines : List (List ℕ)) (r : Result Counts Reason) → nodes_line (text_of line) ≡ r → holds_limit place line ≡ false → is_passed (text_of line) ≡ false → Opens n place (line ∷ lines) (reading_from language n place (line ∷ lines))
+  at_nodes n place line lines (Ok c) says short read_it =
+      subst (Opens n place (line ∷ lines)) (sym (reading_from_goes language n place line lines c short read_it says))
+      (behind_nodes n place line lines c short read_it says (follow language c (n + 1) (place + length line) nothing lines) (follows c (n + 1) (place + length line) nothing lines))
+  at_nodes n place line lines (Err reason) says short read_it =
+      subst (Opens n place (line ∷ lines)) (sym (reading_from_refused language n place line lines reason short read_it says)) (first n place (line ∷ lines) reason (inr (short, read_it, says)))
+
+  opens : (n place : ℕ) (lines : List (List ℕ)) → Opens n place lines (reading_from language n place lines)
+  opens n place [] = subst (Opens n place []) (sym (reading_from_end language n place)) (first n place [] _ refl)
+  opens n place (line ∷ lines) =
+      by_cases (holds_limit place line)
+      (λ long. subst (Opens n place (line ∷ lines)) (sym (reading_from_too_long language n place line lines long)) (first n place (line ∷ lines) _ (inl (long, refl))))
+      (λ short. by_cases (is_passed (text_of line))
+      (λ passed. subst (Opens n place (line ∷ lines)) (sym (reading_from_passed language n place line lines short passed)) (over n place line lines short passed (reading_from language (n + 1) (place + length line) lines) (opens (n + 1) (place + length line) lines)))
+      (λ read_it. at_nodes n place line lines (nodes_line (text_of line)) refl short read_it))
+
+  pub breaks_at : (bytes : List ℕ) (number : ℕ) (reason : Reason) (before : Option Script) → reading_in language bytes ≡ Refused number reason before → BreaksAt language (lines_of bytes) number reason before
+  breaks_at bytes number reason before refused = subst (Opens 1 0 (lines_of bytes)) (reading_opens language bytes ∙ refused) (opens 1 0 (lines_of bytes))
