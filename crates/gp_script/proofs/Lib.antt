@@ -4,3 +4,4 @@ pub mod FormLemmas
 pub mod ItemLemmas
 pub mod LineLemmas
 pub mod CountsLemmas
+pub mod BrokenTokens

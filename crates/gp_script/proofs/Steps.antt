@@ -1,4 +1,4 @@
--- What it means that a chain of steps or tests has an answer.
+-- What it means that a chain of steps or tests has an answer, or fails.
 use Rattle.std.proofs.Common.{◌≡◌, Bool, true, false, cond, Option, Some, None, Result, Ok, Err, refl, ◌⊎◌, inl, inr}
 use Rattle.std.specs.Prelude.{option_map}
 use Rattle.std.specs.Option.{ok_or}
@@ -42,3 +42,28 @@ ok_or_says (Some y) x fault e = cc
 pub option_map_says : {A B : Type 0} (f : A → B) (o : Option A) (y : B) → option_map f o ≡ Some y → (x : A) × (o ≡ Some x) × (f x ≡ y)
 option_map_says f None y e = absurd cc
 option_map_says f (Some x) y e = (x, refl, cc)
+
+-- ---- where a chain of steps fails
+
+-- the first step fails, or the one behind it
+pub step_fails : {A B E : Type 0} (r : Result A E) (next : A → Result B E) (why : E) → (r >>= next) ≡ Err why → (r ≡ Err why) ⊎ ((x : A) × (r ≡ Ok x) × (next x ≡ Err why))
+step_fails (Ok x) next why e = inr (x, refl, e)
+step_fails (Err fault) next why e = inl cc
+
+pub ok_or_fails : {A E : Type 0} (o : Option A) (fault why : E) → ok_or o fault ≡ Err why → (o ≡ None) × (why ≡ fault)
+ok_or_fails None fault why e = (refl, cc)
+ok_or_fails (Some x) fault why e = absurd cc
+
+pub test_fails : {A E : Type 0} (b : Bool) (x : A) (fault why : E) → cond b (Ok x) (Err fault) ≡ Err why → why ≡ fault
+test_fails true x fault why e = absurd cc
+test_fails false x fault why e = cc
+
+-- another test behind it fails
+pub others_fail : {A E : Type 0} (b : Bool) (x : A) (next : Result A E) (why : E) → cond b (Ok x) next ≡ Err why → next ≡ Err why
+others_fail true x next why e = absurd cc
+others_fail false x next why e = e
+
+-- the test fails, for its reason, or the step behind it
+pub fails_or : {A E : Type 0} (b : Bool) (fault : E) (step : Result A E) (why : E) → cond b (Err fault) step ≡ Err why → ((b ≡ true) × (why ≡ fault)) ⊎ (step ≡ Err why)
+fails_or true fault step why e = inl (refl, cc)
+fails_or false fault step why e = inr e

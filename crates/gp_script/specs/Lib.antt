@@ -7,3 +7,4 @@ pub mod Admitted
 pub mod Spelling
 pub mod Rows
 pub mod Faults
+pub mod Broken

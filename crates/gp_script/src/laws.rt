@@ -1,11 +1,13 @@
 //! Laws of the lines of a script. Each function is there for its contract, which is the law.
-ghost use Rattle.std.specs.Prelude.{◌≡◌, ◌≤◌, ◌↔◌, ℕ, false, List, Some, Ok, length};
+ghost use Rattle.std.specs.Prelude.{◌≡◌, ◌≤◌, ◌↔◌, ℕ, false, List, Some, Ok, Err, length};
 ghost use Rattle.gp_round.specs.Counts.{Counts};
 ghost use Rattle.gp_round.specs.Ranges.{AreInRange};
 ghost use Rattle.gp_words.specs.Bytes.{Lacks};
 ghost use Rattle.gp_words.specs.Lines.{is_line_feed};
 ghost use Rattle.gp_words.specs.Tokens.{tokens_of, has_empty};
 ghost use Rattle.gp_script.specs.declared.items.Item.{Item};
+ghost use Rattle.gp_script.specs.declared.reason.Reason.{Reason};
+ghost use Rattle.gp_script.specs.Broken.{BreaksLine, BreaksCounts};
 ghost use Rattle.gp_script.specs.Forms.{Form, form_of};
 ghost use Rattle.gp_script.specs.Items.{item_of, counts_of};
 ghost use Rattle.gp_script.specs.Admitted.{IsAdmitted};
@@ -24,6 +26,15 @@ pub fn a_line_has_the_words_of_its_row()
 /// crashes only as one of its kind can.
 pub fn what_a_line_says_is_admitted<S: Service>()
     ensures { (c : Counts) (form : Form) (item : Item) → item_of S.profile.language c form ≡ Ok item → IsAdmitted S.profile.language c item }
+{}
+
+/// A line of the table that says nothing has a first token that breaks its rule, from left to right, and the line's reason is that
+/// of the rule: a node of the configuration, of the kind that the row wants; a number; a number in its range; a crash that a node
+/// of this kind can have; the words of an operation.
+pub fn a_refused_line_has_a_token_that_breaks_its_rule<S: Service>()
+    ensures item { (c : Counts) (form : Form) (reason : Reason) → AreInRange c.acceptors c.coordinators c.learners
+        → item_of S.profile.language c form ≡ Err reason → BreaksLine S.profile.language c form reason }
+    ensures configuration { (form : Form) (reason : Reason) → counts_of form ≡ Err reason → BreaksCounts form reason }
 {}
 
 /// All that is right for a configuration has a line that says it, and no other text says it. So

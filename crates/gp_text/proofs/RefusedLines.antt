@@ -3,11 +3,14 @@ use Rattle.std.proofs.Common.{◌≡◌, inl, inr, ℕ, ◌+◌, true, false, Li
 use Rattle.std.proofs.lemmas.List.Elements.{All-nil, All-cons}
 use Rattle.gp_history.proofs.Tests.{by_cases}
 use Rattle.gp_round.specs.Counts.{Counts}
+use Rattle.gp_round.specs.Ranges.{AreInRange}
 use Rattle.gp_service.specs.Languages.{Language}
 use Rattle.gp_words.specs.Lines.{lines_of, text_of}
 use Rattle.gp_script.specs.declared.reason.Reason.{Reason}
 use Rattle.gp_text.specs.Reading.{Reading, Whole, Refused, Sofar, Script, nothing, behind, is_passed, holds_limit, nodes_line, after_line, follow, reading_from, reading_in}
 use Rattle.gp_text.specs.Refusals.{size_of, IsRefusedFirst, IsRefusedBehind, BreaksFrom, BreaksAt}
+use Rattle.gp_text.proofs.SaidLegally.{nodes_in_range}
+use Rattle.gp_text.proofs.WrongLines.{wrong_line, wrong_nodes}
 use Rattle.gp_text.proofs.LineSteps.{reading_opens, reading_from_end, reading_from_too_long, reading_from_passed, reading_from_goes, reading_from_refused, follow_end, follow_too_long, follow_goes, follow_refused}
 
 abbrev IsPassed : List ℕ → Type 0
@@ -66,19 +69,19 @@ module _ (language : Language) where
         why = subst (λ (k : ℕ). IsRefusedBehind language c f.said k f.rest reason) (one_more place (length line) (size_of f.front)) f.why;
       }
 
-  after : (c : Counts) (n place : ℕ) (sofar : Sofar) (line : List ℕ) (lines : List (List ℕ)) (r : Result Sofar Reason) → after_line language c sofar (text_of line) ≡ r → holds_limit place line ≡ false
+  after : (c : Counts) → AreInRange c.acceptors c.coordinators c.learners → (n place : ℕ) (sofar : Sofar) (line : List ℕ) (lines : List (List ℕ)) (r : Result Sofar Reason) → after_line language c sofar (text_of line) ≡ r → holds_limit place line ≡ false
       → ((next : Sofar) → Follows c (n + 1) (place + length line) next lines (follow language c (n + 1) (place + length line) next lines)) → Follows c n place sofar (line ∷ lines) (follow language c n place sofar (line ∷ lines))
-  after c n place sofar line lines (Ok next) says short go =
+  after c range n place sofar line lines (Ok next) says short go =
       subst (Follows c n place sofar (line ∷ lines)) (sym (follow_goes language c n place sofar next line lines short says)) (later c n place sofar next line lines short says (follow language c (n + 1) (place + length line) next lines) (go next))
-  after c n place sofar line lines (Err reason) says short go =
-      subst (Follows c n place sofar (line ∷ lines)) (sym (follow_refused language c n place sofar line lines reason short says)) (here c n place sofar line lines reason (inr (short, says)))
+  after c range n place sofar line lines (Err reason) says short go =
+      subst (Follows c n place sofar (line ∷ lines)) (sym (follow_refused language c n place sofar line lines reason short says)) (let wrong = wrong_line language c range sofar (text_of line) reason says in here c n place sofar line lines reason (inr (short, wrong.0, wrong.1)))
 
-  follows : (c : Counts) (n place : ℕ) (sofar : Sofar) (lines : List (List ℕ)) → Follows c n place sofar lines (follow language c n place sofar lines)
-  follows c n place sofar [] = subst (Follows c n place sofar []) (sym (follow_end language c n place sofar)) tt
-  follows c n place sofar (line ∷ lines) =
+  follows : (c : Counts) → AreInRange c.acceptors c.coordinators c.learners → (n place : ℕ) (sofar : Sofar) (lines : List (List ℕ)) → Follows c n place sofar lines (follow language c n place sofar lines)
+  follows c range n place sofar [] = subst (Follows c n place sofar []) (sym (follow_end language c n place sofar)) tt
+  follows c range n place sofar (line ∷ lines) =
       by_cases (holds_limit place line)
       (λ long. subst (Follows c n place sofar (line ∷ lines)) (sym (follow_too_long language c n place sofar line lines long)) (here c n place sofar line lines _ (inl (long, refl))))
-      (λ short. after c n place sofar line lines (after_line language c sofar (text_of line)) refl short (λ next. follows c (n + 1) (place + length line) next lines))
+      (λ short. after c range n place sofar line lines (after_line language c sofar (text_of line)) refl short (λ next. follows c range (n + 1) (place + length line) next lines))
 
   -- ---- from the first line on
 
@@ -144,9 +147,9 @@ module _ (language : Language) where
   at_nodes : (n place : ℕ) (line : List ℕ) (lines : List (List ℕ)) (r : Result Counts Reason) → nodes_line (text_of line) ≡ r → holds_limit place line ≡ false → is_passed (text_of line) ≡ false → Opens n place (line ∷ lines) (reading_from language n place (line ∷ lines))
   at_nodes n place line lines (Ok c) says short read_it =
       subst (Opens n place (line ∷ lines)) (sym (reading_from_goes language n place line lines c short read_it says))
-      (behind_nodes n place line lines c short read_it says (follow language c (n + 1) (place + length line) nothing lines) (follows c (n + 1) (place + length line) nothing lines))
+      (behind_nodes n place line lines c short read_it says (follow language c (n + 1) (place + length line) nothing lines) (follows c (nodes_in_range (text_of line) c says) (n + 1) (place + length line) nothing lines))
   at_nodes n place line lines (Err reason) says short read_it =
-      subst (Opens n place (line ∷ lines)) (sym (reading_from_refused language n place line lines reason short read_it says)) (first n place (line ∷ lines) reason (inr (short, read_it, says)))
+      subst (Opens n place (line ∷ lines)) (sym (reading_from_refused language n place line lines reason short read_it says)) (first n place (line ∷ lines) reason (inr (short, read_it, wrong_nodes (text_of line) reason says)))
 
   opens : (n place : ℕ) (lines : List (List ℕ)) → Opens n place lines (reading_from language n place lines)
   opens n place [] = subst (Opens n place []) (sym (reading_from_end language n place)) (first n place [] _ refl)
