@@ -1,16 +1,12 @@
 -- A vote has what was agreed on in its round, and keeps it in each step.
 use Rattle.std.proofs.Common.{◌≡◌, ℕ, zero, suc, Bool, true, false, cond, not, ◌&&◌, nat_lt, List, [], ◌∷◌, Some, None, refl, sym, ap, subst, ◌∙◌}
 use Rattle.std.specs.Prelude.{Option}
-use Rattle.std.specs.List.{list_all}
 use Rattle.std.proofs.lemmas.Bool.{true≢false}
-use Rattle.gp_command.specs.declared.command.Command.{Command}
-use Rattle.gp_command.specs.Conflict.{same}
-use Rattle.gp_command.proofs.ConflictLemmas.{same_itself}
-use Rattle.gp_history.specs.History.{History, has, push, pushes}
+use Rattle.gp_history.specs.History.{History, pushes}
 use Rattle.gp_history.specs.Canonical.{canonical}
 use Rattle.gp_history.specs.Bounds.{join}
-use Rattle.gp_history.proofs.Push.{has-push, push_there}
-use Rattle.gp_history.proofs.Tests.{both, fst_of, snd_of, left_of, right_of, by_cases}
+use Rattle.gp_history.proofs.Tests.{both, by_cases}
+use Rattle.gp_history.proofs.Pushing.{all_pushes_there, all_there_once_pushed}
 use Rattle.gp_round.specs.declared.round.Mode.{Mode}
 use Rattle.gp_round.specs.declared.round.Mode.TheVariants.{Single, Multi, Fast}
 use Rattle.gp_round.specs.declared.round.Round.{Round}
@@ -18,32 +14,20 @@ use Rattle.gp_round.specs.Rounds.{earlier, same_round, is_fast}
 use Rattle.gp_round.specs.Configs.{majority}
 use Rattle.gp_round.specs.Sets.{masks, bit}
 use Rattle.gp_round.proofs.Orders.{same_rounds}
-use Rattle.gp_msg.specs.Messages.{Message, Sent}
+use Rattle.gp_msg.specs.Messages.{Sent}
 use Rattle.gp_safe.specs.Meets.{gathered, quorum_meets, add_meet, all_joined, everyone, if_whole, with_one}
 use Rattle.gp_safe.proofs.Adding.{join_known}
 use Rattle.gp_acceptor.specs.State.{AcceptorState, nobody}
-use Rattle.gp_acceptor.specs.Table.{value_at, agreed, raised, with_value, holding, next_vote, next_vote_of, with_vote, counted, acceptor_take}
+use Rattle.gp_acceptor.specs.Table.{value_at, agreed, raised, holding, next_vote, with_vote, counted, acceptor_take}
 use Rattle.gp_acceptor.specs.Revotes.{with_join, HasAgreed, IsAgreed}
 use Rattle.gp_acceptor.proofs.Rejoining.{round_itself}
 use Rattle.gp_acceptor.proofs.Taking.{nobody_there}
 
 -- ---- joins with what was joined before
 
-pushes_there : (h : History) (cs : List Command) → list_all (has h) cs ≡ true → pushes h cs ≡ h
-pushes_there h [] e = refl
-pushes_there h (c ∷ cs) e = ap (λ u. pushes u cs) (push_there h c (fst_of (has h c) _ e)) ∙ pushes_there h cs (snd_of (has h c) _ e)
-
-still_there : (h : History) (cs : List Command) (c : Command) → has h c ≡ true → has (pushes h cs) c ≡ true
-still_there h [] c e = e
-still_there h (x ∷ cs) c e = still_there (push h x) cs c (has-push h x c ∙ right_of (same c x) (has h c) e)
-
-all_there_once_pushed : (h : History) (cs : List Command) → list_all (has (pushes h cs)) cs ≡ true
-all_there_once_pushed h [] = refl
-all_there_once_pushed h (c ∷ cs) = both (still_there (push h c) cs c (has-push h c c ∙ left_of (same c c) (has h c) (same_itself c))) (all_there_once_pushed (push h c) cs)
-
 joined_again : (h u : History) → join (join h u) u ≡ join h u
 unfolding join
-joined_again h u = pushes_there (pushes h (canonical u)) (canonical u) (all_there_once_pushed h (canonical u))
+joined_again h u = all_pushes_there (pushes h (canonical u)) (canonical u) (all_there_once_pushed h (canonical u))
 
 joined_to_itself : (u : History) → join u u ≡ u
 joined_to_itself u = join_known u u (λ c e. e)

@@ -1,11 +1,13 @@
 -- Votes that take the place of an older one.
-use Rattle.std.specs.Prelude.{◌≡◌, ◌⊎◌, ℕ, false, Option, Some, None, unwrap_or}
+use Rattle.std.specs.Prelude.{◌≡◌, ◌⊎◌, ℕ, false, List, Option, Some, None, unwrap_or}
 use Rattle.gp_history.specs.History.{History}
 use Rattle.gp_history.specs.Bounds.{join}
 use Rattle.gp_round.specs.declared.round.Round.{Round}
 use Rattle.gp_round.specs.Rounds.{is_fast}
 use Rattle.gp_acceptor.specs.State.{AcceptorState}
-use Rattle.gp_acceptor.specs.Table.{next_vote, agreed, value_at}
+use Rattle.gp_msg.specs.Messages.{Message, Sent}
+use Rattle.gp_safe.specs.Held.{value_with}
+use Rattle.gp_acceptor.specs.Table.{next_vote, agreed, value_at, raised, with_value, with_vote, told_vote, acceptor_take}
 
 -- the join with a history, where there is one
 abbrev pub with_join : History → Option History → History
@@ -22,3 +24,19 @@ HasAgreed n voted round vote f = voted ≡ round → is_fast round.mode ≡ fals
 
 abbrev pub IsAgreed : AcceptorState → Type 0
 IsAgreed s = HasAgreed s.config.coordinators s.voted s.round s.vote (value_at s.held)
+
+-- what quorums agreed on once a value of coordinator c is held too, if there is one
+abbrev pub agreed_with : ℕ → Round → List (Option History) → ℕ → Option History → Option History
+agreed_with n round values c newer = agreed n round (value_with (value_at values) c newer)
+
+-- in this round, once a value of coordinator c is held and a vote is cast, each if there is one
+abbrev pub settled : AcceptorState → Round → ℕ → Option History → Option History → AcceptorState
+settled s round c held vote = with_vote (with_value (raised s round) c held) vote
+
+-- what is told of the vote, if there is one
+abbrev pub told : AcceptorState → Round → Option History → Option Message
+told s round vote = told_vote s.number s.voted round s.vote vote
+
+-- the value that is held and the vote that is cast are what the table says of a value of coordinator c
+abbrev pub IsPlan : AcceptorState → Round → ℕ → History → Option History → Option History → Type 0
+IsPlan s round c value held vote = ◌≡◌ {A = AcceptorState × Option Message} (settled s round c held vote, told s round vote) (acceptor_take s (Sent round c value))

@@ -21,7 +21,8 @@ pub struct Acceptor {
 }
 
 impl Model for Acceptor {
-    ghost use Rattle.gp_acceptor.specs.Epochs.{AcceptorInEpoch, epoch_code};
+    ghost use Rattle.gp_acceptor.specs.Epochs.{AcceptorInEpoch};
+    ghost use Rattle.gp_acceptor.specs.Codes.{epoch_code};
 
     ghost Value = { AcceptorInEpoch };
 

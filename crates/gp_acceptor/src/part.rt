@@ -1,16 +1,16 @@
 //! What an acceptor keeps of its epoch, and what it does there.
-ghost use Rattle.std.specs.Prelude.{◌≡◌, [], ◌∷◌, ◌<◌, IfOk, IsTrue, OnOk, OnErr, map, Option, not, cond, ◌&&◌, false};
+ghost use Rattle.std.specs.Prelude.{◌≡◌, [], ◌∷◌, ◌<◌, IfOk, IsTrue, OnOk, OnErr, map, not, cond, ◌&&◌, false};
 ghost use Rattle.std.specs.Option.{option_map, option_to_list};
 ghost use Rattle.gp_history.specs.History.{has, push};
 ghost use Rattle.gp_history.specs.Sequence.{history_of};
 ghost use Rattle.gp_round.specs.Rounds.{earlier, same_round, is_fast};
-ghost use Rattle.gp_msg.specs.Messages.{message_of, part_of, maybe_stamped, EpochPart, Acceptors, Message, Asked, Proposed, Sent, Voted, InEpoch};
-ghost use Rattle.gp_acceptor.specs.State.{AcceptorState, opening, histories};
-ghost use Rattle.gp_acceptor.specs.Table.{acceptor_take, acceptor_fall, durable, told_vote, raised, with_value, with_vote};
-ghost use Rattle.gp_acceptor.specs.Revotes.{IsAgreed};
+ghost use Rattle.gp_msg.specs.Messages.{message_of, part_of, maybe_stamped, EpochPart, Acceptors, Asked, Proposed, Sent, Voted, InEpoch};
+ghost use Rattle.gp_acceptor.specs.State.{opening, histories};
+ghost use Rattle.gp_acceptor.specs.Table.{acceptor_take, acceptor_fall, durable, raised, with_value, with_vote};
+ghost use Rattle.gp_acceptor.specs.Revotes.{IsAgreed, IsPlan, settled, told};
 
 use crate::held::{clear, copy_value, value_at};
-use crate::voting::{is_fast, revote, told_vote};
+use crate::voting::{revote, told_vote};
 use gp_command::{Command, NoMemory};
 use gp_history::Hist;
 use gp_index::History;
@@ -36,7 +36,8 @@ pub struct Part {
 impl Model for Part {
     ghost use Rattle.std.specs.Prelude.{◌≡◌, length};
     ghost use Rattle.gp_history.specs.Sequence.{history_of};
-    ghost use Rattle.gp_acceptor.specs.State.{AcceptorState, histories, state_code};
+    ghost use Rattle.gp_acceptor.specs.State.{AcceptorState, histories};
+    ghost use Rattle.gp_acceptor.specs.Codes.{state_code};
     ghost use Rattle.gp_acceptor.specs.Table.{value_at};
     ghost use Rattle.gp_acceptor.specs.Revotes.{HasAgreed};
 
@@ -51,7 +52,7 @@ impl Model for Part {
 
 impl Part {
     /// The state in which nothing has happened: round zero, with the empty history as its vote.
-    #[tactic(auto, using(crate::proofs::Holding::all_gone, crate::proofs::Holding::history_of_nothing, crate::proofs::Agreeing::agreed_of_nobody))]
+    #[tactic(auto, using(crate::proofs::Holding::all_gone, gp_history::proofs::Pushing::history_of_nothing, crate::proofs::Agreeing::agreed_of_nobody))]
     pub fn new(alloc: Global, config: &Config, number: u32) -> Result<Part, NoMemory>
         ensures { IfOk result (λ a. a ≡ opening config.now number) }
     {
@@ -158,11 +159,11 @@ impl Part {
     fn accepts(&self, c: &Command) -> bool
         ensures { result ≡ (same_round self.now.voted self.now.round && is_fast self.now.round.mode && not (has self.now.vote c.now)) }
     {
-        self.voted == self.round && is_fast(self.round.mode) && !self.vote.has(c)
+        self.voted == self.round && self.round.mode.is_fast() && !self.vote.has(c)
     }
 
     // Votes for one more command.
-    #[tactic(auto, using(crate::proofs::Holding::pushed))]
+    #[tactic(auto, using(gp_safe::proofs::Pushed::pushed))]
     fn extend(&mut self, epoch: u32, c: &Command) -> Result<Outs, NoMemory>
         requires { IsTrue (is_fast self.old.round.mode) }
         ensures next { OnOk result (self.new ≡ record self.old { vote = push self.old.vote c.now }) }
@@ -207,9 +208,9 @@ impl Part {
     fn plan(&self, epoch: u32, round: Round, sender: u32, value: &History) -> Result<Plan, NoMemory>
         requires reached { earlier round self.now.round ≡ false }
         requires known { sender < self.now.config.coordinators }
-        ensures next { IfOk result (λ p. ◌≡◌ {A = AcceptorState × Option Message} (with_vote (with_value (raised self.now round) sender (option_map history_of p.held)) (option_map history_of p.vote), told_vote self.now.number self.now.voted round self.now.vote (option_map history_of p.vote)) (acceptor_take self.now (Sent round sender (history_of value.now)))) }
-        ensures agreed { IfOk result (λ p. IsAgreed (with_vote (with_value (raised self.now round) sender (option_map history_of p.held)) (option_map history_of p.vote))) }
-        ensures sent { IfOk result (λ p. map message_of p.outs ≡ option_to_list (maybe_stamped epoch (told_vote self.now.number self.now.voted round self.now.vote (option_map history_of p.vote)))) }
+        ensures next { IfOk result (λ p. IsPlan self.now round sender (history_of value.now) (option_map history_of p.held) (option_map history_of p.vote)) }
+        ensures agreed { IfOk result (λ p. IsAgreed (settled self.now round sender (option_map history_of p.held) (option_map history_of p.vote))) }
+        ensures sent { IfOk result (λ p. map message_of p.outs ≡ option_to_list (maybe_stamped epoch (told self.now round (option_map history_of p.vote)))) }
     {
         let values = self.values_in(round);
         let newer = newer(value_at(values, sender), value)?;

@@ -2,21 +2,19 @@
 ghost use Rattle.std.specs.Prelude.{◌≡◌, ◌<◌, IfOk, map, Option, ◌&&◌};
 ghost use Rattle.std.specs.Option.{option_map, option_to_list, option_copied};
 ghost use Rattle.gp_history.specs.Sequence.{history_of};
-ghost use Rattle.gp_round.specs.Rounds.{is_fast};
 ghost use Rattle.gp_msg.specs.Messages.{message_of, maybe_stamped};
-ghost use Rattle.gp_acceptor.specs.QuorumValue.{value_history};
-ghost use Rattle.gp_safe.specs.Held.{value_with};
+ghost use Rattle.gp_safe.specs.Cow.{cow_history};
 ghost use Rattle.gp_acceptor.specs.State.{histories};
-ghost use Rattle.gp_acceptor.specs.Revotes.{Settles, HasAgreed};
+ghost use Rattle.gp_acceptor.specs.Revotes.{Settles, HasAgreed, agreed_with};
 ghost use Rattle.gp_acceptor.specs.Table.{next_vote, told_vote, agreed, value_at};
 
-use crate::held::{Held, QuorumValue, agreed};
+use crate::held::{Held, agreed};
 use gp_command::NoMemory;
 use gp_history::Hist;
 use gp_index::History;
 use gp_msg::{Msg, Outs};
 use gp_round::{Config, Mode, Round};
-use gp_safe::{Replaced, join, join_news};
+use gp_safe::{HistoryCow, Replaced, join, join_news};
 use std::alloc::Global;
 
 /// The vote that the held values make, if they make one. A multi round in which it has voted gives one
@@ -35,7 +33,7 @@ pub fn revote(
 ) -> Result<Option<History>, NoMemory>
     requires sender { sender < config.now.coordinators }
     requires agreed { HasAgreed config.now.coordinators voted round (history_of vote.now) (value_at (histories values.now)) }
-    ensures { IfOk result (λ w. Settles voted round (history_of vote.now) (agreed config.now.coordinators round (value_with (value_at (histories values.now)) sender (option_map history_of (option_copied newer.entry)))) (option_map history_of w)) }
+    ensures { IfOk result (λ w. Settles voted round (history_of vote.now) (agreed_with config.now.coordinators round (histories values.now) sender (option_map history_of (option_copied newer.entry))) (option_map history_of w)) }
 {
     let values = Held { values };
     if voted == round && round.mode == Mode::Multi {
@@ -64,17 +62,17 @@ pub fn next_vote(
     voted: Round,
     round: Round,
     vote: &History,
-    agreed: Option<QuorumValue<'_>>,
+    agreed: Option<HistoryCow<'_>>,
 ) -> Result<Option<History>, NoMemory>
-    ensures { IfOk result (λ v. option_map history_of v ≡ next_vote voted round (history_of vote.now) (option_map value_history agreed.entry)) }
+    ensures { IfOk result (λ v. option_map history_of v ≡ next_vote voted round (history_of vote.now) (option_map cow_history agreed.entry)) }
 {
     let Some(agreed) = agreed else {
         return Ok(None);
     };
     if voted < round {
-        return Ok(Some(agreed.into_history()?));
+        return Ok(Some(agreed.into_owned()?));
     }
-    if voted == round && !is_fast(round.mode) {
+    if voted == round && !round.mode.is_fast() {
         return Ok(Some(join(alloc, vote, agreed.history())?));
     }
     Ok(None)
@@ -105,11 +103,4 @@ pub fn told_vote(
         }
     }
     Ok(outs)
-}
-
-/// Whether a round of this mode is fast.
-pub fn is_fast(mode: Mode) -> bool
-    ensures { result ≡ is_fast mode }
-{
-    matches!(mode, Mode::Fast)
 }

@@ -3,7 +3,7 @@ use Rattle.std.proofs.Common.{◌≡◌, ℕ, ◌+◌, ◌*◌, ◌≤◌, Bool,
 use Rattle.std.specs.Prelude.{not, nat_lt}
 use Rattle.std.specs.Option.{is_some}
 use Rattle.std.proofs.lemmas.List.Sums.{sum_by-cons}
-use Rattle.gp_adapt.specs.declared.adapt.TheConstants.{LAST_COUNT}
+use Rattle.gp_round.specs.declared.config.TheConstants.{LAST_COUNT}
 use Rattle.gp_adapt.specs.Courses.{CourseState, opening, is_calm_next, moved, begins}
 use Rattle.gp_adapt.specs.Calls.{Call, IsAnswered, AreAnswered, answers_in, clashes_in}
 

@@ -27,7 +27,7 @@ use Rattle.gp_acceptor.specs.State.{AcceptorState}
 use Rattle.gp_acceptor.specs.Table as acceptor
 use Rattle.gp_acceptor.specs.Epochs as acceptors
 use Rattle.gp_acceptor.specs.Epochs.{AcceptorInEpoch}
-use Rattle.gp_run.specs.Nodes.{node_of}
+use Rattle.gp_msg.specs.Nodes.{node_of}
 use Rattle.gp_run.specs.Messages.{messages}
 use Rattle.gp_run.specs.States.{proposer_acts, proposer_at, coordinator_kept, coordinator_acts, coordinator_at, acceptor_acts, acceptor_at, learner_acts, learner_at}
 use Rattle.gp_run.specs.Legal.{Legal, fits, sent_by}

@@ -8,7 +8,7 @@ use Rattle.std.proofs.lemmas.List.Elements.{All-head, All-tail}
 use Rattle.std.proofs.lemmas.List.Sums.{sum_by-cons}
 use Rattle.gp_round.specs.declared.round.Mode.TheVariants.{Single}
 use Rattle.gp_round.specs.declared.round.Round.{Round}
-use Rattle.gp_adapt.specs.declared.adapt.TheConstants.{LAST_COUNT}
+use Rattle.gp_round.specs.declared.config.TheConstants.{LAST_COUNT}
 use Rattle.gp_adapt.specs.Courses.{CourseState, opening, is_calm_next, moved, begins, returns}
 use Rattle.gp_adapt.specs.Calls.{Call, IsAnswered, AreAnswered, NoneReturns, course_after, clashes_in}
 use Rattle.gp_adapt.specs.Told.{IsTold, AreTold, AreWatchedCalls}

@@ -16,7 +16,7 @@ use Rattle.gp_run.specs.Messages.{messages}
 use Rattle.gp_run.specs.Legal.{Legal}
 use Rattle.gp_cstructs.specs.CStructs.{Among, BoundLaws, Compatible, IsUpperBound}
 use Rattle.gp_cstructs.specs.Facts as core
-use Rattle.gp_cstructs.specs.Protocol.{Leads, leads_by}
+use Rattle.gp_round.specs.Quorums.{IsCoordinatorQuorum, coordinator_quorum_of}
 use Rattle.gp_cstructs.proofs.Growth as growth
 use Rattle.gp_cstructs.proofs.Lists.{contains_among}
 use Rattle.gp_agreement.specs.Values.{Value, operations}
@@ -31,8 +31,8 @@ use Rattle.gp_collide.proofs.ClashesSeen.{compatible_values_are_calm}
 use Rattle.gp_adapt.specs.Told.{AreSent}
 use Rattle.gp_adapt.proofs.Leading.{IsLedBy, messages_led}
 
-lead_of_quorum : (n : ℕ) (m : Mode) (lead : ℕ) (R : ℕ → Bool) → m ≡ Single → leads_by n m lead R → (lead < n) × (R lead ≡ true)
-lead_of_quorum n m lead R e h = subst (λ (k : Mode). leads_by n k lead R) e h
+lead_of_quorum : (n : ℕ) (m : Mode) (lead : ℕ) (R : ℕ → Bool) → m ≡ Single → coordinator_quorum_of n m lead R → (lead < n) × (R lead ≡ true)
+lead_of_quorum n m lead R e h = subst (λ (k : Mode). coordinator_quorum_of n k lead R) e h
 
 sent_among : (es : List Entry) (ms : List Stamped) (i : ℕ) (m : Stamped) → AreSent es ms → slice_get ms i ≡ Some m → Contains (messages es) m
 sent_among es [] i m all at = absurd (cc)
@@ -43,7 +43,7 @@ module _ (config : Counts) (some : 0 < config.acceptors) (es : List Entry) (lega
   abbrev G : core.Ledger (T config e)
   G = standing.G config some es legal e
 
-  abbrev F : core.Facts (T config e) (Leads config.coordinators) (standing.w config some es legal e)
+  abbrev F : core.Facts (T config e) (IsCoordinatorQuorum config.coordinators) (standing.w config some es legal e)
   F = standing.facts config some es legal e
 
   slow : is_fast r.mode ≡ false
@@ -71,7 +71,7 @@ module _ (config : Counts) (some : 0 < config.acceptors) (es : List Entry) (lega
     over : operations.prefix y top
     all : IsUpperBound operations.prefix top parts
 
-  above : (y : Value) → G.values r.lead r y → (parts : List Value) → ((u : Value) → Among parts u → core.IsBacked (T config e) (Leads config.coordinators) G r u) → Above y parts
+  above : (y : Value) → G.values r.lead r y → (parts : List Value) → ((u : Value) → Among parts u → core.IsBacked (T config e) (IsCoordinatorQuorum config.coordinators) G r u) → Above y parts
   above y p [] backed = record { top = y; sent = p; over = laws.reflexive y; all = λ u m. elim m [ ] }
   above y p (u ∷ parts) backed =
       let more = above y p parts (λ v m. backed v (inr m)) in

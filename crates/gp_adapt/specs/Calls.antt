@@ -3,7 +3,7 @@ use Rattle.std.specs.Prelude.{◌≡◌, ◌≤◌, ℕ, Bool, false, ◌&&◌, 
 use Rattle.std.specs.Option.{is_some}
 use Rattle.gp_round.specs.declared.round.Mode.TheVariants.{Single}
 use Rattle.gp_round.specs.declared.round.Round.{Round}
-use Rattle.gp_adapt.specs.declared.adapt.TheConstants.{LAST_COUNT}
+use Rattle.gp_round.specs.declared.config.TheConstants.{LAST_COUNT}
 use Rattle.gp_adapt.specs.declared.scene.TheConstants.{MOST_CLASHES}
 use Rattle.gp_adapt.specs.Courses.{CourseState, moved, begins, returns}
 

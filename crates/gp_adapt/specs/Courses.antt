@@ -1,6 +1,5 @@
 -- What an adapting coordinator remembers of its calls, and when a call begins a round.
-use Rattle.std.specs.Prelude.{ℕ, ◌+◌, Bool, true, false, cond, not, ◌&&◌, ◌||◌, nat_le, nat_lt, min, refl}
-use Rattle.std.specs.Coded.{Coded, code_by, coded×, coded_ℕ, coded_bool}
+use Rattle.std.specs.Prelude.{ℕ, ◌+◌, Bool, true, false, cond, not, ◌&&◌, ◌||◌, nat_le, nat_lt, min}
 use Rattle.gp_adapt.specs.declared.scene.TheConstants.{MOST_CLASHES}
 use Rattle.gp_adapt.specs.declared.scene.Scene.{Scene}
 
@@ -10,11 +9,6 @@ pub record CourseState : Type 0 where
   pub begun : Bool
   pub clashes : ℕ
   pub quiet : ℕ
-
-abbrev pub course_code : Coded CourseState
-course_code =
-    code_by (ℕ × (Bool × (ℕ × ℕ))) (coded× coded_ℕ (coded× coded_bool (coded× coded_ℕ coded_ℕ)))
-    (λ s. (s.calm, (s.begun, (s.clashes, s.quiet)))) (λ p. record { calm = p.0; begun = p.1.0; clashes = p.1.1.0; quiet = p.1.1.1 }) (λ _. refl)
 
 -- before the first call
 abbrev pub opening : ℕ → CourseState

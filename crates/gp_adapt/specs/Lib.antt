@@ -1,4 +1,5 @@
 pub mod Courses
+pub mod Codes
 pub mod Choices
 pub mod Calls
 pub mod Told

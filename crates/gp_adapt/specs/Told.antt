@@ -8,7 +8,7 @@ use Rattle.gp_run.specs.Messages.{messages}
 use Rattle.gp_run.specs.Legal.{Legal}
 use Rattle.gp_collide.specs.Watched.{watched}
 use Rattle.gp_collide.specs.Clashes.{HasClash}
-use Rattle.gp_adapt.specs.declared.adapt.TheConstants.{LAST_COUNT}
+use Rattle.gp_round.specs.declared.config.TheConstants.{LAST_COUNT}
 use Rattle.gp_adapt.specs.Courses.{opening}
 use Rattle.gp_adapt.specs.Calls.{Call, AreAnswered}
 

@@ -9,10 +9,7 @@ ghost use Rattle.gp_adapt.specs.Calls.{IsAnswered};
 
 use crate::course::Course;
 use crate::scene::Scene;
-use gp_round::{Config, Mode, Round};
-
-/// The greatest count of a round.
-pub const LAST_COUNT: u32 = 1_000_000;
+use gp_round::{Config, LAST_COUNT, Mode, Round};
 
 /// The greatest number of calls without a clash that can make a calm.
 pub const MOST_CALM: u32 = 1_000;
@@ -123,20 +120,6 @@ impl Adapt {
             return None;
         }
         let mode = (self.choose)(&self.course.scene());
-        Some(Round {
-            count: highest.count + 1,
-            mode,
-            lead: lead_of(mode, self.coordinator),
-        })
-    }
-}
-
-// The lead of a round of this mode that a coordinator begins.
-fn lead_of(mode: Mode, coordinator: u32) -> u32
-    ensures { result ≡ lead_of mode coordinator }
-{
-    match mode {
-        Mode::Multi => 0,
-        Mode::Single | Mode::Fast => coordinator,
+        Some(Round::of(self.coordinator, highest.count + 1, mode))
     }
 }

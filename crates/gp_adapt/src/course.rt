@@ -17,7 +17,8 @@ pub struct Course {
 
 impl Model for Course {
     ghost use Rattle.std.specs.Prelude.{◌<◌, ◌≤◌};
-    ghost use Rattle.gp_adapt.specs.Courses.{CourseState, course_code};
+    ghost use Rattle.gp_adapt.specs.Courses.{CourseState};
+    ghost use Rattle.gp_adapt.specs.Codes.{course_code};
     ghost use Rattle.gp_adapt.specs.declared.scene.TheConstants.{MOST_CLASHES};
 
     ghost Value = { CourseState };

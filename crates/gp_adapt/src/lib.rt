@@ -6,6 +6,6 @@ mod course;
 pub mod laws;
 mod scene;
 
-pub use adapt::{Adapt, ChooseMode, LAST_COUNT, MOST_CALM};
+pub use adapt::{Adapt, ChooseMode, MOST_CALM};
 pub use course::Course;
 pub use scene::{MOST_CLASHES, Scene};

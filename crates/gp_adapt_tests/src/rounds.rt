@@ -3,8 +3,8 @@ ghost use Rattle.std.specs.Prelude.{◌≡◌, ◌<◌, ◌≤◌};
 ghost use Rattle.gp_round.specs.declared.round.Mode.TheVariants.{Single};
 ghost use Rattle.gp_adapt.specs.Choices.{mode_after};
 
-use gp_adapt::{Adapt, ChooseMode, LAST_COUNT, Scene};
-use gp_round::{Config, Mode, Round};
+use gp_adapt::{Adapt, ChooseMode, Scene};
+use gp_round::{Config, LAST_COUNT, Mode, Round};
 use std::alloc::Global;
 use std::process::Abort;
 use std::test::Fail;

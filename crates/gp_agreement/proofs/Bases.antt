@@ -1,6 +1,7 @@
 -- The values of the first Final messages, and their joins.
 use Rattle.std.proofs.Common.{◌≡◌, ◌≤◌, ℕ, zero, suc, Bool, cond, nat_eq, List, [], ◌∷◌, ◌++◌, Option, Some, None, refl, sym, subst, ap, ◌∙◌, inl, inr, arith}
 use Rattle.std.proofs.lemmas.Bool.{eq-eqb, eqb-true}
+use Rattle.std.specs.Option.{option_or}
 use Rattle.gp_history.specs.History.{History, IsHistory, IsPrefix}
 use Rattle.gp_history.proofs.Tests.{by_cases}
 use Rattle.gp_history.proofs.Prefix.{prefix_refl, prefix_trans}
@@ -8,7 +9,7 @@ use Rattle.gp_history.proofs.Bound.{empty_is_history, join_is_history, join_grow
 use Rattle.gp_cstructs.specs.CStructs.{Among}
 use Rattle.gp_cstructs.proofs.Lists.{nat_cases}
 use Rattle.gp_msg.specs.Messages.{Stamped, Offered, InEpoch, Final}
-use Rattle.gp_run.specs.Learned.{final_value, or_else, first_final, joined_with, base}
+use Rattle.gp_run.specs.Learned.{final_value, first_final, joined_with, base}
 use Rattle.gp_agreement.proofs.FinalsBelow.{HasFinal, Below}
 
 -- the first Final of an epoch, if there is one
@@ -19,7 +20,7 @@ pub record FirstFinal (e : ℕ) (ms : List Stamped) : Type 0 where
   pub there : Among ms (Final e learner value)
 
 first_more : (e : ℕ) (m : Stamped) (ms : List Stamped) → final_value e m ≡ None → FirstFinal e ms → FirstFinal e (m ∷ ms)
-first_more e m ms q k = record { learner = k.learner; value = k.value; is = ap (λ (o : Option History). or_else o (first_final e ms)) q ∙ k.is; there = inr k.there }
+first_more e m ms q k = record { learner = k.learner; value = k.value; is = ap (λ (o : Option History). option_or o (first_final e ms)) q ∙ k.is; there = inr k.there }
 
 pub final_found : (e : ℕ) (ms : List Stamped) → HasFinal ms e → FirstFinal e ms
 final_found e [] h = elim h.2 [ ]
@@ -35,7 +36,7 @@ final_found e (Final i l v ∷ ms) h = by_cases (nat_eq i e)
     (λ b. record {
       learner = l;
       value = v;
-      is = ap (λ (t : Bool). or_else (cond t (Some v) None) (first_final e ms)) b;
+      is = ap (λ (t : Bool). option_or (cond t (Some v) None) (first_final e ms)) b;
       there = inl (ap (λ (j : ℕ). Final j l v) (eqb-true i e b));
     })
     (λ b. elim h.2 [
@@ -49,22 +50,22 @@ first_there e (Offered c ∷ ms) v q = let t = first_there e ms v q in (t.0, inr
 first_there e (InEpoch i m ∷ ms) v q = let t = first_there e ms v q in (t.0, inr t.1)
 first_there e (Final i l u ∷ ms) v q = by_cases (nat_eq i e)
     (λ b.
-    let same : Some u ≡ Some v = sym (ap (λ (t : Bool). or_else (cond t (Some u) None) (first_final e ms)) b) ∙ q in
+    let same : Some u ≡ Some v = sym (ap (λ (t : Bool). option_or (cond t (Some u) None) (first_final e ms)) b) ∙ q in
     let is : u ≡ v = cc in
     (l, inl (λ k. Final (eqb-true i e b k) l (is k))))
-    (λ b. let t = first_there e ms v (sym (ap (λ (t : Bool). or_else (cond t (Some u) None) (first_final e ms)) b) ∙ q) in (t.0, inr t.1))
+    (λ b. let t = first_there e ms v (sym (ap (λ (t : Bool). option_or (cond t (Some u) None) (first_final e ms)) b) ∙ q) in (t.0, inr t.1))
 
-or_else_assoc : (a b c : Option History) → or_else a (or_else b c) ≡ or_else (or_else a b) c
-or_else_assoc None b c = refl
-or_else_assoc (Some v) b c = refl
+option_or_assoc : (a b c : Option History) → option_or a (option_or b c) ≡ option_or (option_or a b) c
+option_or_assoc None b c = refl
+option_or_assoc (Some v) b c = refl
 
-first_append : (e : ℕ) (ms ns : List Stamped) → first_final e (ms ++ ns) ≡ or_else (first_final e ms) (first_final e ns)
+first_append : (e : ℕ) (ms ns : List Stamped) → first_final e (ms ++ ns) ≡ option_or (first_final e ms) (first_final e ns)
 first_append e [] ns = refl
-first_append e (m ∷ ms) ns = ap (or_else (final_value e m)) (first_append e ms ns) ∙ or_else_assoc (final_value e m) (first_final e ms) (first_final e ns)
+first_append e (m ∷ ms) ns = ap (option_or (final_value e m)) (first_append e ms ns) ∙ option_or_assoc (final_value e m) (first_final e ms) (first_final e ns)
 
 -- more messages do not change the first Final
 pub first_stays : (e : ℕ) (ms ns : List Stamped) → HasFinal ms e → first_final e (ms ++ ns) ≡ first_final e ms
-first_stays e ms ns h = let k = final_found e ms h in first_append e ms ns ∙ ap (λ (o : Option History). or_else o (first_final e ns)) k.is ∙ sym k.is
+first_stays e ms ns h = let k = final_found e ms h in first_append e ms ns ∙ ap (λ (o : Option History). option_or o (first_final e ns)) k.is ∙ sym k.is
 
 -- nor the base of an epoch below which every epoch is closed
 pub base_stays : (ms ns : List Stamped) (n : ℕ) → Below ms n → base (ms ++ ns) n ≡ base ms n

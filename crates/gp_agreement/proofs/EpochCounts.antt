@@ -9,15 +9,14 @@ use Rattle.gp_msg.specs.declared.event.Event.{Event}
 use Rattle.gp_msg.specs.declared.event.Event.TheVariants.{Offer, Begin, Take, Fall}
 use Rattle.gp_msg.specs.declared.event.Kept.{Kept}
 use Rattle.gp_msg.specs.declared.event.Kept.TheVariants as kept
-use Rattle.gp_msg.specs.Messages.{Proposed, Asked, Answered, Sent, Voted}
+use Rattle.gp_msg.specs.Messages.{Proposed, Asked, Answered, Sent, Voted, Stamped, Offered, InEpoch, Final, EpochPart, Entry}
 use Rattle.gp_proposer.specs.State.{ProposerState}
 use Rattle.gp_proposer.specs.Table.{proposer_offer, numbered}
 use Rattle.gp_learner.specs.Table.{learner_take}
 use Rattle.gp_cstructs.specs.CStructs.{Among}
 use Rattle.gp_cstructs.proofs.Lists.{cond_cases, among_append, get_among}
 use Rattle.gp_epoch.specs.Cut.{first_checkpoint}
-use Rattle.gp_run.specs.Nodes.{node_of}
-use Rattle.gp_msg.specs.Messages.{Stamped, Offered, InEpoch, Final, EpochPart, Entry}
+use Rattle.gp_msg.specs.Nodes.{node_of}
 use Rattle.gp_coordinator.specs.Epochs as coordinator
 use Rattle.gp_coordinator.specs.Epochs.{CoordinatorInEpoch}
 use Rattle.gp_acceptor.specs.Epochs as acceptor

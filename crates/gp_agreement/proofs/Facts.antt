@@ -1,24 +1,22 @@
 -- The facts hold of each legal run.
-use Rattle.std.proofs.Common.{◌≡◌, ◌⊎◌, inl, inr, ℕ, ◌<◌, ◌≤◌, Bool, true, false, List, [], ◌∷◌, ◌++◌, Option, Some, None, refl, sym, subst, ap, ◌∙◌, arith}
+use Rattle.std.proofs.Common.{◌≡◌, ◌⊎◌, inl, inr, ℕ, ◌<◌, ◌≤◌, true, false, List, [], ◌∷◌, ◌++◌, Option, Some, None, refl, sym, subst, ap, ◌∙◌, arith}
 use Rattle.std.specs.List.{Contains}
 use Rattle.gp_command.specs.declared.command.Command.{Command}
 use Rattle.gp_history.specs.History.{History, IsHistory, IsPrefix}
 use Rattle.gp_history.specs.Bounds.{IsCompatible}
-use Rattle.gp_round.specs.declared.round.Mode.{Mode}
-use Rattle.gp_round.specs.declared.round.Mode.TheVariants.{Single, Multi, Fast}
 use Rattle.gp_round.specs.declared.round.Round.{Round}
 use Rattle.gp_round.specs.Counts.{Counts}
-use Rattle.gp_round.specs.Quorums.{coordinator_quorum_of}
+use Rattle.gp_round.specs.Quorums.{IsCoordinatorQuorum}
 use Rattle.gp_round.specs.Rounds.{earlier, round_zero, is_fast}
 use Rattle.gp_safe.specs.Choice.{Reply}
-use Rattle.gp_msg.specs.Messages.{Answered, Voted}
+use Rattle.gp_msg.specs.Messages.{Answered, Voted, Offered, InEpoch, Final, Entry}
 use Rattle.gp_coordinator.specs.State.{CoordinatorState}
 use Rattle.gp_coordinator.specs.Replies.{reply_at}
 use Rattle.gp_acceptor.specs.State.{AcceptorState}
 use Rattle.gp_acceptor.specs.Table.{value_at}
 use Rattle.gp_learner.specs.State.{LearnerState}
 use Rattle.gp_learner.specs.Table.{vote_of}
-use Rattle.gp_run.specs.Learned.{Vote, IsHeard}
+use Rattle.gp_run.specs.Learned.{Vote, IsHeard, taken_at}
 use Rattle.gp_cstructs.specs.CStructs.{Among}
 use Rattle.gp_cstructs.specs.Tables.{P1b, P2a, P2b}
 use Rattle.gp_cstructs.specs.Acceptor.{Acceptor}
@@ -27,7 +25,6 @@ use Rattle.gp_cstructs.specs.Learner.{Learner}
 use Rattle.gp_cstructs.specs.Loose.{Event, Loose, run}
 use Rattle.gp_cstructs.specs.LooseAgreement.{shown}
 use Rattle.gp_cstructs.specs.Facts as core
-use Rattle.gp_cstructs.specs.Protocol.{leads_by, Leads}
 use Rattle.gp_cstructs.proofs.Lists.{among_contains, contains_among}
 use Rattle.gp_cstructs.proofs.Growth as growth
 use Rattle.gp_cstructs.proofs.Moves.{learner_on}
@@ -44,14 +41,12 @@ use Rattle.gp_agreement.proofs.Learners.{votes_taken}
 use Rattle.gp_agreement.proofs.Heard.{heard_back}
 use Rattle.gp_agreement.proofs.Returning.{shown_back, reply_back}
 use Rattle.gp_agreement.proofs.Standing.{prefix_by}
-use Rattle.gp_msg.specs.Messages.{Offered, InEpoch, Final, Entry}
 use Rattle.gp_coordinator.specs.Epochs.{CoordinatorInEpoch}
 use Rattle.gp_acceptor.specs.Epochs.{AcceptorInEpoch}
 use Rattle.gp_learner.specs.Epochs.{LearnerInEpoch}
 use Rattle.gp_run.specs.Messages.{messages}
 use Rattle.gp_run.specs.States.{coordinator_at, acceptor_at, learner_at}
 use Rattle.gp_run.specs.Legal.{Legal}
-use Rattle.gp_run.specs.Learned.{taken_at}
 use Rattle.gp_run.specs.Chosen as chosen
 use Rattle.gp_agreement.specs.Facts.{IsReached, HasSent, IsBacked, IsJoined, AnswerFacts, CoordinatorFacts, AcceptorFacts, IsBoundOfChosen, LearnerFacts, AreClosed, IsCutOfChosen, EpochFacts, AreProposed, AreProposedOnce, Facts}
 use Rattle.gp_agreement.proofs.FinalsBelow as finals
@@ -80,11 +75,6 @@ history_there : (us : List Value) (u : Value) → Among us u → Among (historie
 history_there [] u p = elim p [ ]
 history_there (v ∷ us) u p = elim p [ inl e ↦ inl (ap (λ (x : Value). x.history) e) | inr n ↦ inr (history_there us u n) ]
 
-quorum_by : (n : ℕ) (m : Mode) (lead : ℕ) (R : ℕ → Bool) → leads_by n m lead R → coordinator_quorum_of n m lead R
-quorum_by n Single lead R q = q.1
-quorum_by n Multi lead R q = q
-quorum_by n Fast lead R q = q.1
-
 -- of two values one is a prefix of the other
 chain_by : (u v : Value) (x y : History) → u.history ≡ x → v.history ≡ y → IsPrefix u.history v.history ⊎ IsPrefix v.history u.history → IsPrefix x y ⊎ IsPrefix y x
 chain_by u v x y e f p = elim p [
@@ -93,7 +83,7 @@ chain_by u v x y e f p = elim p [
 ]
 
 module _ (config : Counts) (some : 0 < config.acceptors) (es : List Entry) (legal : Legal config es) where
-  ledger : (e : ℕ) → core.LedgerFacts (T config e) (Leads config.coordinators) (standing.G config some es legal e)
+  ledger : (e : ℕ) → core.LedgerFacts (T config e) (IsCoordinatorQuorum config.coordinators) (standing.G config some es legal e)
   ledger e = (standing.facts config some es legal e).ledger
 
   -- ---- coordinators
@@ -166,15 +156,15 @@ module _ (config : Counts) (some : 0 < config.acceptors) (es : List Entry) (lega
   -- ---- acceptors
 
   module _ (e : ℕ) where
-    backed_there : (r : Round) (v : Value) → core.IsBacked (T config e) (Leads config.coordinators) (standing.G config some es legal e) r v → IsBacked config es e r v.history
+    backed_there : (r : Round) (v : Value) → core.IsBacked (T config e) (IsCoordinatorQuorum config.coordinators) (standing.G config some es legal e) r v → IsBacked config es e r v.history
     backed_there r v b = record {
       history = v.valid;
       quorum = b.quorum;
-      is_quorum = quorum_by config.coordinators r.mode r.lead b.quorum b.is_quorum;
+      is_quorum = b.is_quorum;
       each = λ c l q. let x = b.each c l q in (x.0.history, standing.sent_by config some es legal e c r x.0 x.0.history refl x.1, x.2);
     }
 
-    joined_there : (r : Round) (v : Value) → core.IsJoined (T config e) (Leads config.coordinators) (standing.G config some es legal e) r v → IsJoined config es e r v.history
+    joined_there : (r : Round) (v : Value) → core.IsJoined (T config e) (IsCoordinatorQuorum config.coordinators) (standing.G config some es legal e) r v → IsJoined config es e r v.history
     joined_there r v j = record {
       parts = histories j.parts;
       backed = λ u m. let b = history_back j.parts u (contains_among (histories j.parts) u m) in subst (λ (h : History). IsBacked config es e r h) b.2 (backed_there r b.0 (j.backed b.0 b.1));

@@ -12,7 +12,7 @@ use Rattle.gp_msg.specs.declared.event.Event.{Event}
 use Rattle.gp_msg.specs.declared.event.Event.TheVariants.{Offer, Begin, Take, Fall}
 use Rattle.gp_proposer.specs.State.{ProposerState}
 use Rattle.gp_proposer.specs.Table.{proposer_offer, numbered}
-use Rattle.gp_run.specs.Nodes.{node_of}
+use Rattle.gp_msg.specs.Nodes.{node_of}
 use Rattle.gp_cstructs.specs.CStructs.{Among}
 use Rattle.gp_cstructs.proofs.Lists.{cond_cases, among_append, get_append, get_among}
 use Rattle.gp_msg.specs.Messages.{Stamped, Offered, Entry}
@@ -29,7 +29,7 @@ number_stays p q s (Begin c r) h = h
 number_stays p q s (Take node k) h = h
 number_stays p q s (Fall node what) h = h
 
-own_number : (p : ℕ) (es : List Entry) → (proposer_at p es).number ≡ p
+pub own_number : (p : ℕ) (es : List Entry) → (proposer_at p es).number ≡ p
 own_number p [] = refl
 own_number p (x ∷ es) = number_stays p p (proposer_at p es) x.event (own_number p es)
 

@@ -6,10 +6,9 @@ use Rattle.gp_round.specs.Counts.{Counts}
 use Rattle.gp_msg.specs.declared.node.Node.TheVariants.{Proposer, Coordinator, Acceptor, Learner}
 use Rattle.gp_msg.specs.declared.event.Event.{Event}
 use Rattle.gp_msg.specs.declared.event.Event.TheVariants.{Offer, Begin, Take, Fall}
-use Rattle.gp_run.specs.Nodes.{node_of}
-use Rattle.gp_run.specs.Learned.{Vote}
+use Rattle.gp_msg.specs.Nodes.{node_of}
+use Rattle.gp_run.specs.Learned.{Vote, taken_after}
 use Rattle.gp_msg.specs.Messages.{Stamped}
-use Rattle.gp_run.specs.Learned.{taken_after}
 
 other : {X : Type 0} (a b : ℕ) (u v : X) → (a ≡ b → ⊥) → cond (nat_eq a b) u v ≡ v
 other a b u v n = elim (eqb_tells a b) [ inl t ↦ absurd (n t.1) | inr t ↦ ap (λ x. cond x u v) t.0 ]

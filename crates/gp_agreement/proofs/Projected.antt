@@ -1,5 +1,5 @@
 -- Each legal run has a loose list for each epoch, which grows with the run.
-use Rattle.std.proofs.Common.{◌≡◌, ◌⊎◌, ◌<◌, ℕ, Bool, true, false, cond, nat_eq, nat_lt, List, [], ◌∷◌, ◌++◌, Option, Some, None, slice_get, length, refl, subst, ap, ◌∙◌, inl, inr, append_assoc}
+use Rattle.std.proofs.Common.{◌≡◌, ◌⊎◌, ◌<◌, ◌+◌, ℕ, Bool, true, false, cond, nat_eq, nat_lt, List, [], ◌∷◌, ◌++◌, Option, Some, None, slice_get, length, refl, sym, subst, ap, ◌∙◌, inl, inr, append_assoc}
 use Rattle.std.specs.Option.{option_to_list}
 use Rattle.std.proofs.lemmas.Bool.{ltb-true, eq-eqb}
 use Rattle.gp_command.specs.declared.command.Command.{Command}
@@ -15,18 +15,17 @@ use Rattle.gp_msg.specs.declared.event.Event.TheVariants.{Offer, Begin, Take, Fa
 use Rattle.gp_msg.specs.declared.event.Event as event_type
 use Rattle.gp_msg.specs.declared.event.Kept.{Kept}
 use Rattle.gp_proposer.specs.State.{ProposerState}
-use Rattle.gp_proposer.specs.Table.{numbered}
-use Rattle.gp_run.specs.Nodes.{node_of, is_present, may_keep}
-use Rattle.gp_run.specs.Learned.{Vote}
+use Rattle.gp_msg.specs.Nodes.{node_of, is_present, may_keep}
+use Rattle.gp_run.specs.Learned.{Vote, taken_at, votes_after}
 use Rattle.gp_cstructs.specs.CStructs.{Among}
 use Rattle.gp_cstructs.specs.Loose as loose
-use Rattle.gp_cstructs.specs.Loose.{System, run, start, Loose}
+use Rattle.gp_cstructs.specs.Loose.{run, Loose}
 use Rattle.gp_cstructs.proofs.Lists.{stands_there, among_append}
 use Rattle.gp_agreement.specs.Values.{Value}
 use Rattle.gp_agreement.proofs.Acceptors as acceptors
 use Rattle.gp_agreement.proofs.Coordinators as coordinators
 use Rattle.gp_agreement.proofs.Learners as learners
-use Rattle.gp_msg.specs.Messages.{Stamped, Final, Entry}
+use Rattle.gp_msg.specs.Messages.{Stamped, Offered, Final, Entry}
 use Rattle.gp_coordinator.specs.Epochs as coordinator
 use Rattle.gp_coordinator.specs.Epochs.{CoordinatorInEpoch}
 use Rattle.gp_acceptor.specs.Epochs as acceptor
@@ -36,8 +35,8 @@ use Rattle.gp_learner.specs.Epochs.{LearnerInEpoch}
 use Rattle.gp_run.specs.Messages.{messages, on_message}
 use Rattle.gp_run.specs.States.{proposer_at, coordinator_kept, coordinator_acts, coordinator_at, acceptor_kept, acceptor_acts, acceptor_at, learner_acts, learner_at}
 use Rattle.gp_run.specs.Legal.{fits, sent_at, Follows, Legal}
-use Rattle.gp_run.specs.Learned.{taken_at, votes_after}
 use Rattle.gp_run.specs.Chosen.{HadVote}
+use Rattle.gp_agreement.proofs.Identities.{own_number}
 use Rattle.gp_agreement.proofs.Pending.{pending_stands, Stands}
 use Rattle.gp_agreement.proofs.Sending.{IsBallot, Ballots, acceptor_sends, coordinator_sends}
 use Rattle.gp_agreement.proofs.Projection.{T, Projects, IsClosing, closing_on, proposer_says, proposer_stays}
@@ -105,24 +104,30 @@ module _ (config : Counts) (e : ℕ) where
       casts = λ b r v m. inl (subst (λ (cs : List (ℕ × Round × Value)). Among cs (b, r, v)) n.2 m);
     }
 
-    stays : (q : ℕ) (x : Entry) → node_of x.event ≡ Proposer q → x.sent ≡ [] → Next es p x
-    stays q x at own = record {
+    stays : (q : ℕ) (x : Entry) → node_of x.event ≡ Proposer q → proposer_at q (x ∷ es) ≡ proposer_at q es → x.sent ≡ [] → Next es p x
+    stays q x at still own = record {
       more = [];
       loose_list = p.loose_list;
-      projects = proposer_stays config e es (run (T config e) p.events) p.projects q x at own;
+      projects = proposer_stays config e es (run (T config e) p.events) p.projects q x at still own;
       finals = λ j v m. elim (subst (λ (ms : List Stamped). Among ms (Final e j v)) own m) [ ];
       casts = λ b r v m. inl m;
     }
 
+    -- the command is that of the list
+    offered : (q : ℕ) (d : Draft) (sent : List Stamped) → sent ≡ sent_at config es (Offer q d)
+        → sent ≡ Offered (record { id = record { proposer = q; number = (run (T config e) p.events).offers q + 1 }; draft = d }) ∷ []
+    offered q d sent own =
+        own ∙ ap (λ (u : ProposerState × Option Stamped). option_to_list u.1) (at_same q _ (proposer_at q es, None))
+        ∙ (λ i. Offered (record { id = record { proposer = own_number q es i; number = sym (p.projects.offers q) i + 1 }; draft = d }) ∷ [])
+
     offers : (q : ℕ) (d : Draft) (node : Node) (sent : List Stamped) → sent ≡ sent_at config es (Offer q d) → Next es p (record { node = node; event = Offer q d; sent = sent })
     offers q d node sent own =
-        let c : Command = numbered (proposer_at q es) d in
+        let c : Command = record { id = record { proposer = q; number = (run (T config e) p.events).offers q + 1 }; draft = d } in
         record {
-          more = loose.Offer c ∷ [];
+          more = loose.Offer q d ∷ [];
           loose_list = (p.loose_list, tt);
-          projects = proposer_says config e es (run (T config e) p.events) p.projects q c (record { node = node; event = Offer q d; sent = sent }) refl
-              (own ∙ ap (λ (u : ProposerState × Option Stamped). option_to_list u.1) (at_same q _ (proposer_at q es, None)));
-          finals = λ j v m. elim (subst (λ (ms : List Stamped). Among ms (Final e j v)) (own ∙ ap (λ (u : ProposerState × Option Stamped). option_to_list u.1) (at_same q _ (proposer_at q es, None))) m) [
+          projects = proposer_says config e es (run (T config e) p.events) p.projects q d (record { node = node; event = Offer q d; sent = sent }) refl c (offered q d sent own);
+          finals = λ j v m. elim (subst (λ (ms : List Stamped). Among ms (Final e j v)) (offered q d sent own) m) [
             | inl h ↦ absurd (cc)
             | inr z ↦ elim z [ ]
           ];
@@ -158,7 +163,7 @@ module _ (config : Counts) (e : ℕ) where
           own
 
     takes : (to : Node) (k : ℕ) (node : Node) (sent : List Stamped) → fits config es (Take to k) ≡ true → sent ≡ sent_at config es (Take to k) → Next es p (record { node = node; event = Take to k; sent = sent })
-    takes (Proposer q) k node sent h own = stays q (record { node = node; event = Take (Proposer q) k; sent = sent }) refl own
+    takes (Proposer q) k node sent h own = stays q (record { node = node; event = Take (Proposer q) k; sent = sent }) refl refl own
     takes (Coordinator c) k node sent h own =
         coordinator_takes k (ltb-true k (length (messages es)) (snd_of (is_present config (Coordinator c)) (nat_lt k (length (messages es))) h)) c
         (ltb-true c config.coordinators (fst_of (is_present config (Coordinator c)) (nat_lt k (length (messages es))) h)) node sent own
@@ -187,7 +192,7 @@ module _ (config : Counts) (e : ℕ) where
     begins : (c : ℕ) (r : Round) (node : Node) (sent : List Stamped) → fits config es (Begin c r) ≡ true → sent ≡ sent_at config es (Begin c r) → Next es p (record { node = node; event = Begin c r; sent = sent })
     begins c r node sent h own =
         let known = ltb-true c config.coordinators (owned config.coordinators c r h).there in
-        coordinator_next c known (coordinator.begin (coordinator_at config c es) r) (at_coordinator.begins config e es p.events p.loose_list p.projects c known (stand c) r)
+        coordinator_next c known (coordinator.begin (coordinator_at config c es) r) (at_coordinator.begins config e es p.events p.loose_list p.projects c known (stand c) r h)
         (record { node = node; event = Begin c r; sent = sent }) refl (at_same c _ (coordinator_at config c es, None)) own
 
     by_event : (event : event_type.Event) (node : Node) (sent : List Stamped) → fits config es event ≡ true → sent ≡ sent_at config es event → Next es p (record { node = node; event = event; sent = sent })
@@ -207,6 +212,7 @@ module _ (config : Counts) (e : ℕ) where
       acceptors = λ a. ((λ z. acceptors.like_opening config a), (λ z. refl));
       coordinators = λ c. ((λ z. record { pending = []; like = coordinators.like_opening config c }), (λ z. refl));
       learners = λ l. ((λ z. record { like = learners.like_opening config l; taken = refl }), (λ z. refl));
+      offers = λ q. refl;
       sent = λ n p m r. elim p [ ];
       back = λ x p. elim p [ ];
     };

@@ -8,11 +8,11 @@ use Rattle.gp_round.specs.Counts.{Counts}
 use Rattle.gp_msg.specs.declared.node.Node.TheVariants.{Acceptor}
 use Rattle.gp_msg.specs.declared.event.Kept.{Kept}
 use Rattle.gp_msg.specs.declared.event.Kept.TheVariants as kept
-use Rattle.gp_msg.specs.Messages.{Message, Proposed}
+use Rattle.gp_msg.specs.Messages.{Message, Proposed, Stamped, Offered, InEpoch, Final, maybe_stamped, Entry}
 use Rattle.gp_acceptor.specs.State.{AcceptorState}
 use Rattle.gp_acceptor.specs.State as state
 use Rattle.gp_acceptor.specs.Table as table
-use Rattle.gp_run.specs.Nodes.{node_of, may_keep}
+use Rattle.gp_msg.specs.Nodes.{node_of, may_keep}
 use Rattle.gp_cstructs.specs.CStructs.{Among}
 use Rattle.gp_cstructs.specs.Acceptor as core
 use Rattle.gp_cstructs.specs.Loose.{System, Event, AcceptorTakes, AcceptorFalls, run, Loose}
@@ -20,7 +20,6 @@ use Rattle.gp_cstructs.proofs.Lists.{cond_cases, nat_cases, stands_there}
 use Rattle.gp_agreement.specs.Values.{Value}
 use Rattle.gp_agreement.proofs.Told.{told}
 use Rattle.gp_agreement.proofs.Acceptors as acceptors
-use Rattle.gp_msg.specs.Messages.{Stamped, Offered, InEpoch, Final, maybe_stamped, Entry}
 use Rattle.gp_acceptor.specs.Epochs.{AcceptorInEpoch, stepped, entered, take, durable, fall}
 use Rattle.gp_run.specs.Messages.{messages, on_message}
 use Rattle.gp_run.specs.States.{acceptor_kept, acceptor_at}

@@ -7,13 +7,14 @@ use Rattle.gp_command.specs.declared.command.Command.{Command}
 use Rattle.gp_history.specs.History.{History, has}
 use Rattle.gp_round.specs.declared.round.Round.{Round}
 use Rattle.gp_round.specs.Counts.{Counts}
+use Rattle.gp_round.specs.Configs.{is_owner}
 use Rattle.gp_msg.specs.declared.node.Node.TheVariants.{Coordinator}
 use Rattle.gp_msg.specs.declared.event.Kept.{Kept}
 use Rattle.gp_msg.specs.declared.event.Kept.TheVariants as kept
-use Rattle.gp_msg.specs.Messages.{Message, Proposed}
+use Rattle.gp_msg.specs.Messages.{Message, Proposed, Stamped, Offered, InEpoch, Final, maybe_stamped, Entry}
 use Rattle.gp_coordinator.specs.State.{CoordinatorState}
 use Rattle.gp_coordinator.specs.Table as table
-use Rattle.gp_run.specs.Nodes.{node_of, may_keep}
+use Rattle.gp_msg.specs.Nodes.{node_of, may_keep}
 use Rattle.gp_cstructs.specs.CStructs.{Among}
 use Rattle.gp_cstructs.specs.Tables.{Propose, P1a, P1b, P2a, P2b}
 use Rattle.gp_cstructs.specs.Coordinator as core
@@ -21,7 +22,6 @@ use Rattle.gp_cstructs.specs.Loose.{System, Event, Begin, CoordinatorTakes, Coor
 use Rattle.gp_cstructs.proofs.Lists.{cond_cases, nat_cases, stands_there}
 use Rattle.gp_agreement.proofs.Told.{told}
 use Rattle.gp_agreement.proofs.Coordinators as coordinators
-use Rattle.gp_msg.specs.Messages.{Stamped, Offered, InEpoch, Final, maybe_stamped, Entry}
 use Rattle.gp_coordinator.specs.Epochs.{CoordinatorInEpoch, stepped, settled, entered, begin, take, durable, fall}
 use Rattle.gp_run.specs.Messages.{messages, on_message}
 use Rattle.gp_run.specs.States.{coordinator_kept, coordinator_at}
@@ -61,13 +61,13 @@ module _ (config : Counts) (e : ℕ) (es : List Entry) (fs : List (Event (T conf
 
     -- ---- steps in an epoch
 
-    pub begins : (r : Round) → CoordinatorNext (begin s r)
-    begins r = elim (nat_cases s.epoch e) [
+    pub begins : (r : Round) → is_owner config.coordinators c r ≡ true → CoordinatorNext (begin s r)
+    begins r owned = elim (nat_cases s.epoch e) [
       | inl q ↦
           let k = (pr.coordinators c).0 q in
           let fit = coordinators.begin_like config c s.state (record { core = w.coordinators c; pending = k.pending }) k.like r in (
             Begin c r ∷ [],
-            (f, known),
+            (f, (known, owned)),
             refl,
             λ x at is own. coordinator_moved config e es w pr c (begin s r) x at is own
                 (core.coordinator_begin (T config e) (w.coordinators c) r).0 (core.coordinator_begin (T config e) (w.coordinators c) r).1
@@ -161,11 +161,11 @@ module _ (config : Counts) (e : ℕ) (es : List Entry) (fs : List (Event (T conf
       | inr d ↦ falls_away d (table.durable s.state)
     ]
 
-    kept_begin : (r : Round) → CoordinatorNext (fall s (durable (begin s r).0), None)
-    kept_begin r = elim (nat_cases s.epoch e) [
+    kept_begin : (r : Round) → is_owner config.coordinators c r ≡ true → CoordinatorNext (fall s (durable (begin s r).0), None)
+    kept_begin r owned = elim (nat_cases s.epoch e) [
       | inl q ↦
           let k = (pr.coordinators c).0 q in
-          falls_home q (table.durable (table.coordinator_begin s.state r).0) (core.KeptBegin r) (f, (known, tt)) (coordinators.fall_begin config c s.state (record { core = w.coordinators c; pending = k.pending }) k.like r)
+          falls_home q (table.durable (table.coordinator_begin s.state r).0) (core.KeptBegin r) (f, (known, owned)) (coordinators.fall_begin config c s.state (record { core = w.coordinators c; pending = k.pending }) k.like r)
       | inr d ↦ falls_away d (table.durable (table.coordinator_begin s.state r).0)
     ]
 
@@ -213,7 +213,7 @@ module _ (config : Counts) (e : ℕ) (es : List Entry) (fs : List (Event (T conf
 
     pub falls : (what : Option Kept) → may_keep config (length (messages es)) (Coordinator c) what ≡ true → CoordinatorNext (fall s (coordinator_kept s (messages es) what), None)
     falls None h = plain
-    falls (Some (kept.Begin r)) h = kept_begin r
+    falls (Some (kept.Begin r)) h = kept_begin r h
     falls (Some (kept.Take k)) h =
         let n = stands_there (messages es) k (ltb-true k (length (messages es)) h) in
         subst (λ (o : Option Stamped). CoordinatorNext (fall s (on_message (durable s) (λ m. durable (take s m).0) o), None)) (sym n.1) (kept_one n.0 n.2)

@@ -8,11 +8,11 @@ use Rattle.gp_history.proofs.Tests.{fst_of}
 use Rattle.gp_round.specs.declared.round.Round.{Round}
 use Rattle.gp_round.specs.Counts.{Counts}
 use Rattle.gp_msg.specs.declared.node.Node.TheVariants.{Learner}
-use Rattle.gp_msg.specs.Messages.{Message, Proposed, Asked, Answered, Sent, Voted}
+use Rattle.gp_msg.specs.Messages.{Message, Proposed, Asked, Answered, Sent, Voted, Stamped, Offered, InEpoch, Final, Entry}
 use Rattle.gp_learner.specs.State.{LearnerState}
 use Rattle.gp_learner.specs.Table as table
-use Rattle.gp_run.specs.Nodes.{node_of}
-use Rattle.gp_run.specs.Learned.{Vote, votes_heard}
+use Rattle.gp_msg.specs.Nodes.{node_of}
+use Rattle.gp_run.specs.Learned.{Vote, votes_heard, taken_at, votes_after}
 use Rattle.gp_cstructs.specs.CStructs.{Among}
 use Rattle.gp_cstructs.specs.Learner as core
 use Rattle.gp_cstructs.specs.Loose.{System, Event, LearnerTakes, LearnerFalls, run, Loose}
@@ -22,11 +22,9 @@ use Rattle.gp_agreement.proofs.Told.{told}
 use Rattle.gp_agreement.proofs.Learners as learners
 use Rattle.gp_agreement.proofs.Learners.{votes_taken}
 use Rattle.gp_epoch.specs.Cut.{first_checkpoint, HasCheckpoint, cut}
-use Rattle.gp_msg.specs.Messages.{Stamped, Offered, InEpoch, Final, Entry}
 use Rattle.gp_learner.specs.Epochs.{LearnerInEpoch, with_state, learning, hearing, passed, take, fall}
 use Rattle.gp_run.specs.Messages.{messages}
 use Rattle.gp_run.specs.States.{learner_at}
-use Rattle.gp_run.specs.Learned.{taken_at, votes_after}
 use Rattle.gp_agreement.proofs.Steps.{learner_own}
 use Rattle.gp_agreement.proofs.Projection.{T, M, IsLikeWith, LearnerAlike, Projects, IsClosing, AllForeign, none_foreign, final_foreign, learner_moved, learner_stays}
 

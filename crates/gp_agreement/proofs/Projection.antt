@@ -1,23 +1,28 @@
 -- What a legal run does in one epoch is a loose list over any c-structs, with the states that the nodes have in that epoch.
-use Rattle.std.proofs.Common.{◌≡◌, ◌<◌, ℕ, List, [], ◌∷◌, ◌++◌, Option, Some, None, refl, sym, subst, ap, ◌∙◌, inl, inr, append_assoc}
+use Rattle.std.proofs.Common.{◌≡◌, ◌<◌, ◌+◌, ℕ, Bool, cond, nat_eq, List, [], ◌∷◌, ◌++◌, Option, Some, None, refl, sym, subst, ap, ◌∙◌, inl, inr, append_assoc}
 use Rattle.std.specs.Prelude.{◌≢◌}
 use Rattle.std.specs.Option.{option_to_list}
+use Rattle.std.proofs.lemmas.Bool.{eq-eqb}
 use Rattle.gp_command.specs.declared.command.Command.{Command}
+use Rattle.gp_command.specs.declared.draft.Draft.{Draft}
 use Rattle.gp_history.specs.History.{History}
 use Rattle.gp_round.specs.Counts.{Counts}
 use Rattle.gp_msg.specs.declared.node.Node.TheVariants.{Proposer, Coordinator, Acceptor, Learner}
-use Rattle.gp_msg.specs.Messages.{Message, Proposed, Asked, Answered, Sent, Voted}
+use Rattle.gp_msg.specs.declared.event.Event.TheVariants.{Offer}
+use Rattle.gp_msg.specs.declared.event.Event as event_type
+use Rattle.gp_msg.specs.Messages.{Message, Proposed, Asked, Answered, Sent, Voted, Stamped, Offered, InEpoch, Final, stamped, maybe_stamped, Entry}
+use Rattle.gp_proposer.specs.State.{ProposerState}
 use Rattle.gp_coordinator.specs.State.{CoordinatorState}
 use Rattle.gp_learner.specs.State.{LearnerState}
-use Rattle.gp_run.specs.Nodes.{node_of}
-use Rattle.gp_run.specs.Learned.{Vote}
+use Rattle.gp_msg.specs.Nodes.{node_of}
+use Rattle.gp_run.specs.Learned.{Vote, taken_at, epoch_at}
 use Rattle.gp_cstructs.specs.CStructs.{Among}
 use Rattle.gp_cstructs.specs.Tables as any
-use Rattle.gp_cstructs.specs.Tables.{Tables, Propose, P1a, P1b, P2a, P2b}
+use Rattle.gp_cstructs.specs.Tables.{Tables, Propose}
 use Rattle.gp_cstructs.specs.Acceptor as core_acceptor
 use Rattle.gp_cstructs.specs.Coordinator as core_coordinator
 use Rattle.gp_cstructs.specs.Learner as core_learner
-use Rattle.gp_cstructs.specs.Loose.{System, Event, send, acceptor_now, coordinator_now, learner_now}
+use Rattle.gp_cstructs.specs.Loose.{System, Event, send, proposer_now, acceptor_now, coordinator_now, learner_now}
 use Rattle.gp_cstructs.proofs.Lists.{among_append, among_left, among_right, nat_cases, set_cases}
 use Rattle.gp_cstructs.specs.LooseAgreement.{shown}
 use Rattle.gp_cstructs.proofs.Moves.{sent_before, sent_now}
@@ -28,14 +33,12 @@ use Rattle.gp_agreement.proofs.Coordinators as coordinators
 use Rattle.gp_agreement.proofs.Learners as learners
 use Rattle.gp_agreement.proofs.Learners.{votes_taken}
 use Rattle.gp_epoch.specs.Cut.{HasCheckpoint, cut}
-use Rattle.gp_msg.specs.Messages.{Stamped, Offered, InEpoch, Final, stamped, maybe_stamped, Entry}
 use Rattle.gp_coordinator.specs.Epochs.{CoordinatorInEpoch}
 use Rattle.gp_acceptor.specs.Epochs.{AcceptorInEpoch}
 use Rattle.gp_learner.specs.Epochs.{LearnerInEpoch}
 use Rattle.gp_run.specs.Messages.{messages}
-use Rattle.gp_run.specs.States.{coordinator_at, acceptor_at, learner_at}
-use Rattle.gp_run.specs.Learned.{taken_at, epoch_at}
-use Rattle.gp_run.proofs.Others.{coordinator_rests, acceptor_rests, learner_rests}
+use Rattle.gp_run.specs.States.{proposer_acts, proposer_at, coordinator_at, acceptor_at, learner_at}
+use Rattle.gp_run.proofs.Others.{proposer_rests, coordinator_rests, acceptor_rests, learner_rests}
 use Rattle.gp_agreement.proofs.Others.{taken_rests}
 
 -- how a message is read in epoch e
@@ -81,6 +84,7 @@ module _ (config : Counts) (e : ℕ) where
     pub acceptors : (a : ℕ) → AcceptorAlike a (acceptor_at config a es) (w.acceptors a)
     pub coordinators : (c : ℕ) → CoordinatorAlike c (coordinator_at config c es) (w.coordinators c)
     pub learners : (l : ℕ) → LearnerAlike l (learner_at config l es) (taken_at config l es) (w.learners l)
+    pub offers : (p : ℕ) → w.offers p ≡ (proposer_at p es).offers
     pub sent : (n : Stamped) → Among (messages es) n → (m : Message) → IsRead e n m → (x : M) × Among w.sent x × (told config x ≡ m)
     pub back : (x : M) → Among w.sent x → Among (messages es) (stamped e (told config x))
 
@@ -171,6 +175,9 @@ module _ (config : Counts) (e : ℕ) where
 
     -- ---- other nodes
 
+    offers_rest : (x : Entry) (p : ℕ) → node_of x.event ≢ Proposer p → w.offers p ≡ (proposer_at p (x ∷ es)).offers
+    offers_rest x p n = pr.offers p ∙ sym (ap (λ (u : ProposerState × Option Stamped). u.0.offers) (proposer_rests p (proposer_at p es) x.event n))
+
     acceptor_rest : (x : Entry) (a : ℕ) → node_of x.event ≢ Acceptor a → AcceptorAlike a (acceptor_at config a (x ∷ es)) (w.acceptors a)
     acceptor_rest x a n = subst (λ (s : AcceptorInEpoch). AcceptorAlike a s (w.acceptors a)) (sym (ap (λ (u : AcceptorInEpoch × Option Stamped). u.0) (acceptor_rests a (acceptor_at config a es) (messages es) x.event n))) (pr.acceptors a)
 
@@ -192,6 +199,7 @@ module _ (config : Counts) (e : ℕ) where
             (λ b n. acceptor_rest x b (λ h. n (let q : Acceptor a ≡ Acceptor b = sym at ∙ h in cc)));
         coordinators = λ c. coordinator_rest x c (λ h. let q : Acceptor a ≡ Coordinator c = sym at ∙ h in cc);
         learners = λ l. learner_rest x l (λ h. let q : Acceptor a ≡ Learner l = sym at ∙ h in cc);
+        offers = λ p. offers_rest x p (λ h. let q : Acceptor a ≡ Proposer p = sym at ∙ h in cc);
         sent = sent_on x.sent o (own ∙ ap option_to_list says);
         back = back_on x.sent o (own ∙ ap option_to_list says);
       }
@@ -204,6 +212,7 @@ module _ (config : Counts) (e : ℕ) where
         ];
         coordinators = λ c. coordinator_rest x c (λ h. let q : Acceptor a ≡ Coordinator c = sym at ∙ h in cc);
         learners = λ l. learner_rest x l (λ h. let q : Acceptor a ≡ Learner l = sym at ∙ h in cc);
+        offers = λ p. offers_rest x p (λ h. let q : Acceptor a ≡ Proposer p = sym at ∙ h in cc);
         sent = sent_still x.sent (subst AllForeign (sym own) foreign);
         back = back_still x.sent;
       }
@@ -218,6 +227,7 @@ module _ (config : Counts) (e : ℕ) where
             (subst (λ (s : CoordinatorInEpoch). CoordinatorAlike c s t) (sym is) like)
             (λ b n. coordinator_rest x b (λ h. n (let q : Coordinator c ≡ Coordinator b = sym at ∙ h in cc)));
         learners = λ l. learner_rest x l (λ h. let q : Coordinator c ≡ Learner l = sym at ∙ h in cc);
+        offers = λ p. offers_rest x p (λ h. let q : Coordinator c ≡ Proposer p = sym at ∙ h in cc);
         sent = sent_on x.sent o (own ∙ ap option_to_list says);
         back = back_on x.sent o (own ∙ ap option_to_list says);
       }
@@ -230,6 +240,7 @@ module _ (config : Counts) (e : ℕ) where
           | inr n ↦ coordinator_rest x b (λ h. n (let q : Coordinator c ≡ Coordinator b = sym at ∙ h in cc))
         ];
         learners = λ l. learner_rest x l (λ h. let q : Coordinator c ≡ Learner l = sym at ∙ h in cc);
+        offers = λ p. offers_rest x p (λ h. let q : Coordinator c ≡ Proposer p = sym at ∙ h in cc);
         sent = sent_still x.sent (subst AllForeign (sym own) foreign);
         back = back_still x.sent;
       }
@@ -248,6 +259,7 @@ module _ (config : Counts) (e : ℕ) where
           coordinators = λ c. coordinator_rest x c (λ h. let q : Learner l ≡ Coordinator c = sym at ∙ h in cc);
           learners = set_cases (λ (b : ℕ) (s : core_learner.Learner T). LearnerAlike b (learner_at config b (x ∷ es)) (taken_at config b (x ∷ es)) s) w.learners l t (own_learner t like)
               (λ b n. learner_rest x b (λ h. n (let q : Learner l ≡ Learner b = sym at ∙ h in cc)));
+          offers = λ q. offers_rest x q (λ h. let r : Learner l ≡ Proposer q = sym at ∙ h in cc);
           sent = sent_still x.sent (subst AllForeign (sym own) foreign);
           back = back_still x.sent;
         }
@@ -260,26 +272,43 @@ module _ (config : Counts) (e : ℕ) where
             | inl s ↦ subst (λ (i : ℕ). LearnerAlike i (learner_at config i (x ∷ es)) (taken_at config i (x ∷ es)) (w.learners i)) s (own_learner (w.learners l) like)
             | inr n ↦ learner_rest x b (λ h. n (let q : Learner l ≡ Learner b = sym at ∙ h in cc))
           ];
+          offers = λ q. offers_rest x q (λ h. let r : Learner l ≡ Proposer q = sym at ∙ h in cc);
           sent = sent_still x.sent (subst AllForeign (sym own) foreign);
           back = back_still x.sent;
         }
 
     -- ---- nobody but a proposer moves
 
-    pub proposer_says : (p : ℕ) (c : Command) (x : Entry) → node_of x.event ≡ Proposer p → x.sent ≡ Offered c ∷ [] → Projects (x ∷ es) (record { acceptors = w.acceptors; coordinators = w.coordinators; learners = w.learners; sent = Propose c ∷ w.sent; cast = w.cast })
-    proposer_says p c x at own = record {
-      acceptors = λ a. acceptor_rest x a (λ h. let q : Proposer p ≡ Acceptor a = sym at ∙ h in cc);
-      coordinators = λ b. coordinator_rest x b (λ h. let q : Proposer p ≡ Coordinator b = sym at ∙ h in cc);
-      learners = λ l. learner_rest x l (λ h. let q : Proposer p ≡ Learner l = sym at ∙ h in cc);
-      sent = sent_on x.sent (Some (Propose c)) own;
-      back = back_on x.sent (Some (Propose c)) own;
-    }
+    same_proposer : (q : ℕ) {X : Type 0} (x y : X) → cond (nat_eq q q) x y ≡ x
+    same_proposer q x y = ap (λ (b : Bool). cond b x y) (eq-eqb q q refl)
 
-    pub proposer_stays : (p : ℕ) (x : Entry) → node_of x.event ≡ Proposer p → x.sent ≡ [] → Projects (x ∷ es) w
-    proposer_stays p x at own = record {
-      acceptors = λ a. acceptor_rest x a (λ h. let q : Proposer p ≡ Acceptor a = sym at ∙ h in cc);
-      coordinators = λ b. coordinator_rest x b (λ h. let q : Proposer p ≡ Coordinator b = sym at ∙ h in cc);
-      learners = λ l. learner_rest x l (λ h. let q : Proposer p ≡ Learner l = sym at ∙ h in cc);
+    one_more : (q : ℕ) (d : Draft) (event : event_type.Event) → event ≡ Offer q d → w.offers q + 1 ≡ (proposer_acts q (proposer_at q es) event).0.offers
+    one_more q d event is =
+        ap (λ n. n + 1) (pr.offers q)
+        ∙ sym (ap (λ v. (proposer_acts q (proposer_at q es) v).0.offers) is ∙ ap (λ (u : ProposerState × Option Stamped). u.0.offers) (same_proposer q _ (proposer_at q es, None)))
+
+    pub proposer_says : (q : ℕ) (d : Draft) (x : Entry) → x.event ≡ Offer q d → (c : Command) → x.sent ≡ Offered c ∷ [] → Projects (x ∷ es) (proposer_now T w q c)
+    proposer_says q d x is c own =
+        let at : node_of x.event ≡ Proposer q = ap node_of is in
+        record {
+          acceptors = λ a. acceptor_rest x a (λ h. let z : Proposer q ≡ Acceptor a = sym at ∙ h in cc);
+          coordinators = λ b. coordinator_rest x b (λ h. let z : Proposer q ≡ Coordinator b = sym at ∙ h in cc);
+          learners = λ l. learner_rest x l (λ h. let z : Proposer q ≡ Learner l = sym at ∙ h in cc);
+          offers = set_cases (λ (p n : ℕ). n ≡ (proposer_at p (x ∷ es)).offers) w.offers q (w.offers q + 1) (one_more q d x.event is)
+              (λ p n. offers_rest x p (λ h. n (let z : Proposer q ≡ Proposer p = sym at ∙ h in cc)));
+          sent = sent_on x.sent (Some (Propose c)) own;
+          back = back_on x.sent (Some (Propose c)) own;
+        }
+
+    pub proposer_stays : (q : ℕ) (x : Entry) → node_of x.event ≡ Proposer q → proposer_at q (x ∷ es) ≡ proposer_at q es → x.sent ≡ [] → Projects (x ∷ es) w
+    proposer_stays q x at still own = record {
+      acceptors = λ a. acceptor_rest x a (λ h. let z : Proposer q ≡ Acceptor a = sym at ∙ h in cc);
+      coordinators = λ b. coordinator_rest x b (λ h. let z : Proposer q ≡ Coordinator b = sym at ∙ h in cc);
+      learners = λ l. learner_rest x l (λ h. let z : Proposer q ≡ Learner l = sym at ∙ h in cc);
+      offers = λ p. elim (nat_cases q p) [
+        | inl s ↦ subst (λ (i : ℕ). w.offers i ≡ (proposer_at i (x ∷ es)).offers) s (pr.offers q ∙ sym (ap (λ (u : ProposerState). u.offers) still))
+        | inr n ↦ offers_rest x p (λ h. n (let z : Proposer q ≡ Proposer p = sym at ∙ h in cc))
+      ];
       sent = sent_still x.sent (subst AllForeign (sym own) none_foreign);
       back = back_still x.sent;
     }

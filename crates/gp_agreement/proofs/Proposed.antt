@@ -31,7 +31,7 @@ use Rattle.gp_agreement.proofs.LearnedParts.{finals_are_histories, all_joined}
 
 -- messages of a list stay when it goes on
 said_on : {T : Tables} (w : System T) (e : Event T) (x : Message T) → Among w.sent x → Among (happens T w e).sent x
-said_on w (Offer d) x p = inr p
+said_on w (Offer q d) x p = inr p
 said_on {T} w (Begin c r) x p = sent_before (coordinator_begin T (w.coordinators c) r).1 w.sent x p
 said_on {T} w (AcceptorTakes a m) x p = sent_before (acceptor_take T a (w.acceptors a) m).1 w.sent x p
 said_on {T} w (CoordinatorTakes c m cs) x p = sent_before (coordinator_take T c (w.coordinators c) m cs).1 w.sent x p

@@ -8,15 +8,14 @@ use Rattle.gp_msg.specs.declared.node.Node.{Node}
 use Rattle.gp_msg.specs.declared.node.Node.TheVariants.{Proposer, Coordinator, Acceptor, Learner}
 use Rattle.gp_msg.specs.declared.event.Event.{Event}
 use Rattle.gp_msg.specs.declared.event.Event.TheVariants.{Offer, Begin, Take, Fall}
-use Rattle.gp_msg.specs.Messages.{Message, Proposed, Asked, Answered, Sent, Voted}
+use Rattle.gp_msg.specs.Messages.{Message, Proposed, Asked, Answered, Sent, Voted, Stamped, Offered, InEpoch, Final, stamped, maybe_stamped, Entry}
 use Rattle.gp_coordinator.specs.Table.{coordinator_begin, coordinator_take}
 use Rattle.gp_acceptor.specs.Table.{acceptor_take}
 use Rattle.gp_learner.specs.Table.{learner_take}
 use Rattle.gp_cstructs.specs.CStructs.{Among}
 use Rattle.gp_cstructs.proofs.Lists.{cond_cases, among_append}
 use Rattle.gp_epoch.specs.Cut.{first_checkpoint}
-use Rattle.gp_run.specs.Nodes.{node_of}
-use Rattle.gp_msg.specs.Messages.{Stamped, Offered, InEpoch, Final, stamped, maybe_stamped, Entry}
+use Rattle.gp_msg.specs.Nodes.{node_of}
 use Rattle.gp_coordinator.specs.Epochs as coordinators
 use Rattle.gp_coordinator.specs.Epochs.{CoordinatorInEpoch}
 use Rattle.gp_acceptor.specs.Epochs as acceptors

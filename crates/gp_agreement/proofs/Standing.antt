@@ -6,7 +6,7 @@ use Rattle.gp_history.specs.History.{History, IsHistory, IsPrefix}
 use Rattle.gp_round.specs.declared.round.Round.{Round}
 use Rattle.gp_round.specs.Counts.{Counts}
 use Rattle.gp_round.specs.Rounds.{earlier, round_zero}
-use Rattle.gp_msg.specs.Messages.{Message, Answered, Sent, Voted}
+use Rattle.gp_msg.specs.Messages.{Message, Answered, Sent, Voted, InEpoch, stamped, Entry}
 use Rattle.gp_acceptor.specs.State.{AcceptorState}
 use Rattle.gp_cstructs.specs.CStructs.{Among}
 use Rattle.gp_cstructs.specs.Tables.{Propose, P2a, P2b}
@@ -15,7 +15,7 @@ use Rattle.gp_cstructs.specs.Loose.{System, run}
 use Rattle.gp_cstructs.specs.Safety.{Choosable, Covered}
 use Rattle.gp_cstructs.specs.Facts as core
 use Rattle.gp_cstructs.specs.Offered.{AllOffered}
-use Rattle.gp_cstructs.specs.Protocol.{Leads}
+use Rattle.gp_round.specs.Quorums.{IsCoordinatorQuorum}
 use Rattle.gp_cstructs.proofs.Lists.{among_contains, contains_among}
 use Rattle.gp_cstructs.proofs.Runs.{run_keeps}
 use Rattle.gp_cstructs.proofs.OfferedCommands.{run_offers}
@@ -24,7 +24,6 @@ use Rattle.gp_agreement.specs.Values.{Value, operations}
 use Rattle.gp_agreement.proofs.Bundle.{tables_lawful, tables_keep_commands}
 use Rattle.gp_agreement.proofs.Told.{told, all_told, told_among}
 use Rattle.gp_agreement.proofs.Returning.{answered_there, sent_there, voted_there}
-use Rattle.gp_msg.specs.Messages.{InEpoch, stamped, Entry}
 use Rattle.gp_run.specs.Messages.{messages}
 use Rattle.gp_run.specs.States.{acceptor_at}
 use Rattle.gp_run.specs.Legal.{Legal}
@@ -45,7 +44,7 @@ module _ (config : Counts) (some : 0 < config.acceptors) (es : List Entry) (lega
   abbrev pub G : core.Ledger (T config e)
   G = core.ledger_of (T config e) w
 
-  pub facts : core.Facts (T config e) (Leads config.coordinators) w
+  pub facts : core.Facts (T config e) (IsCoordinatorQuorum config.coordinators) w
   facts = run_keeps (tables_lawful config some) (list config e es legal) (projection config e es legal).loose_list
 
   pub offered : AllOffered (T config e) w

@@ -1,4 +1,3 @@
-pub mod CanonicalWalk
 pub mod WholeQuorums
 pub mod NewProofs
 pub mod LearnerSteps

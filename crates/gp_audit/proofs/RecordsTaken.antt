@@ -13,7 +13,7 @@ use Rattle.gp_msg.specs.declared.event.Event.TheVariants.{Take}
 use Rattle.gp_msg.specs.declared.record.Record.{Record}
 use Rattle.gp_msg.specs.Messages.{Stamped, Entry, entry_of}
 use Rattle.gp_run.specs.Messages.{messages}
-use Rattle.gp_run.specs.Nodes.{is_present}
+use Rattle.gp_msg.specs.Nodes.{is_present}
 use Rattle.gp_run.specs.Legal.{Legal, fits}
 use Rattle.gp_run.specs.Runs.{entries_in}
 use Rattle.gp_run.proofs.Choices.{right_true}

@@ -6,7 +6,7 @@ use Rattle.std.proofs.lemmas.Slice.Eq.{bytes_eq-Decides}
 use Rattle.std.proofs.lemmas.Bool.{lt-ltb, ltb-true}
 use Rattle.gp_command.specs.Key.{is_key}
 use Rattle.gp_words.specs.Numbers.{number_of}
-use Rattle.gp_words.specs.Results.{◌>>=◌}
+use Rattle.gp_memory.specs.Results.{◌>>=◌}
 use Rattle.gp_words.specs.Spacing.{joined}
 use Rattle.gp_words.specs.Tokens.{tokens_of}
 use Rattle.gp_words.proofs.NumberLemmas.{number_again, number_spelled}

@@ -2,7 +2,7 @@
 use Rattle.std.specs.Prelude.{ℕ, ◌^◌, nat_lt, List, [], ◌∷◌, if◌then◌else◌, codes, decimal, Option, Some, None, Result, Ok, Err}
 use Rattle.std.specs.Str.{bytes_eq}
 use Rattle.gp_words.specs.Numbers.{number_of}
-use Rattle.gp_words.specs.Results.{◌>>=◌}
+use Rattle.gp_memory.specs.Results.{◌>>=◌}
 use Rattle.gp_store.specs.declared.form.OpFault.{OpFault}
 use Rattle.gp_store.specs.declared.form.OpFault.TheVariants.{BadNumber}
 use Rattle.gp_store.specs.Forms.{key_of}

@@ -23,7 +23,7 @@ use Rattle.gp_acceptor.specs.Epochs as acceptors
 use Rattle.gp_acceptor.specs.Epochs.{AcceptorInEpoch}
 use Rattle.gp_proposer.specs.State.{ProposerState}
 use Rattle.gp_run.specs.Messages.{messages}
-use Rattle.gp_run.specs.Nodes.{node_of}
+use Rattle.gp_msg.specs.Nodes.{node_of}
 use Rattle.gp_run.specs.States.{proposer_acts, proposer_at, coordinator_acts, coordinator_at, acceptor_acts, acceptor_at, learner_acts, learner_at}
 use Rattle.gp_run.specs.Legal.{sent_by, Follows}
 use Rattle.gp_run.proofs.Choices.{chosen, with_message}

@@ -15,7 +15,7 @@ use Rattle.gp_msg.specs.Messages.{entry_of, EpochPart, Coordinators}
 use Rattle.gp_coordinator.specs.Epochs as coordinator
 use Rattle.gp_coordinator.specs.Epochs.{CoordinatorInEpoch}
 use Rattle.gp_run.specs.Messages.{messages}
-use Rattle.gp_run.specs.Nodes.{node_of}
+use Rattle.gp_msg.specs.Nodes.{node_of}
 use Rattle.gp_run.specs.States.{coordinator_at}
 use Rattle.gp_run.specs.Legal.{Legal, Follows, fits}
 use Rattle.gp_run.specs.Runs.{entries_in}

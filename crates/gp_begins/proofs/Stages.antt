@@ -10,7 +10,7 @@ use Rattle.gp_msg.specs.Messages.{Stamped, InEpoch, Asked, entry_of}
 use Rattle.gp_coordinator.specs.Epochs as coordinator
 use Rattle.gp_coordinator.specs.Epochs.{CoordinatorInEpoch}
 use Rattle.gp_run.specs.Messages.{messages}
-use Rattle.gp_run.specs.Nodes.{node_of}
+use Rattle.gp_msg.specs.Nodes.{node_of}
 use Rattle.gp_run.specs.States.{coordinator_at, coordinator_acts}
 use Rattle.gp_run.specs.Runs.{entries_in}
 use Rattle.gp_run.proofs.Choices.{with_message}

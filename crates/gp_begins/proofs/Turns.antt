@@ -7,7 +7,8 @@ use Rattle.std.proofs.lemmas.Bool.Decides.{eqb_tells}
 use Rattle.gp_round.specs.declared.round.Round.{Round}
 use Rattle.gp_round.specs.Rounds.{earlier, is_multi, round_zero}
 use Rattle.gp_phase.specs.declared.caller.Call.{Call}
-use Rattle.gp_caller.specs.declared.policy.TheConstants.{FIRST_ROUND, LAST_COUNT}
+use Rattle.gp_caller.specs.declared.policy.TheConstants.{FIRST_ROUND}
+use Rattle.gp_round.specs.declared.config.TheConstants.{LAST_COUNT}
 use Rattle.gp_caller.specs.Rounds.{next_round, multi_above, single_above}
 use Rattle.gp_caller.specs.Calling.{call_in, called_for, highest_for}
 use Rattle.gp_begins.specs.Begins.{clash_round}

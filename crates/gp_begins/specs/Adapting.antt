@@ -9,7 +9,8 @@ use Rattle.gp_msg.specs.declared.record.Record.{Record}
 use Rattle.gp_run.specs.Messages.{messages}
 use Rattle.gp_run.specs.Runs.{entries_in}
 use Rattle.gp_collide.specs.Values.{HasIncompatibleValues}
-use Rattle.gp_caller.specs.declared.policy.TheConstants.{LEADER, LAST_COUNT, FIRST_FAST_ROUND}
+use Rattle.gp_caller.specs.declared.policy.TheConstants.{LEADER, FIRST_FAST_ROUND}
+use Rattle.gp_round.specs.declared.config.TheConstants.{LAST_COUNT}
 use Rattle.gp_caller.specs.Standing.{StandsIn}
 use Rattle.gp_begins.specs.Begins.{leader, IsBeginAt, BeginsAt}
 

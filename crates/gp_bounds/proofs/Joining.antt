@@ -5,18 +5,17 @@ use Rattle.std.specs.Option.{is_some}
 use Rattle.std.specs.List.{list_any}
 use Rattle.gp_command.specs.declared.command.Command.{Command}
 use Rattle.gp_command.specs.Conflict.{same}
-use Rattle.gp_command.proofs.ConflictLemmas.{same_itself}
 use Rattle.gp_history.specs.History.{History, has, push, pushes}
 use Rattle.gp_history.specs.Sequence.{history_of, place, place_in}
 use Rattle.gp_history.specs.Canonical.{canonical}
 use Rattle.gp_history.specs.Bounds.{join}
-use Rattle.gp_history.proofs.Tests.{left_of, right_of, by_cases, never}
+use Rattle.gp_history.proofs.Tests.{by_cases, never}
 use Rattle.gp_history.proofs.Sets.{has_history_of}
 use Rattle.gp_history.proofs.Push.{Within, push_there}
-use Rattle.gp_history.proofs.Joins.{history_of-push}
 use Rattle.gp_history.proofs.Canonical.{canonical_stands}
 use Rattle.gp_history.proofs.Places.{take_next, starts}
 use Rattle.gp_history.proofs.Alike.{pushed_alike}
+use Rattle.gp_history.proofs.Pushing.{pushed_sequence, pushes_there}
 
 -- the pushes of any sequence make the join
 pub join_of_pushes : (h : History) → Within h → (ys : List Command) → pushes h ys ≡ join h (history_of ys)
@@ -24,11 +23,6 @@ unfolding join
 join_of_pushes h w ys = pushed_alike h w ys (canonical (history_of ys)) (sym (canonical_stands ys))
 
 -- ---- a loop's step
-
-pub pushed_sequence : (xs : List Command) (c : Command) → history_of (cond (has (history_of xs) c) xs (xs ++ c ∷ [])) ≡ push (history_of xs) c
-pushed_sequence xs c = by_cases (has (history_of xs) c)
-    (λ e. ap (λ b. history_of (cond b xs (xs ++ c ∷ []))) e ∙ sym (push_there (history_of xs) c e))
-    (λ e. ap (λ b. history_of (cond b xs (xs ++ c ∷ []))) e ∙ history_of-push xs c)
 
 pushes_last : (h : History) (xs : List Command) (c : Command) → pushes h (xs ++ c ∷ []) ≡ push (pushes h xs) c
 pushes_last h [] c = refl
@@ -46,13 +40,6 @@ join_past h xs ys i d so at p =
 pub found_there : (xs : List Command) (c : Command) → is_some (place_in xs c) ≡ true → has (history_of xs) c ≡ true
 found_there xs c e = has_history_of xs c ∙ by_cases (list_any (same c) xs) (λ t. t) (λ f.
     never (is_some (place_in xs c)) e (ap (λ b. is_some (cond b (Some (place xs c)) None)) f))
-
--- what is there already changes nothing
-pushes_there : (h : History) (zs : List Command) → ((c : Command) → list_any (same c) zs ≡ true → has h c ≡ true) → pushes h zs ≡ h
-pushes_there h [] f = refl
-pushes_there h (z ∷ zs) f =
-    ap (λ u. pushes u zs) (push_there h z (f z (left_of (same z z) (list_any (same z) zs) (same_itself z))))
-    ∙ pushes_there h zs (λ c i. f c (right_of (same c z) (list_any (same c) zs) i))
 
 pub join_start : (xs ys : List Command) (n : ℕ) → take n xs ≡ take n ys → history_of xs ≡ pushes (history_of xs) (take n ys)
 join_start xs ys n e = sym (pushes_there (history_of xs) (take n ys) (λ c i. has_history_of xs c ∙ (starts xs n c (ap (λ zs. list_any (same c) zs) e ∙ i)).there))

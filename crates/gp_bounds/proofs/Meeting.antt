@@ -22,7 +22,7 @@ use Rattle.gp_history.proofs.Bound.{meet_is_greatest, meet_is_history}
 use Rattle.gp_history.proofs.Canonical.{in_filtered}
 use Rattle.gp_history.proofs.Places.{take_next, at_in, place_at, in_take, starts, start_alike, fits_start}
 use Rattle.gp_bounds.specs.Agree.{agrees}
-use Rattle.gp_bounds.proofs.Joining.{pushed_sequence}
+use Rattle.gp_history.proofs.Pushing.{pushed_sequence}
 
 -- ---- the test of the loop
 

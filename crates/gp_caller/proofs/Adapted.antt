@@ -1,7 +1,7 @@
 -- What a caller that adapts decides is what may be called.
 use Rattle.std.proofs.Common.{◌≡◌, ℕ, List, Option, Result, Ok, Err, ap, ◌∙◌, subst}
 use Rattle.std.specs.Prelude.{IfOk, IsTrue, ◌↔◌}
-use Rattle.gp_command.specs.declared.memory.NoMemory.{NoMemory}
+use Rattle.gp_memory.specs.declared.memory.NoMemory.{NoMemory}
 use Rattle.gp_round.specs.Counts.{Counts}
 use Rattle.gp_round.specs.declared.round.Round.{Round}
 use Rattle.gp_msg.specs.declared.node.Node.TheVariants.{Coordinator}

@@ -2,11 +2,11 @@
 use Rattle.std.proofs.Common.{◌≡◌, ℕ, cond, List, [], ◌∷◌, ◌++◌, length, Option, Result, Ok, Err, inl, inr, refl, sym, ap, ◌∙◌, subst, arith, length-append}
 use Rattle.std.specs.Prelude.{IfOk, IsTrue, ◌↔◌}
 use Rattle.std.specs.Option.{option_map}
+use Rattle.std.proofs.lemmas.Bool.Decides.{eqb_tells}
 use Rattle.gp_run.specs.Messages.{messages}
 use Rattle.gp_collide.specs.Clashes.{HasClash}
 use Rattle.gp_caller.specs.Rounds.{next_round}
-use Rattle.std.proofs.lemmas.Bool.Decides.{eqb_tells}
-use Rattle.gp_command.specs.declared.memory.NoMemory.{NoMemory}
+use Rattle.gp_memory.specs.declared.memory.NoMemory.{NoMemory}
 use Rattle.gp_round.specs.Counts.{Counts}
 use Rattle.gp_round.specs.declared.round.Round.{Round}
 use Rattle.gp_msg.specs.declared.node.Node.{Node}

@@ -15,7 +15,8 @@ use Rattle.gp_adapt.specs.Courses.{CourseState, is_calm_next, after_quiet, moved
 use Rattle.gp_collide.specs.Watched.{Watched}
 use Rattle.gp_collide.specs.Clashes.{HasClash}
 use Rattle.gp_phase.specs.declared.caller.Call.{Call}
-use Rattle.gp_caller.specs.declared.policy.TheConstants.{LEADER, LAST_COUNT, CALM}
+use Rattle.gp_caller.specs.declared.policy.TheConstants.{LEADER, CALM}
+use Rattle.gp_round.specs.declared.config.TheConstants.{LAST_COUNT}
 use Rattle.gp_caller.specs.Adapting.{first_there, last_for, or_zero, NextMode, MayFollow, MayCall, Follows, IsOverLast, clashes_before, IsInCourse}
 
 -- ---- the round that was called last for an epoch

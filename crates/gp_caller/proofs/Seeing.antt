@@ -1,9 +1,10 @@
 -- A watch that sees the messages of a list.
-use Rattle.std.proofs.Common.{◌≡◌, ◌≤◌, ◌<◌, ℕ, zero, suc, ◌+◌, List, [], ◌∷◌, ◌++◌, length, take, Option, Some, None, refl, sym, ap, ◌∙◌, subst, arith}
+use Rattle.std.proofs.Common.{◌≡◌, ◌≤◌, ℕ, zero, suc, ◌+◌, List, [], ◌∷◌, ◌++◌, length, take, Option, Some, None, refl, sym, ap, ◌∙◌, subst, arith}
 use Rattle.std.specs.Prelude.{slice_get}
 use Rattle.std.specs.Option.{option_map}
 use Rattle.std.proofs.lemmas.List.{append-nil}
 use Rattle.std.proofs.lemmas.List.Sums.{fold-append}
+use Rattle.std.proofs.lemmas.Option.{slice_get_within}
 use Rattle.gp_work.specs.Doing.{IsUpTo}
 use Rattle.gp_msg.specs.declared.message.Msg.{Msg}
 use Rattle.gp_msg.specs.declared.record.Record.{Record}
@@ -29,11 +30,6 @@ pub saw_on : (s : SightState) (p q : PassState) → GoesOn p q → Saw s (record
 saw_on s p q g h = subst (Saw s) (sym g.grown) (saw_lasts s (records p) g.more h)
 
 -- the message at a place is among the first of one more
-get_within : {A : Type 0} (xs : List A) (k : ℕ) (x : A) → slice_get xs k ≡ Some x → k < length xs
-get_within [] k x e = absurd (cc)
-get_within (y ∷ xs) zero x e = omega arith
-get_within (y ∷ xs) (suc k) x e = let h = get_within xs k x e in omega (arith, h)
-
 take_more : {A : Type 0} (xs : List A) (k : ℕ) (x : A) → slice_get xs k ≡ Some x → take (suc k) xs ≡ take k xs ++ x ∷ []
 take_more [] k x e = absurd (cc)
 take_more (y ∷ xs) zero x e = let is : y ≡ x = cc in ap (λ z. z ∷ []) is
@@ -55,7 +51,7 @@ pub saw_more : (s : SightState) (rs : List Record) (m : Msg) → slice_get (mess
 saw_more s rs m at h =
     let ms = messages (entries_in rs) in
     let there : slice_get ms s.looked ≡ Some (message_of m) = message-entries rs s.looked ∙ ap (option_map message_of) at in record {
-      within = let l = get_within ms s.looked (message_of m) there in omega (arith, l);
+      within = let l = slice_get_within ms s.looked (message_of m) there in omega (arith, l);
       watch_is = ap (λ w. seen w (message_of m)) h.watch_is
           ∙ sym (fold-append seen (opening s.watch.round) (take s.looked ms) (message_of m ∷ []))
           ∙ ap (watched s.watch.round) (sym (take_more ms s.looked (message_of m) there) ∙ ap (λ k. take k ms) (let e : suc s.looked ≡ s.looked + 1 = omega arith in e))

@@ -14,12 +14,14 @@ use Rattle.gp_run.specs.Messages.{messages}
 use Rattle.gp_run.specs.Runs.{entries_in}
 use Rattle.gp_collide.specs.Watched.{Watched, watched}
 use Rattle.gp_collide.specs.Clashes.{HasClash}
-pub use Rattle.gp_adapt.specs.Choices.{mode_after, AnswersModes}
-use Rattle.gp_adapt.specs.Courses.{CourseState, course_code}
+use Rattle.gp_adapt.specs.Courses.{CourseState}
+use Rattle.gp_adapt.specs.Codes.{course_code}
 use Rattle.gp_adapt.specs.Courses as courses
 use Rattle.gp_phase.specs.declared.caller.Call.{Call}
-use Rattle.gp_caller.specs.declared.policy.TheConstants.{LEADER, LAST_COUNT, FIRST_FAST_ROUND, CALM}
+use Rattle.gp_caller.specs.declared.policy.TheConstants.{LEADER, FIRST_FAST_ROUND, CALM}
+use Rattle.gp_round.specs.declared.config.TheConstants.{LAST_COUNT}
 use Rattle.gp_caller.specs.Standing.{StandsIn}
+pub use Rattle.gp_adapt.specs.Choices.{mode_after, AnswersModes}
 
 -- the first of two that is there
 abbrev pub first_there : Option Round → Option Round → Option Round

@@ -2,7 +2,8 @@
 use Rattle.std.specs.Prelude.{ℕ, ◌+◌, Bool, cond, ◌&&◌, nat_eq, nat_lt, Option, Some, None}
 use Rattle.gp_round.specs.declared.round.Mode.TheVariants.{Single, Multi}
 use Rattle.gp_round.specs.declared.round.Round.{Round}
-use Rattle.gp_caller.specs.declared.policy.TheConstants.{LEADER, LAST_COUNT}
+use Rattle.gp_caller.specs.declared.policy.TheConstants.{LEADER}
+use Rattle.gp_round.specs.declared.config.TheConstants.{LAST_COUNT}
 
 -- the multi round above one
 abbrev pub multi_above : Round → Round

@@ -1,5 +1,6 @@
 -- What a watch saw of the messages of a list.
-use Rattle.std.proofs.Common.{◌≡◌, ◌≤◌, ℕ, zero, suc, List, [], ◌∷◌, ◌++◌, length, take, refl, sym, ap, ◌∙◌, arith, length-append}
+use Rattle.std.proofs.Common.{◌≡◌, ◌≤◌, ℕ, List, ◌++◌, length, take, sym, ap, ◌∙◌, arith, length-append}
+use Rattle.std.proofs.lemmas.List.{take-append-le}
 use Rattle.gp_msg.specs.declared.record.Record.{Record}
 use Rattle.gp_run.specs.Messages.{messages}
 use Rattle.gp_run.specs.Runs.{entries_in}
@@ -21,13 +22,6 @@ pub record Saw (s : SightState) (seen : List Record) : Type 0 where
 abbrev pub SawAll : SightState → List Record → Type 0
 SawAll s seen = s.watch ≡ watched s.watch.round (messages (entries_in seen))
 
-take_front : {A : Type 0} (xs ys : List A) (k : ℕ) → k ≤ length xs → take k (xs ++ ys) ≡ take k xs
-take_front xs ys zero l = refl
-take_front [] ys (suc k) l = absurd (none l) where
-  none : suc k ≤ 0 → ⊥
-  none l = omega (arith, l)
-take_front (x ∷ xs) ys (suc k) l = ap (λ t. x ∷ t) (take_front xs ys k (omega (arith, l)))
-
 messages_more : (seen more : List Record) → messages (entries_in (seen ++ more)) ≡ messages (entries_in seen) ++ messages (entries_in more)
 messages_more seen more = ap messages (entries_append seen more) ∙ messages-append (entries_in more) (entries_in seen)
 
@@ -35,5 +29,5 @@ messages_more seen more = ap messages (entries_append seen more) ∙ messages-ap
 pub saw_lasts : (s : SightState) (seen more : List Record) → Saw s seen → Saw s (seen ++ more)
 saw_lasts s seen more h = record {
   within = let e = ap length (messages_more seen more) in let l = length-append (messages (entries_in seen)) (messages (entries_in more)) in let w = h.within in omega arith;
-  watch_is = h.watch_is ∙ ap (watched s.watch.round) (sym (ap (take s.looked) (messages_more seen more) ∙ take_front (messages (entries_in seen)) (messages (entries_in more)) s.looked h.within));
+  watch_is = h.watch_is ∙ ap (watched s.watch.round) (sym (ap (take s.looked) (messages_more seen more) ∙ take-append-le s.looked (messages (entries_in seen)) (messages (entries_in more)) h.within));
 }

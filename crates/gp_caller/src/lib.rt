@@ -9,6 +9,6 @@ mod sight;
 mod standing;
 
 pub use adapting::AdaptiveCaller;
-pub use policy::{CALM, FIRST_FAST_ROUND, FIRST_ROUND, LAST_COUNT, LEADER, mode_after, next_round};
+pub use policy::{CALM, FIRST_FAST_ROUND, FIRST_ROUND, LEADER, mode_after, next_round};
 pub use rounds::RoundCaller;
 pub use sight::Sight;

@@ -5,13 +5,10 @@ ghost use Rattle.gp_caller.specs.Rounds.{next_round};
 ghost use Rattle.gp_adapt.specs.Choices.{mode_after};
 
 use gp_adapt::Scene;
-use gp_round::{Mode, Round};
+use gp_round::{LAST_COUNT, Mode, Round};
 
 /// The coordinator that begins the rounds of a run.
 pub const LEADER: u32 = 0;
-
-/// The greatest count of a round.
-pub const LAST_COUNT: u32 = 1_000_000;
 
 /// The round that is begun first in an epoch.
 pub const FIRST_ROUND: Round = Round {
@@ -54,16 +51,8 @@ pub fn next_round(highest: Round, clashed: bool, begun: u32) -> Option<Round>
     }
     let count = highest.count + 1;
     match begun {
-        0 => Some(Round {
-            count,
-            mode: Mode::Multi,
-            lead: 0,
-        }),
-        1 if clashed => Some(Round {
-            count,
-            mode: Mode::Single,
-            lead: LEADER,
-        }),
+        0 => Some(Round::of(LEADER, count, Mode::Multi)),
+        1 if clashed => Some(Round::of(LEADER, count, Mode::Single)),
         _ => None,
     }
 }

@@ -1,8 +1,9 @@
 -- A fall by which a node comes up again is lawful, and leaves the part that its log has.
-use Rattle.std.proofs.Common.{◌≡◌, ℕ, Bool, true, false, ◌&&◌, cond, List, [], ◌∷◌, ◌++◌, length, map, refl, sym, ap, ◌∙◌, subst, Option, Some, None, inl, inr, eq-eqb, Result, Ok, Err}
+use Rattle.std.proofs.Common.{◌≡◌, ℕ, Bool, true, false, ◌&&◌, cond, List, [], ◌++◌, length, map, refl, sym, ap, ◌∙◌, subst, Option, Some, None, inl, inr, eq-eqb, Result, Ok, Err}
 use Rattle.std.specs.Prelude.{slice_get, nat_eq, IsSome, OnOk, IfOk}
 use Rattle.std.specs.Option.{option_to_list, option_map}
 use Rattle.std.proofs.lemmas.Bool.{lt-ltb}
+use Rattle.std.proofs.lemmas.List.{append-nil}
 use Rattle.gp_round.specs.Counts.{Counts}
 use Rattle.gp_round.specs.declared.round.Round.{Round}
 use Rattle.gp_history.specs.History.{History}
@@ -20,7 +21,7 @@ use Rattle.gp_acceptor.specs.Epochs as acceptor
 use Rattle.gp_acceptor.specs.Epochs.{AcceptorInEpoch}
 use Rattle.gp_vlog.specs.Logs.{LogState}
 use Rattle.gp_run.specs.Messages.{messages, on_message}
-use Rattle.gp_run.specs.Nodes.{node_of, is_present, may_keep}
+use Rattle.gp_msg.specs.Nodes.{node_of, is_present, may_keep}
 use Rattle.gp_run.specs.States.{coordinator_kept, acceptor_kept}
 use Rattle.gp_run.specs.Legal.{fits}
 use Rattle.gp_run.specs.Runs.{entries_in}
@@ -312,11 +313,7 @@ module _ {D : Type 0} (config : Counts) (n : Node) (core : Core) (log : Option (
 
     sends_none : (acts n core ms (Fall n what)).1 ≡ None
     unfolding ms
-    sends_none = ap (λ l. (acts n core l (Fall n what)).1) (sym (append_none ms)) ∙ ap (λ (x : Core × Option Stamped). x.1) (fall_acts n core (ms ++ []) what part logged (role down s) (left_is []))
-      where
-        append_none : (l : List Stamped) → l ++ [] ≡ l
-        append_none [] = refl
-        append_none (x ∷ xs) = ap (λ y. x ∷ y) (append_none xs)
+    sends_none = ap (λ l. (acts n core l (Fall n what)).1) (sym (append-nil ms)) ∙ ap (λ (x : Core × Option Stamped). x.1) (fall_acts n core (ms ++ []) what part logged (role down s) (left_is []))
 
     pub fall_lawful : (x : Record) → x.node ≡ n → x.event ≡ Fall n what → x.out ≡ [] → IsLawful config (entries_in (records p)) (entry_of x)
     unfolding ms

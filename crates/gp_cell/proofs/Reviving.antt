@@ -2,7 +2,7 @@
 use Rattle.std.proofs.Common.{◌≡◌, ℕ, true, List, [], ◌++◌, sym, ap, ◌∙◌, subst, Option, Some, None, Result, Ok, Err, inl, inr}
 use Rattle.std.specs.Prelude.{IfOk, IfErr, IfSome}
 use Rattle.std.proofs.lemmas.List.{append-nil}
-use Rattle.gp_command.specs.declared.memory.NoMemory.{NoMemory}
+use Rattle.gp_memory.specs.declared.memory.NoMemory.{NoMemory}
 use Rattle.gp_round.specs.Counts.{Counts}
 use Rattle.gp_msg.specs.declared.node.Node.{Node}
 use Rattle.gp_msg.specs.declared.event.Event.TheVariants.{Fall}

@@ -8,7 +8,7 @@ use Rattle.gp_msg.specs.declared.node.Node.{Node}
 use Rattle.gp_msg.specs.declared.node.Node.TheVariants as node
 use Rattle.gp_msg.specs.Messages.{Stamped, Entry, entry_of}
 use Rattle.gp_run.specs.Messages.{messages}
-use Rattle.gp_run.specs.Nodes.{node_of, is_present}
+use Rattle.gp_msg.specs.Nodes.{node_of, is_present}
 use Rattle.gp_run.specs.Legal.{fits}
 use Rattle.gp_run.specs.Runs.{entries_in}
 use Rattle.gp_wire.specs.Known.{PassState, records}

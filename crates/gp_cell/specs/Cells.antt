@@ -9,7 +9,7 @@ use Rattle.gp_msg.specs.declared.durable.Durable.{Durable}
 use Rattle.gp_msg.specs.declared.event.Event.{Event}
 use Rattle.gp_msg.specs.Messages.{Stamped, message_of, EpochPart, part_of, entry_of}
 use Rattle.gp_run.specs.Messages.{messages}
-use Rattle.gp_run.specs.Nodes.{is_present}
+use Rattle.gp_msg.specs.Nodes.{is_present}
 use Rattle.gp_run.specs.Runs.{entries_in}
 use Rattle.gp_vlog.specs.Logs.{LogState, last}
 use Rattle.gp_wire.specs.Lists.{Has}

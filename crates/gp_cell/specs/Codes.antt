@@ -10,12 +10,13 @@ use Rattle.gp_wire.specs.contracts.pass.Pass as pass
 use Rattle.gp_work.specs.declared.moves.Move.{Move}
 use Rattle.gp_work.specs.contracts.moves.Move as move
 use Rattle.gp_proposer.specs.State.{ProposerState}
-use Rattle.gp_coordinator.specs.Codes.{counts_code}
-use Rattle.gp_coordinator.specs.Epochs as coordinator
+use Rattle.gp_proposer.specs.Codes.{proposer_code}
+use Rattle.gp_round.specs.contracts.config.Config as config
+use Rattle.gp_coordinator.specs.Codes as coordinator
 use Rattle.gp_coordinator.specs.Epochs.{CoordinatorInEpoch}
-use Rattle.gp_acceptor.specs.Epochs as acceptor
+use Rattle.gp_acceptor.specs.Codes as acceptor
 use Rattle.gp_acceptor.specs.Epochs.{AcceptorInEpoch}
-use Rattle.gp_learner.specs.Epochs as learner
+use Rattle.gp_learner.specs.Codes as learner
 use Rattle.gp_learner.specs.Epochs.{LearnerInEpoch}
 use Rattle.gp_msg.specs.declared.durable.Durable.{Durable}
 use Rattle.gp_msg.specs.contracts.durable.Durable as durable
@@ -23,9 +24,6 @@ use Rattle.gp_vlog.specs.Logs.{LogState}
 use Rattle.gp_rules.specs.declared.roles.Core.{Core}
 use Rattle.gp_rules.specs.declared.roles.Core.TheVariants.{Proposer, Coordinator, Acceptor, Learner}
 use Rattle.gp_cell.specs.Cells.{CellState}
-
-abbrev pub proposer_code : Coded ProposerState
-proposer_code = code_by (ℕ × ℕ) (coded× coded_ℕ coded_ℕ) (λ s. (s.number, s.offers)) (λ p. record { number = p.0; offers = p.1 }) (λ _. refl)
 
 abbrev pub Cores : Type 0
 Cores = ProposerState ⊎ (CoordinatorInEpoch ⊎ (AcceptorInEpoch ⊎ LearnerInEpoch))
@@ -61,7 +59,7 @@ log_code {D} d =
 abbrev pub cell_code : {D : Type 0} → Coded D → Coded (CellState D)
 cell_code {D} d =
     code_by (Counts × (Node × (Core × (Option (LogState D) × (PassState × Option Move)))))
-    (coded× counts_code (coded× node.the_row.coded (coded× core_code (coded× (coded_option (log_code d)) (coded× pass.the_row.coded (coded_option move.the_row.coded))))))
+    (coded× config.the_row.coded (coded× node.the_row.coded (coded× core_code (coded× (coded_option (log_code d)) (coded× pass.the_row.coded (coded_option move.the_row.coded))))))
     (λ c. (c.config, (c.node, (c.core, (c.log, (c.pass, c.down))))))
     (λ p. record { config = p.0; node = p.1.0; core = p.1.1.0; log = p.1.1.1.0; pass = p.1.1.1.1.0; down = p.1.1.1.1.1 })
     (λ _. refl)

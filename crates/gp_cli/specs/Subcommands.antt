@@ -10,7 +10,7 @@ use Rattle.gp_sim.specs.declared.driving.TheConstants.{MOST_DRIVEN}
 use Rattle.gp_command.specs.Key.{is_key}
 use Rattle.gp_cluster.specs.declared.policy.RoundPolicy.TheVariants.{Multi, Adaptive}
 use Rattle.gp_cli.specs.declared.subcommand.Operations.TheVariants.{Store, Bank}
-use Rattle.gp_cli.specs.declared.subcommand.TheConstants.{LEAST_LIMIT, MOST_LIMIT}
+use Rattle.gp_vlog.specs.declared.header.TheConstants.{LEAST_LIMIT, MOST_LIMIT}
 use Rattle.gp_cli.specs.declared.subcommand.Subcommand.{Subcommand}
 use Rattle.gp_cli.specs.declared.subcommand.Subcommand.TheVariants.{Play, Run, Sim, Drive, Log, Upgrade, Audit}
 

@@ -18,4 +18,4 @@ pub use disks::file_disks;
 pub use program::{Ended, run_program};
 pub use ran::{Ran, Trail};
 pub use serving::serve;
-pub use subcommand::{DISKS, LEAST_LIMIT, MOST_LIMIT};
+pub use subcommand::DISKS;

@@ -34,6 +34,7 @@ use gp_onlookers::{Onlookers, close, watch};
 use gp_phase::Trio;
 use gp_retelling::{run_text, views_text};
 use gp_round::Config;
+use gp_vlog::{LEAST_LIMIT, MOST_LIMIT};
 use std::alloc::Global;
 use std::sync::Wait;
 use std::thread::Threads;
@@ -115,8 +116,8 @@ fn run_plainly<K: Sink, D: Disk + Send, W: Threads + Wait + Sync, G: Gate + Sync
     gate: &G,
 ) -> Ran<D>
     requires twelve { length disks.items ≡ 12 }
-    requires low { 64 ≤ limit }
-    requires high { limit ≤ 67108864 }
+    requires low { LEAST_LIMIT ≤ limit }
+    requires high { limit ≤ MOST_LIMIT }
     requires right { AreOffered offers.now }
     ensures ends { EndsBy (IsOffersCause policy limit None (Offered offers.now) (disks_seen D.content D.faults disks.items) (disks_seen D.content D.faults result.disks.items))
         (seen (K.written sink.old) (K.faults sink.old)) (seen (K.written sink.new) (K.faults sink.new)) result.status (records_in result.trail) }
@@ -160,8 +161,8 @@ fn run_viewed<K: Sink, D: Disk + Send, W: Threads + Wait + Sync, G: Gate + Sync>
     gate: &G,
 ) -> Ran<D>
     requires twelve { length disks.items ≡ 12 }
-    requires low { 64 ≤ limit }
-    requires high { limit ≤ 67108864 }
+    requires low { LEAST_LIMIT ≤ limit }
+    requires high { limit ≤ MOST_LIMIT }
     requires right { AreOffered offers.now }
     ensures ends { EndsBy (IsOffersCause policy limit (Some key) (Offered offers.now) (disks_seen D.content D.faults disks.items) (disks_seen D.content D.faults result.disks.items))
         (seen (K.written sink.old) (K.faults sink.old)) (seen (K.written sink.new) (K.faults sink.new)) result.status (records_in result.trail) }
@@ -216,8 +217,8 @@ fn run_offers<K: Sink, D: Disk + Send, W: Threads + Wait + Sync, G: Gate + Sync>
     gate: &G,
 ) -> Ran<D>
     requires twelve { length disks.items ≡ 12 }
-    requires low { 64 ≤ limit }
-    requires high { limit ≤ 67108864 }
+    requires low { LEAST_LIMIT ≤ limit }
+    requires high { limit ≤ MOST_LIMIT }
     requires right { AreOffered offers.now }
     ensures ends { EndsBy (IsOffersCause policy limit viewed (Offered offers.now) (disks_seen D.content D.faults disks.items) (disks_seen D.content D.faults result.disks.items))
         (seen (K.written sink.old) (K.faults sink.old)) (seen (K.written sink.new) (K.faults sink.new)) result.status (records_in result.trail) }
@@ -265,8 +266,8 @@ fn run_script<K: Sink, D: Disk + Send, W: Threads + Wait + Sync, G: Gate + Sync>
     gate: &G,
 ) -> Ran<D>
     requires twelve { length disks.items ≡ 12 }
-    requires low { 64 ≤ limit }
-    requires high { limit ≤ 67108864 }
+    requires low { LEAST_LIMIT ≤ limit }
+    requires high { limit ≤ MOST_LIMIT }
     ensures ends { EndsBy (IsOffersCause policy limit viewed (offers_reading script.now) (disks_seen D.content D.faults disks.items) (disks_seen D.content D.faults result.disks.items))
         (seen (K.written sink.old) (K.faults sink.old)) (seen (K.written sink.new) (K.faults sink.new)) result.status (records_in result.trail) }
     ensures posted { IsOfNodes result.status result.trail }
@@ -301,8 +302,8 @@ pub(crate) fn read_and_run<
     gate: &G,
 ) -> Ran<D>
     requires twelve { length disks.items ≡ 12 }
-    requires low { 64 ≤ limit }
-    requires high { limit ≤ 67108864 }
+    requires low { LEAST_LIMIT ≤ limit }
+    requires high { limit ≤ MOST_LIMIT }
     ensures ends { EndsBy (IsNodesCause policy limit viewed (seen (S.rest source.old) (S.faults source.old)) (seen (S.rest source.new) (S.faults source.new)) (disks_seen D.content D.faults disks.items) (disks_seen D.content D.faults result.disks.items))
         (seen (K.written sink.old) (K.faults sink.old)) (seen (K.written sink.new) (K.faults sink.new)) result.status (records_in result.trail) }
     ensures posted { IsOfNodes result.status result.trail }

@@ -6,16 +6,11 @@ use gp_cluster::RoundPolicy;
 use gp_command::Key;
 use gp_random::MOST_COMMANDS;
 use gp_sim::MOST_DRIVEN;
+use gp_vlog::{LEAST_LIMIT, MOST_LIMIT};
 use gp_words::number_of;
 
 /// The number of disks: one for each acceptor, 0 to 6, and one for each coordinator, 7 to 11.
 pub const DISKS: u32 = 12;
-
-/// The least limit of a log, in bytes.
-pub const LEAST_LIMIT: u32 = 64;
-
-/// The greatest limit of a log, in bytes.
-pub const MOST_LIMIT: u32 = 67_108_864;
 
 /// The machine that the operations of a script are for.
 #[derive(Clone, Copy, Debug, PartialEq, Eq)]

@@ -18,7 +18,7 @@ use Rattle.gp_coordinator.specs.Epochs.{CoordinatorInEpoch}
 use Rattle.gp_acceptor.specs.Epochs as acceptor
 use Rattle.gp_acceptor.specs.Epochs.{AcceptorInEpoch}
 use Rattle.gp_run.specs.Messages.{messages, on_message}
-use Rattle.gp_run.specs.Nodes.{is_present, may_keep, fits_among, node_of}
+use Rattle.gp_msg.specs.Nodes.{is_present, may_keep, fits_among, node_of}
 use Rattle.gp_run.specs.States.{coordinator_acts, coordinator_kept, acceptor_acts, acceptor_kept}
 use Rattle.gp_run.specs.Legal.{fits}
 use Rattle.gp_run.specs.Runs.{entries_in}

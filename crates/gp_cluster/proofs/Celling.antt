@@ -2,6 +2,7 @@
 use Rattle.std.proofs.Common.{◌≡◌, ◌<◌, ℕ, suc, List, [], ◌∷◌, ◌++◌, map, length, get_or, refl, sym, ap, ◌∙◌, arith, append_assoc}
 use Rattle.std.specs.List.{All}
 use Rattle.std.specs.Option.{option_to_list}
+use Rattle.std.proofs.lemmas.List.{append-nil, map-append}
 use Rattle.gp_command.specs.Views.{DraftView}
 use Rattle.gp_round.specs.Counts.{Counts}
 use Rattle.gp_vlog.specs.Logs.{LogState}
@@ -24,10 +25,6 @@ use Rattle.gp_closing.specs.Cells.{IsKnownCell, AreCellsAt, CellGoes, CellsGo, n
 use Rattle.gp_closing.proofs.Going.{nodes_go}
 use Rattle.gp_cluster.specs.Seated.{IsSeated}
 use Rattle.gp_cluster.proofs.Starting.{seated_nodes, seated_logs}
-
-map_both : {A B : Type 0} (f : A → B) (xs ys : List A) → map f (xs ++ ys) ≡ map f xs ++ map f ys
-map_both f [] ys = refl
-map_both f (x ∷ xs) ys = ap (λ l. f x ∷ l) (map_both f xs ys)
 
 pub all_of : {A : Type 0} (P : A → Type 0) (xs : List A) → Each P xs → All P xs
 all_of P xs h k d l = each_at P xs h k d l
@@ -77,7 +74,7 @@ module _ {D : Type 0} (faults : D → ℕ) (config : Counts) (wire : WireState P
 
   first_nodes : map node_in first ≡ wire.nodes
   first_nodes =
-      map_both node_in (cells_of jobs) (cells_of proposers)
+      map-append node_in (cells_of jobs) (cells_of proposers)
       ∙ (λ i. (nodes_of_cells jobs ∙ jobs_nodes) i ++ (nodes_of_cells proposers ∙ proposers_nodes) i) ∙ sym s.nodes
 
   pub last_nodes : map node_in last ≡ wire.nodes
@@ -87,11 +84,7 @@ module _ {D : Type 0} (faults : D → ℕ) (config : Counts) (wire : WireState P
   first_logs e =
       logs_both (cells_of jobs) (cells_of proposers)
       ∙ (λ i. e i ++ (ap (λ js. logs_of (cells_of js)) s.proposers_are ∙ seated_logs config (new_passes wire proposer_nodes) [] (proposers_sit D config wire)) i)
-      ∙ append_none logs
-    where
-      append_none : {A : Type 0} (xs : List A) → xs ++ [] ≡ xs
-      append_none [] = refl
-      append_none (x ∷ xs) = ap (λ l. x ∷ l) (append_none xs)
+      ∙ append-nil logs
 
   pub each_at_wire : Each (λ (c : CellState D). IsAt c wire) last
   each_at_wire = each_both (λ c. IsAt c wire) (cells_of worked) (cells_of offered)

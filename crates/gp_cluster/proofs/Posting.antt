@@ -2,10 +2,10 @@
 use Rattle.std.proofs.Common.{◌≡◌, ◌<◌, ℕ, List, ◌++◌, map, length, get_or, sym, ap, ◌∙◌, subst, arith, Some}
 use Rattle.std.specs.Prelude.{slice_get}
 use Rattle.gp_command.specs.Views.{DraftView}
+use Rattle.gp_command.specs.declared.command.TheConstants.{PROPOSERS}
 use Rattle.gp_round.specs.Counts.{Counts}
 use Rattle.gp_msg.specs.declared.node.Node.TheVariants.{Proposer}
 use Rattle.gp_msg.specs.declared.record.Record.{Record}
-use Rattle.gp_run.specs.Nodes.{proposers}
 use Rattle.gp_wire.specs.Lists.{Each, Has}
 use Rattle.gp_wire.specs.Known.{WireState, records}
 use Rattle.gp_rules.specs.Own.{own_events, event_in}
@@ -45,7 +45,7 @@ are_offered {D} faults wire offers worked proposing offered list nodes size new 
     ∙ h.posts ∙ (λ i. n.nothing i ++ map (event_of (job.node_is i)) (moves_of (job.node_is i) offers))
   where
     job : JobOf (Proposer p) proposing
-    job = job_of (Proposer p) proposing (subst (Has (Proposer p)) (sym nodes) (has_first role.Proposer proposers p l))
+    job = job_of (Proposer p) proposing (subst (Has (Proposer p)) (sym nodes) (has_first role.Proposer PROPOSERS p l))
 
     h : HasOffered faults wire offers (get_or proposing job.place job.some) (get_or offered job.place job.some)
     h = has job.place job.some job.within

@@ -8,7 +8,7 @@ use Rattle.gp_msg.specs.declared.record.Record.{Record}
 use Rattle.gp_msg.specs.Messages.{EpochPart, Entry}
 use Rattle.gp_edge.specs.Disks.{IfRevealed}
 use Rattle.gp_run.specs.Messages.{messages}
-use Rattle.gp_run.specs.Nodes.{node_of}
+use Rattle.gp_msg.specs.Nodes.{node_of}
 use Rattle.gp_run.specs.Legal.{Legal, fits}
 use Rattle.gp_run.specs.Runs.{entries_in}
 use Rattle.gp_vlog.specs.Bodies.{LogEntry, need}

@@ -21,6 +21,7 @@ use gp_phase::{Beside, Trio};
 use gp_round::Config;
 use gp_rules::PaxosRules;
 use gp_shelf::{LendFault, Lent, Unlent, give_back, lend};
+use gp_vlog::{LEAST_LIMIT, MOST_LIMIT};
 use gp_wire::Wire;
 use std::alloc::Global;
 use std::sync::Wait;
@@ -70,8 +71,8 @@ pub fn run_nodes<
     gate: &G,
 ) -> NodesRun<D>
     requires twelve { length disks.items ≡ 12 }
-    requires low { 64 ≤ limit }
-    requires high { limit ≤ 67108864 }
+    requires low { LEAST_LIMIT ≤ limit }
+    requires high { limit ≤ MOST_LIMIT }
     requires few { length offers.now < 2 ^ 32 }
     requires known { All IsKnown offers.now }
     ensures posted { IfSome result.posted (IsRunOf policy config offers.now) }

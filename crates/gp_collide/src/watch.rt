@@ -37,7 +37,8 @@ impl Model for Watch {
     ghost use Rattle.std.specs.List.{IsDistinct};
     ghost use Rattle.std.specs.Map.{keys_of};
     ghost use Rattle.gp_history.specs.Sequence.{history_of};
-    ghost use Rattle.gp_collide.specs.Watched.{Watched, watched_code, same_node};
+    ghost use Rattle.gp_collide.specs.Watched.{Watched, same_node};
+    ghost use Rattle.gp_collide.specs.Codes.{watched_code};
 
     ghost Value = { Watched };
 

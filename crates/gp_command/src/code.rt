@@ -3,9 +3,9 @@ ghost use Rattle.std.specs.Prelude.{◌≡◌, ◌↔◌, ◌≤◌, IsTrue, IfO
 ghost use Rattle.gp_command.specs.Code.{draft_code};
 ghost use Rattle.gp_command.specs.Words.{IsWord, IsHead};
 
-use crate::memory::NoMemory;
 use crate::touch::Touch;
 use crate::writing::push_foot;
+use gp_memory::NoMemory;
 use std::alloc::Global;
 use std::marker::Model;
 

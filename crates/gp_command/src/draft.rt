@@ -8,8 +8,8 @@ ghost use Rattle.gp_command.specs.Refusal.{touching, checkpoint_of, refusal, lon
 use crate::body::{Body, MOST_BYTES};
 use crate::code::{Code, code_of};
 use crate::foot::{Foot, MOST_TOUCHES, first_unsorted};
-use crate::memory::NoMemory;
 use crate::touch::Touch;
+use gp_memory::NoMemory;
 use std::alloc::Global;
 use std::cmp::Ordering;
 use std::marker::Model;

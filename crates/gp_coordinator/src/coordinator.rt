@@ -27,7 +27,8 @@ pub struct Coordinator {
 }
 
 impl Model for Coordinator {
-    ghost use Rattle.gp_coordinator.specs.Epochs.{CoordinatorInEpoch, epoch_code};
+    ghost use Rattle.gp_coordinator.specs.Epochs.{CoordinatorInEpoch};
+    ghost use Rattle.gp_coordinator.specs.Codes.{epoch_code};
 
     ghost Value = { CoordinatorInEpoch };
 

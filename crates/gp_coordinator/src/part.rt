@@ -190,7 +190,7 @@ impl Part {
     }
 
     // The value with one more command, if that is to be sent.
-    #[tactic(auto, using(crate::proofs::Stepping::pushed))]
+    #[tactic(auto, using(gp_safe::proofs::Pushed::pushed))]
     fn extend(&self, c: &Command) -> Result<Option<History>, NoMemory>
         ensures { IfOk result (λ v. option_map history_of v ≡ extension self.now.round.mode self.now.value c.now) }
     {

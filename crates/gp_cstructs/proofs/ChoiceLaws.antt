@@ -2,6 +2,7 @@
 use Rattle.std.proofs.Common.{◌≡◌, ◌⊎◌, inl, inr, ◌<◌, ◌≤◌, ℕ, zero, suc, Bool, true, not, ◌&&◌, nat_eq, nat_lt, List, [], ◌∷◌, refl, sym, subst, ap, ◌∙◌, arith, Option, Some, None}
 use Rattle.std.specs.Prelude.{unwrap_or}
 use Rattle.std.proofs.lemmas.Bool.{eqb-true, eqb-false, not-true, ltb-false}
+use Rattle.std.specs.Option.{option_or}
 use Rattle.gp_round.specs.declared.round.Round.{Round}
 use Rattle.gp_round.specs.Rounds.{earlier, same_round, round_zero}
 use Rattle.gp_round.specs.Configs.{majority, quorum_size}
@@ -9,8 +10,8 @@ use Rattle.gp_round.specs.Sets.{bit, masks, members}
 use Rattle.gp_cstructs.specs.CStructs.{BoundLaws, Operations, all_joined}
 use Rattle.gp_cstructs.specs.Tables.{is_missing}
 use Rattle.gp_cstructs.specs.Safety.{IsTopRound, IsValueOf, AreCountingValues, IsChoice}
-use Rattle.gp_cstructs.specs.Lawful.{answers_by, or_else, IsMeet, IsSafeChoice}
-use Rattle.gp_cstructs.specs.Choice.{raised_by, top_round, vote_at, votes_at, first_of_both, lowest, counting_values}
+use Rattle.gp_cstructs.specs.Lawful.{answers_by, IsMeet, IsSafeChoice}
+use Rattle.gp_cstructs.specs.Choice.{raised_by, top_round, vote_at, votes_at, lowest, counting_values}
 use Rattle.gp_cstructs.specs.Protocol.{protocol, is_enough}
 use Rattle.gp_cstructs.proofs.Lists.{bool_cases, cond_cases, and_split, and_both}
 use Rattle.gp_cstructs.proofs.Subsets.{two_share, set_mask, kept_size}
@@ -20,14 +21,14 @@ use Rattle.gp_cstructs.proofs.QuorumMeets.{meets_only, meets_each}
 -- ---- what an answer says
 
 module _ {V : Type 0} (empty : V) where
-  vote_tells : (k : Round) (o : Option (Round × V)) (v : V) → vote_at k o ≡ Some v → (not (is_missing o) ≡ true) × ((or_else (round_zero, empty) o).0 ≡ k) × ((or_else (round_zero, empty) o).1 ≡ v)
+  vote_tells : (k : Round) (o : Option (Round × V)) (v : V) → vote_at k o ≡ Some v → (not (is_missing o) ≡ true) × ((unwrap_or o (round_zero, empty)).0 ≡ k) × ((unwrap_or o (round_zero, empty)).1 ≡ v)
   vote_tells k None v e = absurd (cc)
   vote_tells k (Some (q, x)) v e = elim (bool_cases (same_round q k)) [
     | inl b ↦ (refl, same_tells q k b, (let f = rw b at e in cc))
     | inr b ↦ absurd (let f = rw b at e in cc)
   ]
 
-  vote_told : (k : Round) (o : Option (Round × V)) → not (is_missing o) ≡ true → (or_else (round_zero, empty) o).0 ≡ k → vote_at k o ≡ Some (or_else (round_zero, empty) o).1
+  vote_told : (k : Round) (o : Option (Round × V)) → not (is_missing o) ≡ true → (unwrap_or o (round_zero, empty)).0 ≡ k → vote_at k o ≡ Some (unwrap_or o (round_zero, empty)).1
   vote_told k None t e = absurd (cc)
   vote_told k (Some (q, x)) t e =
       let b : same_round q k ≡ true = subst (λ (i : Round). same_round q i ≡ true) e (same_itself q) in
@@ -38,7 +39,7 @@ module _ {V : Type 0} (empty : V) where
 last_or_before : (n i : ℕ) → i < suc n → (i ≡ n) ⊎ (i < n)
 last_or_before n i h = elim (bool_cases (nat_eq i n)) [ inl e ↦ inl (eqb-true i n e) | inr e ↦ inr (let d = eqb-false i n e in omega (arith, d)) ]
 
-lowest_by : {V : Type 0} (f : ℕ → Option V) (n : ℕ) (o p : Option V) → f n ≡ p → ((v : V) → o ≡ Some v → (j : ℕ) × (j < n) × (f j ≡ Some v)) → (x : V) → first_of_both o p ≡ Some x → (j : ℕ) × (j < suc n) × (f j ≡ Some x)
+lowest_by : {V : Type 0} (f : ℕ → Option V) (n : ℕ) (o p : Option V) → f n ≡ p → ((v : V) → o ≡ Some v → (j : ℕ) × (j < n) × (f j ≡ Some v)) → (x : V) → option_or o p ≡ Some x → (j : ℕ) × (j < suc n) × (f j ≡ Some x)
 lowest_by f n None p g before x h = (n, omega arith, g ∙ h)
 lowest_by f n (Some v) p g before x h = let b = before v refl in (b.0, omega (arith, b.1), b.2 ∙ h)
 
@@ -47,11 +48,11 @@ lowest_from : {V : Type 0} (f : ℕ → Option V) (n : ℕ) (x : V) → lowest f
 lowest_from f zero x h = absurd (cc)
 lowest_from f (suc n) x h = lowest_by f n (lowest f n) (f n) refl (λ v e. lowest_from f n v e) x h
 
-first_there : {V : Type 0} (o p : Option V) (v : V) → p ≡ Some v → (x : V) × (first_of_both o p ≡ Some x)
+first_there : {V : Type 0} (o p : Option V) (v : V) → p ≡ Some v → (x : V) × (option_or o p ≡ Some x)
 first_there None p v e = (v, e)
 first_there (Some u) p v e = (u, refl)
 
-first_kept : {V : Type 0} (o p : Option V) (x : V) → o ≡ Some x → (y : V) × (first_of_both o p ≡ Some y)
+first_kept : {V : Type 0} (o p : Option V) (x : V) → o ≡ Some x → (y : V) × (option_or o p ≡ Some y)
 first_kept None p x e = absurd (cc)
 first_kept (Some u) p x e = (u, refl)
 
@@ -106,17 +107,17 @@ module _ {V : Type 0} {prefix : V → V → Type 0} {empty : V} {meet join : V �
     k = top_round f n
 
     abbrev q : ℕ → Round
-    q i = (or_else (round_zero, empty) (f i)).0
+    q i = (unwrap_or (f i) (round_zero, empty)).0
 
     abbrev v : ℕ → V
-    v i = (or_else (round_zero, empty) (f i)).1
+    v i = (unwrap_or (f i) (round_zero, empty)).1
 
-    back : (i : ℕ) (o : Option (Round × V)) → f i ≡ o → not (is_missing o) ≡ true → f i ≡ Some ((or_else (round_zero, empty) o).0, (or_else (round_zero, empty) o).1)
+    back : (i : ℕ) (o : Option (Round × V)) → f i ≡ o → not (is_missing o) ≡ true → f i ≡ Some ((unwrap_or o (round_zero, empty)).0, (unwrap_or o (round_zero, empty)).1)
     back i None e t = absurd (cc)
     back i (Some a) e t = e
 
     at_round : (i : ℕ) (p : Round) (x : V) → f i ≡ Some (p, x) → (answers_by f i ≡ true) × (q i ≡ p)
-    at_round i p x e = (ap (λ (o : Option (Round × V)). not (is_missing o)) e, ap (λ (o : Option (Round × V)). (or_else (round_zero, empty) o).0) e)
+    at_round i p x e = (ap (λ (o : Option (Round × V)). not (is_missing o)) e, ap (λ (o : Option (Round × V)). (unwrap_or o (round_zero, empty)).0) e)
 
     not_above : (i : ℕ) → i < n → answers_by f i ≡ true → (earlier (q i) k ≡ true) ⊎ (q i ≡ k)
     not_above i h t = elim (rounds_order.total (q i) k) [
@@ -171,7 +172,7 @@ module _ {V : Type 0} {prefix : V → V → Type 0} {empty : V} {meet join : V �
           );
     }
 
-    by_list : (hs : List V) → IsChoice empty join n (answers_by f) q v k hs (unwrap_or (first_of_both (all_joined empty join hs) (lowest (votes_at k f) n)) empty)
+    by_list : (hs : List V) → IsChoice empty join n (answers_by f) q v k hs (unwrap_or (option_or (all_joined empty join hs) (lowest (votes_at k f) n)) empty)
     by_list [] =
         let t = is_top in
         let there = lowest_there (votes_at k f) n t.who (v t.who) t.known (vote_told empty k (f t.who) t.inside t.there) in
@@ -180,7 +181,7 @@ module _ {V : Type 0} {prefix : V → V → Type 0} {empty : V} {meet join : V �
         (a.0, a.1, b.0, b.1, b.2 ∙ sym (ap (λ (o : Option V). unwrap_or o empty) there.1))
     by_list (h ∷ hs) = refl
 
-pub choices_are : {V C : Type 0} (o : Operations V C) (l : BoundLaws o.prefix o.empty o.meet o.join) (a c : ℕ) → 0 < a → (f : ℕ → Option (Round × V)) → is_enough a f ≡ true → IsSafeChoice (protocol o a c) f
+pub choices_are : {V C D : Type 0} (o : Operations V C D) (l : BoundLaws o.prefix o.empty o.meet o.join) (a c : ℕ) → 0 < a → (f : ℕ → Option (Round × V)) → is_enough a f ≡ true → IsSafeChoice (protocol o a c) f
 choices_are o l a c some f e =
     let many : majority a ≤ members (answers_by f) a = ltb-false (members (answers_by f) a) (majority a) (not-true (nat_lt (members (answers_by f) a) (majority a)) e) in
     record {

@@ -1,6 +1,7 @@
 -- No operation of the tables makes up a command.
 use Rattle.std.proofs.Common.{◌≡◌, ◌⊎◌, inl, inr, ℕ, zero, suc, Bool, true, ◌&&◌, cond, nat_lt, List, [], ◌∷◌, refl, sym, subst, ap, ◌∙◌, Option, Some, None}
 use Rattle.std.specs.Prelude.{unwrap_or}
+use Rattle.std.specs.Option.{option_or}
 use Rattle.gp_round.specs.declared.round.Mode.{Mode}
 use Rattle.gp_round.specs.declared.round.Mode.TheVariants.{Single, Multi, Fast}
 use Rattle.gp_round.specs.declared.round.Round.{Round}
@@ -8,13 +9,13 @@ use Rattle.gp_round.specs.Rounds.{same_round}
 use Rattle.gp_round.specs.Configs.{majority, quorum_size}
 use Rattle.gp_round.specs.Sets.{bit, masks}
 use Rattle.gp_cstructs.specs.CStructs.{Among, Operations, Laws, join_onto, all_joined}
-use Rattle.gp_cstructs.specs.Lawful.{answers_by, KeepsCommands}
+use Rattle.gp_cstructs.specs.Lawful.{answers_by, KeepsCommands, TellsIdentity}
 use Rattle.gp_cstructs.specs.Meets.{with_one, gathered, if_whole, add_meet, quorum_meets, everyone}
-use Rattle.gp_cstructs.specs.Choice.{top_round, vote_at, votes_at, first_of_both, lowest, counting_values}
+use Rattle.gp_cstructs.specs.Choice.{top_round, vote_at, votes_at, lowest, counting_values}
 use Rattle.gp_cstructs.specs.Protocol.{coordinator_meets_by, protocol}
 use Rattle.gp_cstructs.proofs.Lists.{bool_cases, cond_cases}
 
-module _ {V C : Type 0} (o : Operations V C) (l : Laws o) where
+module _ {V C D : Type 0} (o : Operations V C D) (l : Laws o) where
   -- the value of some sender has d
   abbrev Held : (ℕ → Option V) → C → Type 0
   Held f d = (k : ℕ) × (v : V) × (f k ≡ Some v) × (o.has v d ≡ true)
@@ -73,7 +74,7 @@ module _ {V C : Type 0} (o : Operations V C) (l : Laws o) where
   abbrev IfFrom : (ℕ → Option V) → Option V → Type 0
   IfFrom f p = (v : V) → p ≡ Some v → (d : C) → o.has v d ≡ true → Held f d
 
-  first_from : (f : ℕ → Option V) (p q : Option V) → IfFrom f p → IfFrom f q → IfFrom f (first_of_both p q)
+  first_from : (f : ℕ → Option V) (p q : Option V) → IfFrom f p → IfFrom f q → IfFrom f (option_or p q)
   first_from f None q a b = b
   first_from f (Some u) q a b = a
 
@@ -116,7 +117,10 @@ module _ {V C : Type 0} (o : Operations V C) (l : Laws o) where
         let g : ℕ → Option V = votes_at k f in
         let values : List V = counting_values o.meet a f k in
         let joined : IfFrom g (all_joined o.empty o.join values) = joined_from g values (λ x m e q. meets_from g (answers_by f) a (masks a (quorum_size a k.mode)) x m e q) in
-        let r = unwrapped_from g (first_of_both (all_joined o.empty o.join values) (lowest g a)) (first_from g (all_joined o.empty o.join values) (lowest g a) joined (lowest_from g a)) d p in
+        let r = unwrapped_from g (option_or (all_joined o.empty o.join values) (lowest g a)) (first_from g (all_joined o.empty o.join values) (lowest g a) joined (lowest_from g a)) d p in
         let s = answer_from k (f r.0) r.1 r.2 in
         (r.0, s.0, r.1, s.1, r.3);
   }
+
+  pub identity_told : (a c : ℕ) → TellsIdentity (protocol o a c)
+  identity_told a c = record { proposer_told = l.proposer_told; number_told = l.number_told }

@@ -1,9 +1,10 @@
 -- The facts are kept by each growth.
+use Rattle.std.specs.Prelude.{unwrap_or}
 use Rattle.std.proofs.Common.{◌≡◌, inl, inr, ℕ, Bool, true, false, List, ◌++◌, refl, sym, subst, Option, Some, None, not}
 use Rattle.gp_cstructs.specs.CStructs.{Among, Compatible, ArePairwiseCompatible, IsUpperBound, join_all}
 use Rattle.gp_cstructs.specs.Tables.{Tables, is_missing}
 use Rattle.gp_cstructs.specs.Safety.{Choosable, Answered}
-use Rattle.gp_cstructs.specs.Lawful.{IsLawful, answers_by, round_in, vote_in, or_else}
+use Rattle.gp_cstructs.specs.Lawful.{IsLawful, answers_by, round_in, vote_in}
 use Rattle.gp_cstructs.specs.Facts.{Ledger, IsPast, IsSafe, IsBacked, IsJoined, AnswerFacts, LedgerFacts}
 use Rattle.gp_cstructs.proofs.Lists.{among_append, among_left, among_right}
 use Rattle.gp_cstructs.proofs.Bounds.{compatible_below, join_all_above}
@@ -169,7 +170,7 @@ module _ {T : Tables} {leads : T.Round → (ℕ → Bool) → Type 0} (l : IsLaw
   ]
 
   pub answer_tells : (G : Ledger T) (r : T.Round) (a : ℕ) (o : Option (T.Round × T.Value)) → ((q : T.Round) (v : T.Value) → o ≡ Some (q, v) → AnswerFacts T G r a q v) → not (is_missing o) ≡ true
-      → Answered (λ i j. T.earlier i j ≡ true) T.prefix G.votes (IsPast T G) r a (or_else (T.zero, T.empty) o).0 (or_else (T.zero, T.empty) o).1
+      → Answered (λ i j. T.earlier i j ≡ true) T.prefix G.votes (IsPast T G) r a (unwrap_or o (T.zero, T.empty)).0 (unwrap_or o (T.zero, T.empty)).1
   answer_tells G r a None k t = absurd (cc)
   answer_tells G r a (Some (q, v)) k t =
       let n = k q v refl in

@@ -1,12 +1,13 @@
 -- Each step of a learner keeps the facts.
+use Rattle.std.specs.Prelude.{unwrap_or}
 use Rattle.std.proofs.Common.{◌≡◌, ◌⊎◌, inl, inr, ◌≤◌, ℕ, Bool, true, cond, ◌&&◌, nat_eq, nat_lt, List, [], ◌∷◌, ◌++◌, refl, sym, subst, ap, ◌∙◌, arith, Option, Some, None}
-use mathlib.Core.Path.{fun_ext}
 use Rattle.std.proofs.lemmas.Bool.{eqb-true, eq-eqb, ltb-true, ltb-false}
+use mathlib.Core.Path.{fun_ext}
 use Rattle.gp_cstructs.specs.CStructs.{Among, Compatible, IsUpperBound, ArePairwiseCompatible, join_all, all_joined}
 use Rattle.gp_cstructs.specs.Tables.{Tables, newer, Message, Propose, P1a, P1b, P2a, P2b}
 use Rattle.gp_cstructs.specs.Learner.{votes_with, learned_with, Learner, learner_take, learner_opening}
 use Rattle.gp_cstructs.specs.Loose.{System, learner_now}
-use Rattle.gp_cstructs.specs.Lawful.{IsLawful, or_else}
+use Rattle.gp_cstructs.specs.Lawful.{IsLawful}
 use Rattle.gp_cstructs.specs.Facts.{Ledger, ledger_of, LearnerFacts, Heard, Facts}
 use Rattle.gp_cstructs.proofs.Lists.{and_split, among_append, among_left, among_right, cond_cases, set_cases}
 use Rattle.gp_cstructs.proofs.Subsets.{two_share, shrunk}
@@ -178,12 +179,12 @@ module _ {T : Tables} {leads : T.Round → (ℕ → Bool) → Type 0} (l : IsLaw
           round = r;
           quorum = q.0;
           enough = omega (arith, q.1);
-          vote = λ b. or_else T.empty (f r b);
+          vote = λ b. unwrap_or (f r b) T.empty;
           taken_of = λ b i e. let x = q.2.all b i e in
-              subst (λ (o : Option T.Value). Among taken (r, b, or_else T.empty o)) (sym x.1) (held_taken r b x.0 x.1);
+              subst (λ (o : Option T.Value). Among taken (r, b, unwrap_or o T.empty)) (sym x.1) (held_taken r b x.0 x.1);
           below = λ b i e. let x = q.2.all b i e in
-              subst (λ (o : Option T.Value). T.prefix m (or_else T.empty o)) (sym x.1) x.2;
-          greatest = λ z h. q.2.greatest z (λ b x i e g. subst (λ (o : Option T.Value). T.prefix z (or_else T.empty o)) g (h b i e));
+              subst (λ (o : Option T.Value). T.prefix m (unwrap_or o T.empty)) (sym x.1) x.2;
+          greatest = λ z h. q.2.greatest z (λ b x i e g. subst (λ (o : Option T.Value). T.prefix z (unwrap_or o T.empty)) g (h b i e));
         }
 
     abbrev hs : List T.Value

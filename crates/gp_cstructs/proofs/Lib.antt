@@ -16,4 +16,5 @@ pub mod Chosen
 pub mod Learners
 pub mod Runs
 pub mod OfferedCommands
+pub mod ProposedOnce
 pub mod Votes

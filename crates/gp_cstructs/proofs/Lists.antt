@@ -2,6 +2,7 @@
 use Rattle.std.proofs.Common.{◌≡◌, ◌⊎◌, inl, inr, ◌<◌, ◌≤◌, ◌+◌, ℕ, zero, suc, Bool, true, false, cond, ◌&&◌, nat_eq, List, [], ◌∷◌, ◌++◌, length, slice_get, get_or, refl, sym, subst, ap, arith, Option, Some, None}
 use Rattle.std.specs.List.{Contains}
 use Rattle.std.proofs.lemmas.Bool.{eqb-true, eq-eqb}
+use Rattle.std.proofs.lemmas.Option.{slice_get_within}
 use Rattle.gp_cstructs.specs.CStructs.{Among}
 use Rattle.gp_cstructs.specs.Tables.{set_at, is_missing}
 
@@ -57,15 +58,10 @@ get_among [] k x e = absurd (cc)
 get_among (y ∷ xs) zero x e = inl (cc)
 get_among (y ∷ xs) (suc k) x e = inr (get_among xs k x e)
 
-get_short : {X : Type 0} (xs : List X) (k : ℕ) (x : X) → slice_get xs k ≡ Some x → k < length xs
-get_short [] k x e = absurd (cc)
-get_short (y ∷ xs) zero x e = omega arith
-get_short (y ∷ xs) (suc k) x e = omega (arith, get_short xs k x e)
-
 -- an element of two lists is one of the first, or of the second at a place that is so far behind
 pub get_append : {X : Type 0} (xs ys : List X) (k : ℕ) (x : X) → slice_get (xs ++ ys) k ≡ Some x
     → (slice_get xs k ≡ Some x) ⊎ ((length xs ≤ k) × (k < length xs + length ys) × Among ys x)
-get_append [] ys k x e = inr (omega arith, omega (arith, get_short ys k x e), get_among ys k x e)
+get_append [] ys k x e = inr (omega arith, omega (arith, slice_get_within ys k x e), get_among ys k x e)
 get_append (y ∷ xs) ys zero x e = inl e
 get_append (y ∷ xs) ys (suc k) x e = elim (get_append xs ys k x e) [
   | inl a ↦ inl a

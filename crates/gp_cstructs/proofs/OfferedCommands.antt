@@ -1,5 +1,5 @@
 -- Each step keeps it so that every value has only commands that were proposed.
-use Rattle.std.proofs.Common.{◌≡◌, inl, inr, ℕ, false, not, ◌&&◌, ◌||◌, nat_eq, nat_lt, List, [], ◌∷◌, refl, subst, Option, Some, None}
+use Rattle.std.proofs.Common.{◌≡◌, ◌+◌, inl, inr, ℕ, false, not, ◌&&◌, ◌||◌, nat_eq, nat_lt, List, [], ◌∷◌, refl, subst, Option, Some, None}
 use Rattle.gp_cstructs.specs.CStructs.{Among, join_onto, join_all, all_joined}
 use Rattle.gp_cstructs.specs.Tables.{Tables, newer, set_at, nothing, pushes, Message, Propose, P1a, P1b, P2a, P2b}
 use Rattle.gp_cstructs.specs.Acceptor.{Acceptor, acceptor_take, acceptor_fall, next_vote, voting, raised, holding}
@@ -194,15 +194,17 @@ module _ {T : Tables} (c : KeepsCommands T) where
     fallen b r = coordinator_offers b (record { round = r; awake = false; answers = nothing; value = None }) None (λ v e. absurd (cc), λ a j v e. absurd (cc), λ x e. absurd (cc))
 
     pub happens_offers : (e : Event T) → Fits T w e → AllOffered T (happens T w e)
-    happens_offers (Offer d) f = record {
-      sent = all_told (Some (Propose d)) w.sent k.sent (λ x e. one_told w.sent (Propose d) x tt e);
-      votes = λ a. offered_on (Some (Propose d)) w.sent (w.acceptors a).vote (k.votes a);
-      holds = λ a i v e. offered_on (Some (Propose d)) w.sent v (k.holds a i v e);
-      values = λ i v e. offered_on (Some (Propose d)) w.sent v (k.values i v e);
-      answers = λ i b j v e. offered_on (Some (Propose d)) w.sent v (k.answers i b j v e);
-      taken = λ i r b v e. offered_on (Some (Propose d)) w.sent v (k.taken i r b v e);
-      learned = λ i. offered_on (Some (Propose d)) w.sent (w.learners i).learned (k.learned i);
-    }
+    happens_offers (Offer q d) f =
+        let m = Propose (T.numbered q (w.offers q + 1) d) in
+        record {
+          sent = all_told (Some m) w.sent k.sent (λ x e. one_told w.sent m x tt e);
+          votes = λ a. offered_on (Some m) w.sent (w.acceptors a).vote (k.votes a);
+          holds = λ a i v e. offered_on (Some m) w.sent v (k.holds a i v e);
+          values = λ i v e. offered_on (Some m) w.sent v (k.values i v e);
+          answers = λ i b j v e. offered_on (Some m) w.sent v (k.answers i b j v e);
+          taken = λ i r b v e. offered_on (Some m) w.sent v (k.taken i r b v e);
+          learned = λ i. offered_on (Some m) w.sent (w.learners i).learned (k.learned i);
+        }
     happens_offers (Begin b r) f = coordinator_offers b (coordinator_begin T (w.coordinators b) r).0 (coordinator_begin T (w.coordinators b) r).1 (begin_ok w.sent (w.coordinators b) r (k.values b) (k.answers b))
     happens_offers (AcceptorTakes a m) f = acceptor_offers a (acceptor_take T a (w.acceptors a) m).0 (acceptor_take T a (w.acceptors a) m).1 (takes_ok w.sent a (w.acceptors a) m f.1 (k.sent m f.1) (k.votes a) (k.holds a))
     happens_offers (CoordinatorTakes b m ds) f = coordinator_offers b (coordinator_take T b (w.coordinators b) m ds).0 (coordinator_take T b (w.coordinators b) m ds).1 (coordinator_takes_ok w.sent b (w.coordinators b) m ds f.1 (k.sent m f.1) f.2 (k.values b) (k.answers b))

@@ -8,7 +8,8 @@ use Rattle.gp_round.specs.Sets.{bit, masks, members}
 use Rattle.gp_cstructs.specs.CStructs.{Among, BoundLaws, Operations, Laws}
 use Rattle.gp_cstructs.specs.Lawful.{IsMeet, IsLawful}
 use Rattle.gp_cstructs.specs.Meets.{add_meet, quorum_meets, everyone}
-use Rattle.gp_cstructs.specs.Protocol.{leads_by, Leads, coordinator_meets_by, protocol}
+use Rattle.gp_round.specs.Quorums.{coordinator_quorum_of, IsCoordinatorQuorum}
+use Rattle.gp_cstructs.specs.Protocol.{coordinator_meets_by, protocol}
 use Rattle.gp_cstructs.proofs.Lists.{bool_cases, and_split, and_both}
 use Rattle.gp_cstructs.proofs.Subsets.{two_share, set_mask, kept_size}
 use Rattle.gp_cstructs.proofs.Orders.{rounds_order, zero_least, same_tells, same_itself, sizes_meet}
@@ -19,7 +20,7 @@ and_true : (b : Bool) → (b && true) ≡ b
 and_true true = refl
 and_true false = refl
 
-leaders_share : (c : ℕ) (d : Mode) (lead : ℕ) (R S : ℕ → Bool) → leads_by c d lead R → leads_by c d lead S → (i : ℕ) × (i < c) × (R i ≡ true) × (S i ≡ true)
+leaders_share : (c : ℕ) (d : Mode) (lead : ℕ) (R S : ℕ → Bool) → coordinator_quorum_of c d lead R → coordinator_quorum_of c d lead S → (i : ℕ) × (i < c) × (R i ≡ true) × (S i ≡ true)
 leaders_share c Single lead R S a b = (lead, a.0, a.1, b.1)
 leaders_share c Fast lead R S a b = (lead, a.0, a.1, b.1)
 leaders_share c Multi lead R S a b = two_share R S c (omega (arith, a, b))
@@ -50,7 +51,7 @@ module _ {V : Type 0} {prefix : V → V → Type 0} {empty : V} {meet join : V �
       let r = meets_only l f everyone n (masks n size) m p in
       (bit r.0, kept_size n size r.0 r.1, meet_same prefix f n (λ i. bit r.0 i && true) (bit r.0) (λ i a. and_true (bit r.0 i)) m r.2)
 
-  mode_only : (c : ℕ) (d : Mode) (lead : ℕ) (f : ℕ → Option V) (m : V) → Among (coordinator_meets_by meet c d lead f) m → (R : ℕ → Bool) × leads_by c d lead R × IsMeet prefix c f R m
+  mode_only : (c : ℕ) (d : Mode) (lead : ℕ) (f : ℕ → Option V) (m : V) → Among (coordinator_meets_by meet c d lead f) m → (R : ℕ → Bool) × coordinator_quorum_of c d lead R × IsMeet prefix c f R m
   mode_only c Single lead f m p = lead_only c lead f m p
   mode_only c Fast lead f m p = lead_only c lead f m p
   mode_only c Multi lead f m p = let r = mask_only c (majority c) f m p in (r.0, omega (arith, r.1), r.2)
@@ -63,7 +64,7 @@ module _ {V : Type 0} {prefix : V → V → Type 0} {empty : V} {meet join : V �
       let t = meets_each l f everyone n (masks n size) m.0 m.1 (λ i b g. held i b (sym (m.2 i b) ∙ (and_split (bit m.0 i) true g).0)) s.0 s.1 (and_both (bit m.0 s.0) true (m.2 s.0 s.1 ∙ s.2) refl) in
       (t.0, t.1, meet_same prefix f n (λ i. bit m.0 i && true) R (λ i b. and_true (bit m.0 i) ∙ m.2 i b) t.0 t.2)
 
-pub lawful : {V C : Type 0} (o : Operations V C) → Laws o → (a c : ℕ) → 0 < a → IsLawful (protocol o a c) (Leads c)
+pub lawful : {V C D : Type 0} (o : Operations V C D) → Laws o → (a c : ℕ) → 0 < a → IsLawful (protocol o a c) (IsCoordinatorQuorum c)
 lawful o l a c some = record {
   bounds = l.bounds;
   push_extends = l.push_extends;

@@ -21,7 +21,7 @@ loose_rest [] ys f = f
 loose_rest (x ∷ xs) ys f = loose_rest xs ys f.0
 
 cast_on : {T : Tables} (w : System T) (e : Event T) (x : ℕ × T.Round × T.Value) → Among w.cast x → Among (happens T w e).cast x
-cast_on w (Offer d) x p = p
+cast_on w (Offer q d) x p = p
 cast_on w (Begin c r) x p = p
 cast_on w (AcceptorTakes a m) x p = inr p
 cast_on w (CoordinatorTakes c m cs) x p = p
@@ -71,10 +71,10 @@ module _ {T : Tables} {leads : T.Round → (ℕ → Bool) → Type 0} (l : IsLaw
   }
 
   module _ (w : System T) (k : Facts T leads w) where
-    offers : (d : T.Command) → Facts T leads (happens T w (Offer d))
-    offers d =
+    offers : (q : ℕ) (d : T.Draft) → Facts T leads (happens T w (Offer q d))
+    offers q d =
         let G = ledger_of T w in
-        let K = ledger_of T (happens T w (Offer d)) in
+        let K = ledger_of T (happens T w (Offer q d)) in
         record {
           ledger = keeps l G K (record {
             rounds = λ a h. l.order.irreflexive (w.acceptors a).round h;
@@ -93,7 +93,7 @@ module _ {T : Tables} {leads : T.Round → (ℕ → Bool) → Type 0} (l : IsLaw
 
     -- each event keeps the facts, from any system that has them
     pub happens_keeps : (e : Event T) → Fits T w e → Facts T leads (happens T w e)
-    happens_keeps (Offer d) f = offers d
+    happens_keeps (Offer q d) f = offers q d
     happens_keeps (Begin c r) f = coordinators.begins_after l w k c r
     happens_keeps (AcceptorTakes a m) f = takes_kept l w k a m f.1
     happens_keeps (CoordinatorTakes c m cs) f = coordinators.takes_after l w k c m cs f.1
@@ -117,7 +117,7 @@ module _ {T : Tables} {leads : T.Round → (ℕ → Bool) → Type 0} (l : IsLaw
       ((run_keeps ys (loose_rest xs ys (subst (λ (zs : List (Event T)). Loose T zs) (sym e) f))).learners i)
 
   learned_on : (w : System T) (e : Event T) (i : ℕ) → IsNoFall T i e → T.prefix (w.learners i).learned ((happens T w e).learners i).learned
-  learned_on w (Offer d) i s = l.bounds.reflexive (w.learners i).learned
+  learned_on w (Offer q d) i s = l.bounds.reflexive (w.learners i).learned
   learned_on w (Begin c r) i s = l.bounds.reflexive (w.learners i).learned
   learned_on w (AcceptorTakes a m) i s = l.bounds.reflexive (w.learners i).learned
   learned_on w (CoordinatorTakes c m cs) i s = l.bounds.reflexive (w.learners i).learned

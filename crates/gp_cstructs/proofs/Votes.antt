@@ -19,7 +19,7 @@ had_moved {T} e es b t is a r x eq = subst (λ (y : ℕ × T.Round × T.Value). 
 
 cast_had : {T : Tables} (es : List (Event T)) (a : ℕ) (r : T.Round) (x : T.Value) → Among (run T es).cast (a, r, x) → HadVote T es a r x
 cast_had [] a r x p = elim p [ ]
-cast_had (Offer d ∷ es) a r x p = had_more (Offer d) es a r x (cast_had es a r x p)
+cast_had (Offer q d ∷ es) a r x p = had_more (Offer q d) es a r x (cast_had es a r x p)
 cast_had (Begin c i ∷ es) a r x p = had_more (Begin c i) es a r x (cast_had es a r x p)
 cast_had (CoordinatorTakes c m cs ∷ es) a r x p = had_more (CoordinatorTakes c m cs) es a r x (cast_had es a r x p)
 cast_had (LearnerTakes i m ∷ es) a r x p = had_more (LearnerTakes i m) es a r x (cast_had es a r x p)

@@ -6,8 +6,8 @@ abbrev pub Among : {X : Type 0} → List X → X → Type 0
 Among [] x = ⊥
 Among (y ∷ ys) x = (y ≡ x) ⊎ Among ys x
 
--- which value is a prefix of which, the empty value, meets and joins, a value with a command after all others, whether a command is in a value, and how many are
-pub record Operations (V C : Type 0) : Type 1 where
+-- which value is a prefix of which, the empty value, meets and joins, a value with a command after all others, whether a command is in a value, and how many are; the command that a proposer makes of a draft as the offer of this number, and of a command its proposer and number, which are its identity
+pub record Operations (V C D : Type 0) : Type 1 where
   pub prefix : V → V → Type 0
   pub empty : V
   pub meet : V → V → V
@@ -15,6 +15,9 @@ pub record Operations (V C : Type 0) : Type 1 where
   pub push : V → C → V
   pub has : V → C → Bool
   pub size : V → ℕ
+  pub numbered : ℕ → ℕ → D → C
+  pub proposer_of : C → ℕ
+  pub number_of : C → ℕ
 
 -- some value is above both
 pub record Compatible {V : Type 0} (prefix : V → V → Type 0) (u v : V) : Type 0 where
@@ -38,7 +41,7 @@ pub record BoundLaws {V : Type 0} (prefix : V → V → Type 0) (empty : V) (mee
   pub coherent : (u v w : V) → Compatible prefix u v → Compatible prefix u w → Compatible prefix v w → Compatible prefix u (join v w)
 
 -- all laws of c-structs that agreement rests on
-pub record Laws {V C : Type 0} (o : Operations V C) : Type 0 where
+pub record Laws {V C D : Type 0} (o : Operations V C D) : Type 0 where
   pub bounds : BoundLaws o.prefix o.empty o.meet o.join
   pub push_extends : (u : V) (c : C) → o.prefix u (o.push u c)
   -- a prefix with no fewer commands is the whole
@@ -47,6 +50,9 @@ pub record Laws {V C : Type 0} (o : Operations V C) : Type 0 where
   pub has_push : (u : V) (c d : C) → o.has (o.push u c) d ≡ true → (o.has u d ≡ true) ⊎ (c ≡ d)
   pub has_join : (u v : V) (d : C) → o.has (o.join u v) d ≡ true → (o.has u d ≡ true) ⊎ (o.has v d ≡ true)
   pub has_prefix : (u v : V) (d : C) → o.prefix u v → o.has u d ≡ true → o.has v d ≡ true
+  -- a command tells its proposer and its number
+  pub proposer_told : (p n : ℕ) (d : D) → o.proposer_of (o.numbered p n d) ≡ p
+  pub number_told : (p n : ℕ) (d : D) → o.number_of (o.numbered p n d) ≡ n
 
 -- one join after another
 abbrev pub join_onto : {V : Type 0} → (V → V → V) → V → List V → V

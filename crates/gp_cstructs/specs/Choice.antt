@@ -1,5 +1,6 @@
 -- The safe choice.
 use Rattle.std.specs.Prelude.{ℕ, zero, suc, cond, List, Option, Some, None, unwrap_or}
+use Rattle.std.specs.Option.{option_or}
 use Rattle.gp_round.specs.declared.round.Round.{Round}
 use Rattle.gp_round.specs.Rounds.{earlier, same_round, round_zero}
 use Rattle.gp_round.specs.Configs.{quorum_size}
@@ -25,14 +26,10 @@ vote_at k (Some a) = cond (same_round a.0 k) (Some a.1) None
 abbrev pub votes_at : {V : Type 0} → Round → (ℕ → Option (Round × V)) → ℕ → Option V
 votes_at k f i = vote_at k (f i)
 
-abbrev pub first_of_both : {V : Type 0} → Option V → Option V → Option V
-first_of_both None o = o
-first_of_both (Some v) o = Some v
-
 -- the value of the lowest number below n that has one
 abbrev pub lowest : {V : Type 0} → (ℕ → Option V) → ℕ → Option V
 lowest f zero = None
-lowest f (suc n) = first_of_both (lowest f n) (f n)
+lowest f (suc n) = option_or (lowest f n) (f n)
 
 -- the meets of the votes of the quorums of the least size that count at round k
 abbrev pub counting_values : {V : Type 0} → (V → V → V) → ℕ → (ℕ → Option (Round × V)) → Round → List V
@@ -40,7 +37,7 @@ counting_values meet n f k = quorum_meets meet (votes_at k f) (answers_by f) n (
 
 -- their join, or if there are none the vote of the lowest acceptor that answered round k
 abbrev pub choice_at : {V : Type 0} → V → (V → V → V) → (V → V → V) → ℕ → (ℕ → Option (Round × V)) → Round → Option V
-choice_at empty meet join n f k = first_of_both (all_joined empty join (counting_values meet n f k)) (lowest (votes_at k f) n)
+choice_at empty meet join n f k = option_or (all_joined empty join (counting_values meet n f k)) (lowest (votes_at k f) n)
 
 -- the choice at the greatest round that was answered
 abbrev pub safe_choice : {V : Type 0} → V → (V → V → V) → (V → V → V) → ℕ → (ℕ → Option (Round × V)) → V

@@ -1,5 +1,5 @@
 -- What the proof asks of the tables.
-use Rattle.std.specs.Prelude.{◌≡◌, ◌⊎◌, ◌<◌, ◌≤◌, ℕ, Bool, true, false, not, List, Option, Some, None}
+use Rattle.std.specs.Prelude.{◌≡◌, ◌⊎◌, ◌<◌, ◌≤◌, ℕ, Bool, true, false, not, List, Option, Some, unwrap_or}
 use Rattle.gp_round.specs.Sets.{members}
 use Rattle.gp_cstructs.specs.CStructs.{Among, BoundLaws}
 use Rattle.gp_cstructs.specs.Tables.{Tables, is_missing}
@@ -9,17 +9,13 @@ use Rattle.gp_cstructs.specs.Safety.{IsOrder, QuorumSizes, IsTopRound, AreCounti
 abbrev pub answers_by : {X : Type 0} → (ℕ → Option X) → ℕ → Bool
 answers_by f i = not (is_missing (f i))
 
-abbrev pub or_else : {X : Type 0} → X → Option X → X
-or_else d None = d
-or_else d (Some x) = x
-
 -- the round in which acceptor a voted last, by its answer
 abbrev pub round_in : (T : Tables) → (ℕ → Option (T.Round × T.Value)) → ℕ → T.Round
-round_in T f a = (or_else (T.zero, T.empty) (f a)).0
+round_in T f a = (unwrap_or (f a) (T.zero, T.empty)).0
 
 -- its vote, by its answer
 abbrev pub vote_in : (T : Tables) → (ℕ → Option (T.Round × T.Value)) → ℕ → T.Value
-vote_in T f a = (or_else (T.zero, T.empty) (f a)).1
+vote_in T f a = (unwrap_or (f a) (T.zero, T.empty)).1
 
 -- m is the meet of the values of the members of R, each of which has one
 pub record IsMeet {V : Type 0} (prefix : V → V → Type 0) (n : ℕ) (f : ℕ → Option V) (R : ℕ → Bool) (m : V) : Type 0 where
@@ -54,6 +50,11 @@ pub record IsLawful (T : Tables) (leads : T.Round → (ℕ → Bool) → Type 0)
   pub acceptor_meets_each : (r : T.Round) (f : ℕ → Option T.Value) (R : ℕ → Bool) → members R T.acceptors ≡ T.quorum r
       → ((i : ℕ) → i < T.acceptors → R i ≡ true → (v : T.Value) × (f i ≡ Some v)) → (m : T.Value) × Among (T.acceptor_meets r f) m × IsMeet T.prefix T.acceptors f R m
   pub choices : (f : ℕ → Option (T.Round × T.Value)) → T.is_enough f ≡ true → IsSafeChoice T f
+
+-- a command tells the proposer and the number of its offer
+pub record TellsIdentity (T : Tables) : Type 0 where
+  pub proposer_told : (p n : ℕ) (d : T.Draft) → T.proposer_of (T.numbered p n d) ≡ p
+  pub number_told : (p n : ℕ) (d : T.Draft) → T.number_of (T.numbered p n d) ≡ n
 
 -- no operation makes up a command: each command of what it gives was in what it was given
 pub record KeepsCommands (T : Tables) : Type 0 where

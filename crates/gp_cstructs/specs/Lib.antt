@@ -8,6 +8,7 @@ pub mod Safety
 pub mod Lawful
 pub mod Facts
 pub mod Offered
+pub mod ProposedOnce
 pub mod LooseAgreement
 pub mod Meets
 pub mod Choice

@@ -1,5 +1,5 @@
--- Loose lists of events, newest first, and the system after them. An event names the message itself that is taken, which may be any that was sent, and the commands that a coordinator pushes may be any that were proposed.
-use Rattle.std.specs.Prelude.{◌<◌, ℕ, List, [], ◌∷◌, Option, Some, None}
+-- Loose lists of events, newest first, and the system after them. An event names the message itself that is taken, which may be any that was sent, and the commands that a coordinator pushes may be any that were proposed. Proposers and learners are not counted.
+use Rattle.std.specs.Prelude.{◌≡◌, ◌<◌, ◌+◌, ℕ, true, List, [], ◌∷◌, Option, Some, None}
 use Rattle.gp_cstructs.specs.CStructs.{Among}
 use Rattle.gp_cstructs.specs.Tables.{Tables, Message, Propose, set_at}
 use Rattle.gp_cstructs.specs.Acceptor.{Acceptor, acceptor_opening, acceptor_take, acceptor_fall}
@@ -7,7 +7,7 @@ use Rattle.gp_cstructs.specs.Coordinator.{Coordinator, Kept, KeptNothing, KeptBe
 use Rattle.gp_cstructs.specs.Learner.{Learner, learner_opening, learner_take}
 
 pub data Event (T : Tables) : Type 0 where
-  Offer : T.Command → Event T
+  Offer : ℕ → T.Draft → Event T
   Begin : ℕ → T.Round → Event T
   AcceptorTakes : ℕ → Message T → Event T
   CoordinatorTakes : ℕ → Message T → List T.Command → Event T
@@ -16,11 +16,12 @@ pub data Event (T : Tables) : Type 0 where
   CoordinatorFalls : ℕ → Kept T → Event T
   LearnerFalls : ℕ → Event T
 
--- the nodes, the messages that were sent, and the votes that an acceptor had after one of its events
+-- the nodes, how many offers each proposer had, the messages that were sent, and the votes that an acceptor had after one of its events
 pub record System (T : Tables) : Type 0 where
   pub acceptors : ℕ → Acceptor T
   pub coordinators : ℕ → Coordinator T
   pub learners : ℕ → Learner T
+  pub offers : ℕ → ℕ
   pub sent : List (Message T)
   pub cast : List (ℕ × T.Round × T.Value)
 
@@ -29,6 +30,7 @@ start T = record {
   acceptors = λ a. acceptor_opening T;
   coordinators = λ c. coordinator_opening T;
   learners = λ i. learner_opening T;
+  offers = λ p. 0;
   sent = [];
   cast = [];
 }
@@ -37,9 +39,16 @@ abbrev pub send : (T : Tables) → Option (Message T) → List (Message T) → L
 send T None ms = ms
 send T (Some m) ms = m ∷ ms
 
--- a message is sent, and nothing else happens
-abbrev pub said : (T : Tables) → System T → Message T → System T
-said T w m = record { acceptors = w.acceptors; coordinators = w.coordinators; learners = w.learners; sent = m ∷ w.sent; cast = w.cast }
+-- proposer p proposes this command, and has had one offer more
+abbrev pub proposer_now : (T : Tables) → System T → ℕ → T.Command → System T
+proposer_now T w p d = record {
+  acceptors = w.acceptors;
+  coordinators = w.coordinators;
+  learners = w.learners;
+  offers = set_at w.offers p (w.offers p + 1);
+  sent = Propose d ∷ w.sent;
+  cast = w.cast;
+}
 
 -- acceptor a has this state now, and sent this message
 abbrev pub acceptor_now : (T : Tables) → System T → ℕ → Acceptor T → Option (Message T) → System T
@@ -47,6 +56,7 @@ acceptor_now T w a s m = record {
   acceptors = set_at w.acceptors a s;
   coordinators = w.coordinators;
   learners = w.learners;
+  offers = w.offers;
   sent = send T m w.sent;
   cast = (a, s.voted, s.vote) ∷ w.cast;
 }
@@ -56,6 +66,7 @@ coordinator_now T w c s m = record {
   acceptors = w.acceptors;
   coordinators = set_at w.coordinators c s;
   learners = w.learners;
+  offers = w.offers;
   sent = send T m w.sent;
   cast = w.cast;
 }
@@ -65,13 +76,14 @@ learner_now T w i s = record {
   acceptors = w.acceptors;
   coordinators = w.coordinators;
   learners = set_at w.learners i s;
+  offers = w.offers;
   sent = w.sent;
   cast = w.cast;
 }
 
 -- the system after one more event
 abbrev pub happens : (T : Tables) → System T → Event T → System T
-happens T w (Offer d) = said T w (Propose d)
+happens T w (Offer p d) = proposer_now T w p (T.numbered p (w.offers p + 1) d)
 happens T w (Begin c r) = coordinator_now T w c (coordinator_begin T (w.coordinators c) r).0 (coordinator_begin T (w.coordinators c) r).1
 happens T w (AcceptorTakes a m) = acceptor_now T w a (acceptor_take T a (w.acceptors a) m).0 (acceptor_take T a (w.acceptors a) m).1
 happens T w (CoordinatorTakes c m cs) = coordinator_now T w c (coordinator_take T c (w.coordinators c) m cs).0 (coordinator_take T c (w.coordinators c) m cs).1
@@ -85,22 +97,22 @@ abbrev pub run : (T : Tables) → List (Event T) → System T
 run T [] = start T
 run T (e ∷ es) = happens T (run T es) e
 
--- the message that a fall keeps was sent
-abbrev pub kept_stands : (T : Tables) → List (Message T) → Kept T → Type 0
-kept_stands T sent KeptNothing = Unit {0}
-kept_stands T sent (KeptBegin r) = Unit {0}
-kept_stands T sent (KeptTake m) = Among sent m
+-- coordinator c owns the round that a fall keeps begun, and the message that it keeps taken was sent
+abbrev pub kept_stands : (T : Tables) → List (Message T) → ℕ → Kept T → Type 0
+kept_stands T sent c KeptNothing = Unit {0}
+kept_stands T sent c (KeptBegin r) = T.owns c r ≡ true
+kept_stands T sent c (KeptTake m) = Among sent m
 
--- the event may happen next: its node is known, its message was sent, and what a coordinator may push was proposed
+-- the event may happen next: its acceptor or coordinator is known, a round that begins is its own, its message was sent, and what a coordinator may push was proposed
 abbrev pub Fits : (T : Tables) → System T → Event T → Type 0
-Fits T w (Offer d) = Unit {0}
-Fits T w (Begin c r) = c < T.coordinators
+Fits T w (Offer p d) = Unit {0}
+Fits T w (Begin c r) = (c < T.coordinators) × (T.owns c r ≡ true)
 Fits T w (AcceptorTakes a m) = (a < T.acceptors) × Among w.sent m
 Fits T w (CoordinatorTakes c m cs) = (c < T.coordinators) × Among w.sent m × ((d : T.Command) → Among cs d → Among w.sent (Propose d))
 Fits T w (LearnerTakes i m) = Among w.sent m
 Fits T w (AcceptorFalls a None) = a < T.acceptors
 Fits T w (AcceptorFalls a (Some m)) = (a < T.acceptors) × Among w.sent m
-Fits T w (CoordinatorFalls c kept) = (c < T.coordinators) × kept_stands T w.sent kept
+Fits T w (CoordinatorFalls c kept) = (c < T.coordinators) × kept_stands T w.sent c kept
 Fits T w (LearnerFalls i) = Unit {0}
 
 abbrev pub Loose : (T : Tables) → List (Event T) → Type 0

@@ -1,25 +1,16 @@
 -- The tables over any c-structs, with rounds of three modes and quorums of so many acceptors and coordinators.
-use Rattle.std.specs.Prelude.{◌≡◌, ◌<◌, ◌≤◌, ℕ, Bool, true, not, cond, nat_lt, List, [], Option, None}
+use Rattle.std.specs.Prelude.{ℕ, Bool, not, cond, nat_lt, List, [], Option, None}
 use Rattle.gp_round.specs.declared.round.Mode.{Mode}
 use Rattle.gp_round.specs.declared.round.Mode.TheVariants.{Single, Multi, Fast}
 use Rattle.gp_round.specs.declared.round.Round.{Round}
 use Rattle.gp_round.specs.Rounds.{earlier, same_round, round_zero, is_fast, is_multi}
-use Rattle.gp_round.specs.Configs.{majority, quorum_size}
+use Rattle.gp_round.specs.Configs.{majority, quorum_size, is_owner}
 use Rattle.gp_round.specs.Sets.{members, masks}
 use Rattle.gp_cstructs.specs.CStructs.{Operations}
 use Rattle.gp_cstructs.specs.Tables.{Tables}
 use Rattle.gp_cstructs.specs.Lawful.{answers_by}
 use Rattle.gp_cstructs.specs.Meets.{add_meet, quorum_meets, everyone}
 use Rattle.gp_cstructs.specs.Choice.{safe_choice}
-
-abbrev pub leads_by : ℕ → Mode → ℕ → (ℕ → Bool) → Type 0
-leads_by c Single lead R = (lead < c) × (R lead ≡ true)
-leads_by c Multi lead R = majority c ≤ members R c
-leads_by c Fast lead R = (lead < c) × (R lead ≡ true)
-
--- the sets of coordinators that are quorums of a round: more than half in a multi round, and otherwise those with its lead
-abbrev pub Leads : ℕ → Round → (ℕ → Bool) → Type 0
-Leads c r R = leads_by c r.mode r.lead R
 
 abbrev pub coordinator_meets_by : {V : Type 0} → (V → V → V) → ℕ → Mode → ℕ → (ℕ → Option V) → List V
 coordinator_meets_by meet c Single lead f = add_meet (cond (nat_lt lead c) (f lead) None) []
@@ -39,8 +30,8 @@ abbrev pub is_enough : {V : Type 0} → ℕ → (ℕ → Option (Round × V)) �
 is_enough a f = not (nat_lt (members (answers_by f) a) (majority a))
 
 -- the tables for a acceptors and c coordinators
-abbrev pub protocol : {V C : Type 0} → Operations V C → ℕ → ℕ → Tables
-protocol {V} {C} o a c = record {
+abbrev pub protocol : {V C D : Type 0} → Operations V C D → ℕ → ℕ → Tables
+protocol {V} {C} {D} o a c = record {
   Value = V;
   prefix = o.prefix;
   empty = o.empty;
@@ -50,12 +41,17 @@ protocol {V} {C} o a c = record {
   push = o.push;
   has = o.has;
   size = o.size;
+  Draft = D;
+  numbered = o.numbered;
+  proposer_of = o.proposer_of;
+  number_of = o.number_of;
   Round = Round;
   zero = round_zero;
   earlier = earlier;
   same = same_round;
   fast = λ r. is_fast r.mode;
   multi = λ r. is_multi r.mode;
+  owns = is_owner c;
   acceptors = a;
   coordinators = c;
   first_quorum = majority a;

@@ -12,6 +12,11 @@ pub record Tables : Type 1 where
   pub push : Value → Command → Value
   pub has : Value → Command → Bool
   pub size : Value → ℕ
+  -- the command that a proposer makes of a draft as the offer of this number, and of a command its proposer and number
+  pub Draft : Type 0
+  pub numbered : ℕ → ℕ → Draft → Command
+  pub proposer_of : Command → ℕ
+  pub number_of : Command → ℕ
   -- rounds: the first of all, their order, whether two are the same, and their modes
   pub Round : Type 0
   pub zero : Round
@@ -19,6 +24,8 @@ pub record Tables : Type 1 where
   pub same : Round → Round → Bool
   pub fast : Round → Bool
   pub multi : Round → Bool
+  -- whether a coordinator owns a round, and so may begin it
+  pub owns : ℕ → Round → Bool
   -- how many nodes there are, and the least sizes of quorums of acceptors: of the first phase, and of a round
   pub acceptors : ℕ
   pub coordinators : ℕ

@@ -8,8 +8,10 @@ ghost use Rattle.gp_cstructs.specs.CStructs.{Operations, Laws};
 /// Its members are all that the laws of this crate know of values and commands.
 pub trait CStructs {
     type Command;
+    /// What a proposer makes a command of: a command without its identity.
+    type Draft;
 
-    ghost operations: { Operations Self Self.Command };
+    ghost operations: { Operations Self Self.Command Self.Draft };
 
     /// How many commands the value has.
     fn size(&self) -> usize

@@ -9,25 +9,31 @@ ghost use Rattle.gp_cstructs.specs.Tables.{P1b};
 ghost use Rattle.gp_cstructs.specs.Loose.{Event, System, Fits, Loose, happens, run};
 ghost use Rattle.gp_cstructs.specs.Facts.{Facts, IsVote, HadVote, IsSafe, IsChosen, ledger_of};
 ghost use Rattle.gp_cstructs.specs.Offered.{AllOffered};
+ghost use Rattle.gp_cstructs.specs.ProposedOnce.{AreProposedOnce};
 ghost use Rattle.gp_cstructs.specs.LooseAgreement.{AgreesLoosely};
-ghost use Rattle.gp_cstructs.specs.Protocol.{Leads, protocol};
+ghost use Rattle.gp_round.specs.Quorums.{IsCoordinatorQuorum};
+ghost use Rattle.gp_cstructs.specs.Protocol.{protocol};
 
 use crate::cstructs::CStructs;
 
 /// Each event that may happen keeps the facts, from any system that has them all.
 pub fn each_step_keeps_the_facts<V: CStructs>()
     ensures facts { (a c : ℕ) → 0 < a → let T = protocol V.operations a c in
-        (w : System T) (e : Event T) → Facts T (Leads c) w → Fits T w e → Facts T (Leads c) (happens T w e) }
+        (w : System T) (e : Event T) → Facts T (IsCoordinatorQuorum c) w → Fits T w e → Facts T (IsCoordinatorQuorum c) (happens T w e) }
     ensures offered { (a c : ℕ) → let T = protocol V.operations a c in
         (w : System T) (e : Event T) → AllOffered T w → Fits T w e → AllOffered T (happens T w e) }
+    ensures once { (a c : ℕ) → let T = protocol V.operations a c in
+        (w : System T) (e : Event T) → AreProposedOnce T w → AreProposedOnce T (happens T w e) }
 {}
 
 /// All facts hold after a loose list.
 pub fn loose_lists_have_the_facts<V: CStructs>()
     ensures facts { (a c : ℕ) → 0 < a → let T = protocol V.operations a c in
-        (es : List (Event T)) → Loose T es → Facts T (Leads c) (run T es) }
+        (es : List (Event T)) → Loose T es → Facts T (IsCoordinatorQuorum c) (run T es) }
     ensures offered { (a c : ℕ) → let T = protocol V.operations a c in
         (es : List (Event T)) → Loose T es → AllOffered T (run T es) }
+    ensures once { (a c : ℕ) → let T = protocol V.operations a c in
+        (es : List (Event T)) → AreProposedOnce T (run T es) }
 {}
 
 /// The votes that the facts speak of are those that an acceptor had at some moment of the list.
@@ -41,7 +47,7 @@ pub fn votes_are_those_that_an_acceptor_had<V: CStructs>()
 /// The choice from answers of a quorum of the first phase of a round is safe at that round.
 pub fn the_safe_choice_is_safe<V: CStructs>()
     ensures { (a c : ℕ) → 0 < a → let T = protocol V.operations a c in
-        (w : System T) → Facts T (Leads c) w
+        (w : System T) → Facts T (IsCoordinatorQuorum c) w
         → (r : Round) (answers : ℕ → Option (Round × V))
         → ((i : ℕ) (q : Round) (v : V) → answers i ≡ Some (q, v) → Among w.sent (P1b r i q v))
         → T.is_enough answers ≡ true → IsSafe T (ledger_of T w) (T.safe_choice answers) r }
@@ -50,7 +56,7 @@ pub fn the_safe_choice_is_safe<V: CStructs>()
 /// Votes of one round that is not fast are compatible.
 pub fn votes_of_a_round_are_compatible<V: CStructs>()
     ensures { (a c : ℕ) → 0 < a → let T = protocol V.operations a c in
-        (w : System T) → Facts T (Leads c) w
+        (w : System T) → Facts T (IsCoordinatorQuorum c) w
         → (r : Round) → T.fast r ≡ false → (i j : ℕ) (x y : V) → IsVote T w.cast i r x → IsVote T w.cast j r y
         → Compatible T.prefix x y }
 {}
@@ -58,7 +64,7 @@ pub fn votes_of_a_round_are_compatible<V: CStructs>()
 /// Two chosen values, in any rounds, are compatible.
 pub fn chosen_values_are_compatible<V: CStructs>()
     ensures { (a c : ℕ) → 0 < a → let T = protocol V.operations a c in
-        (w : System T) → Facts T (Leads c) w
+        (w : System T) → Facts T (IsCoordinatorQuorum c) w
         → (x y : V) (r j : Round) → IsChosen T (ledger_of T w) x r → IsChosen T (ledger_of T w) y j
         → Compatible T.prefix x y }
 {}

@@ -12,7 +12,7 @@ use Rattle.gp_run.specs.Messages.{messages}
 use Rattle.gp_run.specs.Legal.{fits, sent_at}
 use Rattle.gp_run.specs.Runs.{entry_after, run_onto}
 use Rattle.gp_msg.specs.declared.event.Event.TheVariants.{Take}
-use Rattle.gp_run.specs.Nodes.{is_present}
+use Rattle.gp_msg.specs.Nodes.{is_present}
 use Rattle.gp_driver.specs.Sweeps.{is_of, is_there, places_from, first_place, places, takes, swept}
 use Rattle.gp_driver.proofs.TakingAll.{grown, drop-at, there_is}
 use native.Mathlib.Numerals.{add-one}

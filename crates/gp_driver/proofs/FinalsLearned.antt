@@ -2,6 +2,7 @@
 use Rattle.std.proofs.Common.{◌≡◌, ℕ, zero, suc, ◌<◌, Bool, true, false, cond, List, [], ◌∷◌, Some, None, inl, inr, refl, sym, ap, ◌∙◌, subst, arith}
 use Rattle.std.specs.Prelude.{Option, nat_eq, slice_get}
 use Rattle.std.proofs.lemmas.Bool.{eq-eqb, eqb-true, cases_eq}
+use Rattle.std.specs.Option.{option_or}
 use Rattle.gp_command.specs.declared.command.Command.{Command}
 use Rattle.gp_history.specs.History.{History, IsHistory, has}
 use Rattle.gp_history.proofs.Tests.{left_of, right_of}
@@ -10,7 +11,7 @@ use Rattle.gp_round.specs.Counts.{Counts}
 use Rattle.gp_msg.specs.Messages.{Stamped, Offered, InEpoch, Final, Entry}
 use Rattle.gp_run.specs.Messages.{messages}
 use Rattle.gp_run.specs.States.{learner_at}
-use Rattle.gp_run.specs.Learned.{learned_at, base_at, base, joined_with, first_final, or_else}
+use Rattle.gp_run.specs.Learned.{learned_at, base_at, base, joined_with, first_final}
 use Rattle.gp_run.specs.Agreement.{Agrees, IsLearned}
 use Rattle.gp_driver.proofs.Closings.{AllSound}
 use Rattle.gp_driver.proofs.Offers.{contained}
@@ -29,7 +30,7 @@ first_stands e [] w h = cc
 first_stands e (Offered c ∷ ms) w h = later e (Offered c) ms w (first_stands e ms w h)
 first_stands e (InEpoch i m ∷ ms) w h = later e (InEpoch i m) ms w (first_stands e ms w h)
 first_stands e (Final i l v ∷ ms) w h = by (nat_eq i e) refl h (first_stands e ms w) where
-  by : (b : Bool) → nat_eq i e ≡ b → or_else (cond b (Some v) None) (first_final e ms) ≡ Some w → (first_final e ms ≡ Some w → FirstFinal e ms w) → FirstFinal e (Final i l v ∷ ms) w
+  by : (b : Bool) → nat_eq i e ≡ b → option_or (cond b (Some v) None) (first_final e ms) ≡ Some w → (first_final e ms ≡ Some w → FirstFinal e ms w) → FirstFinal e (Final i l v ∷ ms) w
   by true q t more = record { place = 0; learner = l; there = (let is : v ≡ w = cc in λ j. Some (Final (eqb-true i e q j) l (is j))) }
   by false q t more = later e (Final i l v) ms w (more t)
 
@@ -41,9 +42,9 @@ there_is_one e (InEpoch i m ∷ ms) zero l v h n = cc
 there_is_one e (InEpoch i m ∷ ms) (suc k) l v h n = there_is_one e ms k l v h n
 there_is_one e (Final i j w ∷ ms) zero l v h n = here (let is : i ≡ e = cc in eq-eqb i e is) where
   here : nat_eq i e ≡ true → ⊥
-  here q = let bad : Some w ≡ None = sym (ap (λ b. or_else (cond b (Some w) None) (first_final e ms)) q) ∙ n in cc
+  here q = let bad : Some w ≡ None = sym (ap (λ b. option_or (cond b (Some w) None) (first_final e ms)) q) ∙ n in cc
 there_is_one e (Final i j w ∷ ms) (suc k) l v h n = there_is_one e ms k l v h (rest (nat_eq i e) n) where
-  rest : (b : Bool) → or_else (cond b (Some w) None) (first_final e ms) ≡ None → first_final e ms ≡ None
+  rest : (b : Bool) → option_or (cond b (Some w) None) (first_final e ms) ≡ None → first_final e ms ≡ None
   rest true t = cc
   rest false t = t
 

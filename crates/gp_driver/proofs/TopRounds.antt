@@ -22,7 +22,7 @@ use Rattle.gp_msg.specs.declared.node.Node.{Node}
 use Rattle.gp_msg.specs.declared.node.Node.TheVariants.{Proposer, Coordinator, Acceptor, Learner}
 use Rattle.gp_msg.specs.declared.event.Event.{Event}
 use Rattle.gp_msg.specs.declared.event.Event.TheVariants.{Begin, Take}
-use Rattle.gp_run.specs.Nodes.{is_present}
+use Rattle.gp_msg.specs.Nodes.{is_present}
 use Rattle.gp_run.proofs.Counting.{AreUpTo, none_up_to, cons_up_to, head_up_to, tail_up_to, append_up_to, left_up_to, right_up_to, each_up_to, below_up_to, up_to_below, up_to_each}
 use Rattle.gp_run.proofs.RoleRounds.{IsUpTo, two_up_to, AcceptorIsUpTo, acceptor_takes, RepliesUpTo, no_rounds, coordinator_begins, coordinator_takes, learner_takes}
 use Rattle.gp_coordinator.specs.State.{CoordinatorState}

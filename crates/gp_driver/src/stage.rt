@@ -4,7 +4,7 @@ ghost use Rattle.std.specs.Option.{option_map};
 ghost use Rattle.gp_round.specs.Ranges.{AreInRange};
 ghost use Rattle.gp_run.specs.Messages.{messages};
 ghost use Rattle.gp_run.specs.Legal.{fits};
-ghost use Rattle.gp_run.specs.Nodes.{node_of};
+ghost use Rattle.gp_msg.specs.Nodes.{node_of};
 ghost use Rattle.gp_run.specs.Runs.{entry_after};
 ghost use Rattle.gp_run.specs.TopCount.{top_count};
 ghost use Rattle.gp_driver.specs.Kinds.{kind_of};

@@ -1,8 +1,8 @@
 //! Sweeps: nodes take messages one after another.
 ghost use Rattle.std.specs.Prelude.{◌≡◌, ◌<◌, ◌≤◌, ◌^◌, ◌∷◌, [], ℕ, true, false, length, slice_get};
 ghost use Rattle.gp_run.specs.Legal.{fits};
-ghost use Rattle.gp_run.specs.Nodes.{is_present};
-ghost use Rattle.gp_run.specs.Nodes as run_nodes;
+ghost use Rattle.gp_msg.specs.Nodes.{is_present};
+ghost use Rattle.gp_msg.specs.Nodes as run_nodes;
 ghost use Rattle.gp_run.specs.Messages.{messages};
 ghost use Rattle.gp_run.specs.Runs.{entry_after};
 ghost use Rattle.gp_driver.specs.Sweeps.{is_there, places, took, swept, sweep, first_place};

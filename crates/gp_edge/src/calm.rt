@@ -7,7 +7,7 @@ use crate::refusal::{Failed, Refused};
 use crate::sink::Sink;
 use crate::source::Source;
 use crate::unread::Unread;
-use gp_command::NoMemory;
+use gp_memory::NoMemory;
 use std::alloc::Global;
 use std::marker::Model;
 

@@ -11,7 +11,7 @@ use crate::disk::Disk;
 use crate::medium::Medium;
 use crate::refusal::Refused;
 use crate::schedule::Schedule;
-use gp_command::NoMemory;
+use gp_memory::NoMemory;
 use std::alloc::Global;
 use std::marker::Model;
 

@@ -10,7 +10,7 @@ use crate::schedule::Schedule;
 use crate::sink::Sink;
 use crate::source::Source;
 use crate::unread::Unread;
-use gp_command::NoMemory;
+use gp_memory::NoMemory;
 use std::alloc::Global;
 use std::marker::Model;
 

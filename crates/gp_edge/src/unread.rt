@@ -2,7 +2,7 @@
 ghost use Rattle.std.specs.Prelude.{◌≡◌, IfOk, length, take, drop, min};
 ghost use Rattle.gp_edge.specs.Reads.{overlaid};
 
-use gp_command::NoMemory;
+use gp_memory::NoMemory;
 use std::alloc::Global;
 use std::marker::Model;
 

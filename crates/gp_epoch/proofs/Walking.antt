@@ -15,7 +15,7 @@ use Rattle.gp_history.proofs.Push.{has-push, push_last, before_history_of}
 use Rattle.gp_history.proofs.Joins.{history_of_is, history_of-push, history_of-append}
 use Rattle.gp_history.proofs.Bound.{pushed_extends}
 use Rattle.gp_history.proofs.Places.{take_next}
-use Rattle.gp_bounds.proofs.Joining.{pushed_sequence}
+use Rattle.gp_history.proofs.Pushing.{pushed_sequence}
 use Rattle.gp_epoch.specs.Cut.{first_checkpoint, cut_at, cut}
 use Rattle.gp_epoch.proofs.Checkpoints.{is_checkpoint, checkpoint_conflicts, found_in, found_first, none_found, found_is_first, first_is_found}
 use Rattle.gp_epoch.proofs.Cuts.{has-cut_at, before-cut_at, cut_is, cut_above}

@@ -21,7 +21,7 @@ impl Model for Done {
     ghost use Rattle.std.specs.FinSet as set;
     ghost use Rattle.gp_command.specs.Order.{command_cmp};
     ghost use Rattle.gp_history.specs.Sequence.{history_of};
-    ghost use Rattle.gp_epoch.specs.Sets.{commands_code};
+    ghost use Rattle.gp_epoch.specs.Codes.{commands_code};
 
     ghost Value = { set.FinSet command_cmp };
 

@@ -6,6 +6,7 @@ use Rattle.gp_command.specs.declared.command.Command.{Command}
 use Rattle.gp_command.specs.Conflict.{same}
 use Rattle.gp_command.specs.Views.{DraftView}
 use Rattle.gp_command.proofs.ConflictLemmas.{same-true}
+use Rattle.gp_command.specs.declared.command.TheConstants.{PROPOSERS}
 use Rattle.gp_history.specs.History.{History, IsHistory, has, size}
 use Rattle.gp_history.specs.Sequence.{no_repeat}
 use Rattle.gp_history.specs.Canonical.{canonical}
@@ -23,7 +24,6 @@ use Rattle.gp_run.specs.Agreement.{Agrees}
 use Rattle.gp_run.specs.Legal.{Legal}
 use Rattle.gp_run.specs.Learned.{learned_at}
 use Rattle.gp_run.specs.Messages.{messages}
-use Rattle.gp_run.specs.Nodes.{proposers}
 use Rattle.gp_run.specs.Runs.{entries_in}
 use Rattle.gp_agreement.proofs.Agreement.{agrees}
 use Rattle.gp_driver.specs.Settled.{AllLearned}
@@ -66,7 +66,7 @@ module _ (config : Counts) (offers : List (ℕ × DraftView)) (known : All IsKno
   abbrev es : List Entry
   es = entries_in list
 
-  same_drafts : (p : ℕ) → p < proposers → drafts_at p es ≡ drafts_by p offers
+  same_drafts : (p : ℕ) → p < PROPOSERS → drafts_at p es ≡ drafts_by p offers
   same_drafts p there = drafts_of_list config p list legal ∙ ap (drafts_in p) (offered p there) ∙ drafts_of_moves p offers
 
   -- what is made of the drafts of a run is made of those of the script

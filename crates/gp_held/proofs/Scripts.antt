@@ -8,11 +8,11 @@ use Rattle.gp_command.specs.declared.command.Command.{Command}
 use Rattle.gp_command.specs.Conflict.{same}
 use Rattle.gp_command.specs.Views.{DraftView}
 use Rattle.gp_command.proofs.ConflictLemmas.{same_itself, same-true}
+use Rattle.gp_command.specs.declared.command.TheConstants.{PROPOSERS}
 use Rattle.gp_history.specs.Sequence.{no_repeat}
 use Rattle.gp_history.proofs.Tests.{In, both, left_of, right_of, one_of, not_true}
 use Rattle.gp_cstructs.specs.CStructs.{Among}
 use Rattle.gp_msg.specs.declared.node.Node.TheVariants.{Proposer}
-use Rattle.gp_run.specs.Nodes.{proposers}
 use Rattle.gp_work.specs.declared.moves.Move.{Move}
 use Rattle.gp_work.specs.declared.moves.Move.TheVariants as move
 use Rattle.gp_work.specs.Moves.{event_of}
@@ -152,15 +152,15 @@ script_made os c m = let h = among_after [] os c m in let n = h.number in record
 pub made_script : (os : List (ℕ × DraftView)) (c : Command) → IsMade (λ p. drafts_by p os) c.id.proposer c.id.number c.draft → Among (commands_of os) c
 made_script os c h = let n = h.numbers in after_among [] os c (record { place = h.place; number = omega arith; there = h.there })
 
-known_after : (earlier os : List (ℕ × DraftView)) → All IsKnown os → (c : Command) → Among (commands_after earlier os) c → c.id.proposer < proposers
+known_after : (earlier os : List (ℕ × DraftView)) → All IsKnown os → (c : Command) → Among (commands_after earlier os) c → c.id.proposer < PROPOSERS
 known_after earlier [] known c m = elim m [ ]
 known_after earlier (o ∷ os) known c m = elim m [
-  | inl e ↦ subst (λ (x : Command). x.id.proposer < proposers) e (All-head IsKnown o os known)
+  | inl e ↦ subst (λ (x : Command). x.id.proposer < PROPOSERS) e (All-head IsKnown o os known)
   | inr n ↦ known_after (earlier ++ o ∷ []) os (All-tail IsKnown o os known) c n
 ]
 
 -- their proposers are some of the eight
-pub script_known : (os : List (ℕ × DraftView)) → All IsKnown os → (c : Command) → Among (commands_of os) c → c.id.proposer < proposers
+pub script_known : (os : List (ℕ × DraftView)) → All IsKnown os → (c : Command) → Among (commands_of os) c → c.id.proposer < PROPOSERS
 script_known os known c m = known_after [] os known c m
 
 length_after : (earlier os : List (ℕ × DraftView)) → length (commands_after earlier os) ≡ length os

@@ -5,6 +5,7 @@ use Rattle.std.specs.Option.{option_to_list}
 use Rattle.std.proofs.lemmas.Bool.{eq-eqb, ltb-true}
 use Rattle.gp_command.specs.declared.command.Command.{Command}
 use Rattle.gp_command.specs.Views.{DraftView}
+use Rattle.gp_command.specs.declared.command.TheConstants.{PROPOSERS}
 use Rattle.gp_round.specs.Counts.{Counts}
 use Rattle.gp_cstructs.specs.CStructs.{Among}
 use Rattle.gp_cstructs.proofs.Lists.{among_append, among_left, among_right, get_append}
@@ -16,7 +17,7 @@ use Rattle.gp_msg.specs.Messages.{Stamped, Offered, Entry}
 use Rattle.gp_proposer.specs.State.{ProposerState}
 use Rattle.gp_proposer.specs.Table.{proposer_offer, numbered}
 use Rattle.gp_run.specs.Messages.{messages}
-use Rattle.gp_run.specs.Nodes.{node_of, proposers}
+use Rattle.gp_msg.specs.Nodes.{node_of}
 use Rattle.gp_run.specs.Legal.{fits, sent_by, sent_at, Follows, Legal}
 use Rattle.gp_run.specs.States.{proposer_acts, proposer_at, coordinator_at, acceptor_at, learner_at}
 use Rattle.gp_agreement.proofs.Sending.{Ballots, Finals, acceptor_sends, coordinator_sends, learner_sends, one_sent}
@@ -96,7 +97,7 @@ module _ (config : Counts) (es : List Entry) where
       λ i. record { id = record { proposer = own_number c.id.proposer es i; number = number i }; draft = c.draft }
 
   module _ (e : Entry) (f : Follows config es e) where
-    sent_made : (c : Command) → Among e.sent (Offered c) → IsMadeIn (e ∷ es) c × (c.id.proposer < proposers)
+    sent_made : (c : Command) → Among e.sent (Offered c) → IsMadeIn (e ∷ es) c × (c.id.proposer < PROPOSERS)
     sent_made c m =
         let o = offer_of e.event c (one_sent (sent_by config es (node_of e.event) e.event) (Offered c) (subst (λ (ms : List Stamped). Among ms (Offered c)) f.own_messages m)) in
         let known : o.proposer < 8 = ltb-true o.proposer 8 (ap (fits config es) (sym o.event_is) ∙ f.event_fits) in
@@ -113,7 +114,7 @@ module _ (config : Counts) (es : List Entry) where
 -- ---- all entries
 
 -- each command that was offered is made of a draft of its proposer, which is one of the eight
-pub offered_made : (config : Counts) (es : List Entry) → Legal config es → (c : Command) → Among (messages es) (Offered c) → IsMadeIn es c × (c.id.proposer < proposers)
+pub offered_made : (config : Counts) (es : List Entry) → Legal config es → (c : Command) → Among (messages es) (Offered c) → IsMadeIn es c × (c.id.proposer < PROPOSERS)
 offered_made config [] legal c m = elim m [ ]
 offered_made config (e ∷ es) legal c m = elim (among_append (messages es) e.sent (Offered c) m) [
   | inl a ↦

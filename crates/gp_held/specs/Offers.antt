@@ -2,16 +2,16 @@
 use Rattle.std.specs.Prelude.{◌≡◌, ◌<◌, ◌+◌, ℕ, List, [], ◌∷◌, ◌++◌, length, map}
 use Rattle.gp_command.specs.declared.command.Command.{Command}
 use Rattle.gp_command.specs.Views.{DraftView}
+use Rattle.gp_command.specs.declared.command.TheConstants.{PROPOSERS}
 use Rattle.gp_msg.specs.declared.node.Node.TheVariants.{Proposer}
 use Rattle.gp_msg.specs.declared.record.Record.{Record}
-use Rattle.gp_run.specs.Nodes.{proposers}
 use Rattle.gp_rules.specs.Own.{own_events}
 use Rattle.gp_work.specs.Moves.{event_of}
 use Rattle.gp_seats.specs.Offering.{moves_of}
 
 -- each proposer made its own of these offers, in their order, and did nothing else
 abbrev pub AreOffered : List (ℕ × DraftView) → List Record → Type 0
-AreOffered offers list = (p : ℕ) → p < proposers → own_events (Proposer p) list ≡ map (event_of (Proposer p)) (moves_of (Proposer p) offers)
+AreOffered offers list = (p : ℕ) → p < PROPOSERS → own_events (Proposer p) list ≡ map (event_of (Proposer p)) (moves_of (Proposer p) offers)
 
 -- the command that an offer makes after earlier ones: its number is 1 more than how many of those are of its proposer
 abbrev pub command_after : List (ℕ × DraftView) → ℕ × DraftView → Command

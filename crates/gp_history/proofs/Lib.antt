@@ -21,3 +21,5 @@ pub mod Ready
 pub mod Counts
 pub mod Swaps
 pub mod Alike
+pub mod Pushing
+pub mod Fronts

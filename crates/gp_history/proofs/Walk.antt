@@ -3,6 +3,7 @@ use Rattle.std.proofs.Common.{◌≡◌, ℕ, zero, suc, ◌<◌, ◌≤◌, Boo
 use Rattle.std.specs.Prelude.{Option, Some, None, slice_get, nat_le}
 use Rattle.std.specs.FinSet as set
 use Rattle.std.proofs.lemmas.Bool.{leb-true, le-leb, true≢false}
+use Rattle.std.proofs.Math.Seq.{take-append_seam}
 use Rattle.gp_command.specs.declared.command.Command.{Command}
 use Rattle.gp_history.specs.History.{History}
 use Rattle.gp_history.specs.Sequence.{history_of}
@@ -11,10 +12,6 @@ use Rattle.gp_history.specs.Canonical.{next_least, and_next, least_first, canoni
 length_push : (xs : List Command) (c : Command) → length (xs ++ c ∷ []) ≡ suc (length xs)
 length_push [] c = refl
 length_push (x ∷ xs) c = ap suc (length_push xs c)
-
-take_front : (xs ys : List Command) → take (length xs) (xs ++ ys) ≡ xs
-take_front [] ys = refl
-take_front (x ∷ xs) ys = ap (λ zs. x ∷ zs) (take_front xs ys)
 
 get_behind : (xs : List Command) (c : Command) (ys : List Command) → slice_get (xs ++ c ∷ ys) (length xs) ≡ Some c
 get_behind [] c ys = refl
@@ -89,7 +86,7 @@ module _ (h : History) where
         | grows c e f ↦
             let r = extends (suc i) m (omega (arith, le)) in
             let whole : least_first m h ≡ least_first i h ++ c ∷ r.0 = r.1 ∙ ap (λ xs. xs ++ r.0) f ∙ append_assoc (least_first i h) (c ∷ []) r.0 in
-            let front : take i (least_first m h) ≡ least_first i h = ap (take i) whole ∙ ap (λ n. take n (least_first i h ++ c ∷ r.0)) (sym len) ∙ take_front (least_first i h) (c ∷ r.0) in
+            let front : take i (least_first m h) ≡ least_first i h = ap (take i) whole ∙ ap (λ n. take n (least_first i h ++ c ∷ r.0)) (sym len) ∙ take-append_seam (least_first i h) (c ∷ r.0) in
             let there : slice_get (least_first m h) i ≡ Some c = ap (λ xs. slice_get xs i) whole ∙ ap (slice_get (least_first i h ++ c ∷ r.0)) (sym len) ∙ get_behind (least_first i h) c r.0 in
             ap (λ xs. next_least h (history_of xs)) front ∙ e ∙ sym there
       ]

@@ -37,7 +37,8 @@ impl Model for Learner {
     ghost use Rattle.gp_history.specs.Sequence.{history_of};
     ghost use Rattle.gp_history.specs.Bounds.{join};
     ghost use Rattle.gp_epoch.specs.Cut.{first_checkpoint};
-    ghost use Rattle.gp_learner.specs.Epochs.{LearnerInEpoch, epoch_code};
+    ghost use Rattle.gp_learner.specs.Epochs.{LearnerInEpoch};
+    ghost use Rattle.gp_learner.specs.Codes.{epoch_code};
 
     ghost Value = { LearnerInEpoch };
 
@@ -50,7 +51,7 @@ impl Model for Learner {
 
 impl Learner {
     /// A learner that has heard nothing: it is in epoch 0. `number` is its number among the learners, from 0.
-    #[tactic(auto, using(crate::proofs::Learning::history_of_nothing))]
+    #[tactic(auto, using(gp_history::proofs::Pushing::history_of_nothing))]
     pub fn new(alloc: Global, config: &Config, number: u32) -> Result<Learner, NoMemory>
         ensures { IfOk result (λ l. l ≡ opening config.now number) }
     {
@@ -105,7 +106,7 @@ impl Learner {
     }
 
     /// Crashes and restarts in epoch 0: all that it held and learned is lost. It takes no memory.
-    #[tactic(auto, using(crate::proofs::Learning::history_of_nothing))]
+    #[tactic(auto, using(gp_history::proofs::Pushing::history_of_nothing))]
     pub fn fall(&mut self)
         ensures { self.new ≡ fall self.old }
     {

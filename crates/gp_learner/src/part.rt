@@ -28,7 +28,8 @@ pub struct Part {
 
 impl Model for Part {
     ghost use Rattle.gp_history.specs.Sequence.{history_of};
-    ghost use Rattle.gp_learner.specs.State.{LearnerState, state_code};
+    ghost use Rattle.gp_learner.specs.State.{LearnerState};
+    ghost use Rattle.gp_learner.specs.Codes.{state_code};
     ghost use Rattle.gp_learner.specs.UpToDate.{IsUpToDate};
 
     ghost Value = { LearnerState };
@@ -42,7 +43,7 @@ impl Model for Part {
 
 impl Part {
     /// The state in which nothing was heard.
-    #[tactic(auto, using(crate::proofs::Learning::history_of_nothing, crate::proofs::StaysUpToDate::up_to_date_at_start))]
+    #[tactic(auto, using(gp_history::proofs::Pushing::history_of_nothing, crate::proofs::StaysUpToDate::up_to_date_at_start))]
     pub fn new(alloc: Global, config: &Config, number: u32) -> Result<Part, NoMemory>
         ensures { IfOk result (λ l. l ≡ opening config.now number) }
     {
@@ -77,7 +78,7 @@ impl Part {
     }
 
     /// Returns to the state in which nothing was heard. It takes no memory.
-    #[tactic(auto, using(crate::proofs::Learning::history_of_nothing, crate::proofs::StaysUpToDate::up_to_date_at_start))]
+    #[tactic(auto, using(gp_history::proofs::Pushing::history_of_nothing, crate::proofs::StaysUpToDate::up_to_date_at_start))]
     pub fn clear(&mut self)
         ensures { self.new ≡ opening self.old.config self.old.number }
     {
@@ -121,7 +122,7 @@ impl Part {
         vote: &History,
     ) -> Result<Option<History>, NoMemory>
         requires { acceptor < self.now.config.acceptors }
-        ensures { IfOk result (λ l. unwrap_or (option_map history_of l) self.now.learned ≡ learned_with self.now.learned (heard self.now.config.acceptors round (vote_of (votes_held self.now.votes round acceptor (Some (history_of vote.now))) round))) }
+        ensures { IfOk result (λ l. unwrap_or (option_map history_of l) self.now.learned ≡ (hearing self.now round (votes_held self.now.votes round acceptor (Some (history_of vote.now)))).learned) }
     {
         let votes = Votes {
             votes: &self.votes,

@@ -7,7 +7,7 @@ use Rattle.gp_msg.specs.declared.event.Event.{Event}
 use Rattle.gp_msg.specs.declared.record.Record.{Record}
 use Rattle.gp_msg.specs.declared.durable.Durable.{Durable}
 use Rattle.gp_msg.specs.Messages.{EpochPart, Entry, entry_of, part_of}
-use Rattle.gp_run.specs.Nodes.{node_of}
+use Rattle.gp_msg.specs.Nodes.{node_of}
 use Rattle.gp_run.specs.Runs.{entries_in}
 use Rattle.gp_vlog.specs.Logs.{LogState}
 use Rattle.gp_rules.specs.Own.{own}

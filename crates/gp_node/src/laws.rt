@@ -4,7 +4,7 @@ ghost use Rattle.gp_round.specs.Counts.{Counts};
 ghost use Rattle.gp_msg.specs.declared.event.Event.{Event};
 ghost use Rattle.gp_msg.specs.declared.node.Node.{Node};
 ghost use Rattle.gp_msg.specs.declared.record.Record.{Record};
-ghost use Rattle.gp_run.specs.Nodes.{node_of};
+ghost use Rattle.gp_msg.specs.Nodes.{node_of};
 ghost use Rattle.gp_run.specs.Runs.{entries_in};
 ghost use Rattle.gp_vlog.specs.Logs.{LogState};
 ghost use Rattle.gp_rules.specs.Own.{own};

@@ -1,6 +1,6 @@
 //! One node at a wire of its own, with a log on a disk in memory.
 ghost use Rattle.std.specs.Prelude.{◌≡◌, [], ◌∷◌, true, None, IfOk};
-ghost use Rattle.gp_run.specs.Nodes.{is_present};
+ghost use Rattle.gp_msg.specs.Nodes.{is_present};
 ghost use Rattle.gp_wire.specs.Known.{records};
 ghost use Rattle.gp_rules.specs.Cores.{opening, part_in};
 ghost use Rattle.gp_cell.specs.Cells.{IsFreshLog};

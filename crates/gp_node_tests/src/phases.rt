@@ -1,6 +1,6 @@
 //! Phases of work in threads: a proposer offers a command, a coordinator begins a round, and the learner learns it.
 ghost use Rattle.std.specs.Prelude.{◌≡◌, ◌<◌, ◌≤◌, false, length, IfOk, IfSome, All};
-ghost use Rattle.gp_run.specs.Nodes.{is_present};
+ghost use Rattle.gp_msg.specs.Nodes.{is_present};
 ghost use Rattle.gp_wire.specs.Lists.{Each};
 ghost use Rattle.gp_work.specs.Moves.{AllFit};
 ghost use Rattle.gp_node_tests.specs.Phases.{HasNoFault, IsFresh, IsReady};

@@ -1,6 +1,6 @@
 //! Phases until nothing is left to do: the leader begins a multi round, and a single round once that one has clashed.
 ghost use Rattle.std.specs.Prelude.{◌≡◌, ◌≤◌, ◌++◌, ◌∷◌, [], true, length, IfOk, OnOk, All};
-ghost use Rattle.gp_run.specs.Nodes.{is_present};
+ghost use Rattle.gp_msg.specs.Nodes.{is_present};
 ghost use Rattle.gp_wire.specs.Lists.{Each};
 ghost use Rattle.gp_work.specs.Moves.{AllFit};
 ghost use Rattle.gp_msg.specs.declared.node.Node.TheVariants.{Proposer};

@@ -7,7 +7,7 @@ use Rattle.std.proofs.lemmas.List.{length-append}
 use Rattle.std.proofs.lemmas.List.Elements.{All-push, All-nil}
 use Rattle.gp_round.specs.Counts.{Counts}
 use Rattle.gp_words.specs.Tokens.{tokens_of}
-use Rattle.gp_words.specs.Results.{◌>>=◌}
+use Rattle.gp_memory.specs.Results.{◌>>=◌}
 use Rattle.gp_service.specs.Stores.{store_language}
 use Rattle.gp_service.specs.StoreLaws.{store_spelled}
 use Rattle.gp_script.specs.declared.reason.Reason.TheVariants.{NoNodesLine, BadLine, TooManyCommands}

@@ -1,6 +1,7 @@
 -- What a script of `run` can offer, and the events of it.
 use Rattle.std.specs.Prelude.{◌≡◌, ℕ, ◌≤◌, ◌<◌, List, [], length, map}
 use Rattle.std.specs.List.{All}
+use Rattle.gp_command.specs.declared.command.TheConstants.{PROPOSERS}
 use Rattle.gp_round.specs.Ranges.{AreInRange}
 use Rattle.gp_msg.specs.declared.event.Event.{Event}
 use Rattle.gp_msg.specs.declared.event.Event.TheVariants as event
@@ -13,7 +14,7 @@ use Rattle.gp_offers.specs.Offering.{Offer}
 
 -- one of the eight proposers is given the draft of an operation of the key store
 abbrev pub IsOffer : Offer → Type 0
-IsOffer offer = (offer.0 < 8) × IsSpoken store_language offer.1
+IsOffer offer = (offer.0 < PROPOSERS) × IsSpoken store_language offer.1
 
 -- the configuration is in range, and there are no more offers than a script may have
 pub record AreOffered (offers : Offers) : Type 0 where

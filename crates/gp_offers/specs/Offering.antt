@@ -6,7 +6,7 @@ use Rattle.gp_round.specs.Counts.{Counts}
 use Rattle.gp_service.specs.Stores.{store_language}
 use Rattle.gp_words.specs.Lines.{lines_of, text_of}
 use Rattle.gp_words.specs.Tokens.{tokens_of}
-use Rattle.gp_words.specs.Results.{◌>>=◌}
+use Rattle.gp_memory.specs.Results.{◌>>=◌}
 use Rattle.gp_script.specs.declared.reason.Reason.{Reason}
 use Rattle.gp_script.specs.declared.reason.Reason.TheVariants.{TooLong, NoNodesLine, BadLine, TooManyCommands}
 use Rattle.gp_script.specs.declared.items.Item.{Item}

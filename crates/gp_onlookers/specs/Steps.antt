@@ -1,6 +1,6 @@
 -- What a look leaves.
 use Rattle.std.specs.Prelude.{◌≡◌, [], ◌∷◌, ◌++◌, Result, OnOk}
-use Rattle.gp_command.specs.declared.memory.NoMemory.{NoMemory}
+use Rattle.gp_memory.specs.declared.memory.NoMemory.{NoMemory}
 use Rattle.gp_views.specs.Lists.{Extends}
 use Rattle.gp_onlookers.specs.Ends.{WatcherView}
 use Rattle.gp_onlookers.specs.Looks.{look_after}

@@ -3,8 +3,9 @@ use Rattle.std.proofs.Common.{◌≡◌, ◌≢◌, ℕ, zero, suc, ◌+◌, ◌
 use Rattle.std.specs.Prelude.{slice_get, IfSome}
 use Rattle.std.specs.List.{All}
 use Rattle.std.specs.Option.{option_to_list}
-use Rattle.std.proofs.lemmas.List.{append-nil, map-append}
+use Rattle.std.proofs.lemmas.List.{append-nil, map-append, take-append-le}
 use Rattle.std.proofs.lemmas.Bool.Decides.{eqb_tells}
+use Rattle.std.proofs.lemmas.Option.{slice_get_within}
 use mathlib.Core.Logic.{dite}
 use native.Mathlib.Decide.{ℕ_discrete}
 use Rattle.gp_round.specs.declared.round.Round.{Round}
@@ -60,24 +61,12 @@ only_moves at i rs = dite (ℕ_discrete i at)
 
 -- ---- lists of rounds
 
-get_within : {A : Type 0} (xs : List A) (k : ℕ) (x : A) → slice_get xs k ≡ Some x → k < length xs
-get_within [] k x e = cc
-get_within (y ∷ xs) zero x e = omega arith
-get_within (y ∷ xs) (suc k) x e = let h = get_within xs k x e in omega arith
-
 get_front : {A : Type 0} (xs ys : List A) (k : ℕ) → k < length xs → slice_get (xs ++ ys) k ≡ slice_get xs k
 get_front [] ys k l = absurd (none l) where
   none : k < 0 → ⊥
   none l = omega (arith, l)
 get_front (x ∷ xs) ys zero l = refl
 get_front (x ∷ xs) ys (suc k) l = get_front xs ys k (omega (arith, l))
-
-take_front : {A : Type 0} (xs ys : List A) (k : ℕ) → k ≤ length xs → take k (xs ++ ys) ≡ take k xs
-take_front xs ys zero l = refl
-take_front [] ys (suc k) l = absurd (none l) where
-  none : suc k ≤ 0 → ⊥
-  none l = omega (arith, l)
-take_front (x ∷ xs) ys (suc k) l = ap (λ t. x ∷ t) (take_front xs ys k (omega (arith, l)))
 
 take_whole : {A : Type 0} (xs : List A) → take (length xs) xs ≡ xs
 take_whole [] = refl
@@ -149,11 +138,11 @@ module _ (answers : Answers) where
   -- the last round that was called is begun too
   one_more : (p : ProcessState) (begun : List Call) (c : Call) → HasBegunAll answers p begun → HasBegun answers p begun c → HasBegunAll answers p (begun ++ c ∷ [])
   one_more p begun c all last k x is = dite (ℕ_discrete k (length begun))
-      (λ here. let cut : take k (begun ++ c ∷ []) ≡ begun = take_front begun (c ∷ []) k (omega arith) ∙ ap (λ n. take n begun) here ∙ take_whole begun in
+      (λ here. let cut : take k (begun ++ c ∷ []) ≡ begun = take-append-le k begun (c ∷ []) (omega arith) ∙ ap (λ n. take n begun) here ∙ take_whole begun in
       subst (λ before. HasBegun answers p before x) (sym cut) (subst (λ y. HasBegun answers p begun y) (get_last begun c x k here is) last))
-      (λ other. let w = get_within (begun ++ c ∷ []) k x is in let n = length-append begun (c ∷ []) in
+      (λ other. let w = slice_get_within (begun ++ c ∷ []) k x is in let n = length-append begun (c ∷ []) in
       let below : k < length begun = omega arith in
-      subst (λ before. HasBegun answers p before x) (sym (take_front begun (c ∷ []) k (omega arith))) (all k x (sym (get_front begun (c ∷ []) k below) ∙ is)))
+      subst (λ before. HasBegun answers p before x) (sym (take-append-le k begun (c ∷ []) (omega arith))) (all k x (sym (get_front begun (c ∷ []) k below) ∙ is)))
 
   all_begun : (p q : ProcessState) (begun : List Call) (pending : Option Call) (took : List Event) → Goes p q → Posted p q (begins p.node (rounds (option_to_list pending)) ++ took)
       → HasBegunAll answers p begun → IfSome pending (IsToBegin answers p begun) → HasBegunAll answers q (begun ++ option_to_list pending)

@@ -10,7 +10,7 @@ use Rattle.gp_msg.specs.declared.node.Node.TheVariants.{Proposer, Coordinator}
 use Rattle.gp_msg.specs.declared.event.Event.{Event}
 use Rattle.gp_msg.specs.declared.event.Event.TheVariants.{Offer, Begin, Take, Fall}
 use Rattle.gp_msg.specs.declared.record.Record.{Record}
-use Rattle.gp_run.specs.Nodes.{is_present}
+use Rattle.gp_msg.specs.Nodes.{is_present}
 use Rattle.gp_run.specs.Legal.{Legal}
 use Rattle.gp_run.specs.Runs.{entries_in}
 use Rattle.gp_wire.specs.Lists.{Each, Has}

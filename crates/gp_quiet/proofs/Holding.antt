@@ -7,7 +7,7 @@ use Rattle.gp_msg.specs.declared.event.Event.{Event}
 use Rattle.gp_msg.specs.declared.record.Record.{Record}
 use Rattle.gp_msg.specs.Messages.{Entry}
 use Rattle.gp_run.specs.Messages.{messages}
-use Rattle.gp_run.specs.Nodes.{is_present}
+use Rattle.gp_msg.specs.Nodes.{is_present}
 use Rattle.gp_run.specs.Legal.{Legal}
 use Rattle.gp_run.specs.Runs.{entries_in}
 use Rattle.gp_run.proofs.Fitting.{node_there}

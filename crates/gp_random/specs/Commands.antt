@@ -1,5 +1,6 @@
 -- The commands of a workload, by draws from one generator.
 use Rattle.std.specs.Prelude.{ℕ, ◌%◌, nat_eq, nat_lt, if◌then◌else◌, List, ◌∷◌, decimal}
+use Rattle.gp_command.specs.declared.command.TheConstants.{PROPOSERS}
 use Rattle.rand_chacha.specs.ChaCha.{ChaCha}
 use Rattle.gp_store.specs.declared.op.Op.{Op}
 use Rattle.gp_store.specs.declared.op.Op.TheVariants.{Put, Add, Get, Del, Cas, Checkpoint}
@@ -37,6 +38,6 @@ op_at i g = if nat_eq (i % 32) 0 then (Checkpoint, g) else drawn_op g
 -- the proposer is drawn before the operation of command i, from 1
 abbrev pub offer_at : ℕ → ChaCha → Event × ChaCha
 offer_at i g =
-    let proposer = draw g 8 in
+    let proposer = draw g PROPOSERS in
     let op = op_at i proposer.1 in
     (Offer proposer.0 (draft_for op.0), op.1)

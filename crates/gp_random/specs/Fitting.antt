@@ -1,5 +1,6 @@
 -- What holds of every event of a workload, and of its plan at every time.
 use Rattle.std.specs.Prelude.{◌≡◌, ℕ, ◌+◌, ◌-◌, ◌≤◌, ◌<◌, true, Option, Some, None}
+use Rattle.gp_command.specs.declared.command.TheConstants.{PROPOSERS}
 use Rattle.gp_round.specs.Configs.{is_owner}
 use Rattle.gp_store.specs.declared.op.Op.{Op}
 use Rattle.gp_store.specs.Operations.{IsOp, draft_for}
@@ -18,7 +19,7 @@ IsNumbered (Learner l) = l < 2
 
 -- one of eight proposers offers the draft of an operation; a coordinator begins a round that it owns; a node takes one of so many messages, or falls and keeps nothing
 abbrev pub IsFit : ℕ → Event → Type 0
-IsFit have (Offer proposer draft) = (proposer < 8) × ((op : Op) × IsOp op × (draft ≡ draft_for op))
+IsFit have (Offer proposer draft) = (proposer < PROPOSERS) × ((op : Op) × IsOp op × (draft ≡ draft_for op))
 IsFit have (Begin coordinator round) = (coordinator < 3) × (is_owner 3 coordinator round ≡ true) × (round.count ≤ 2048)
 IsFit have (Take node message) = IsNumbered node × (message < have)
 IsFit have (Fall node kept) = IsNumbered node × (kept ≡ None)

@@ -2,7 +2,7 @@
 use Rattle.std.specs.Prelude.{ℕ, zero, suc, ◌+◌, ◌-◌, ◌*◌, min, nat_eq, nat_lt, if◌then◌else◌, Option, Some, None}
 use Rattle.gp_round.specs.declared.round.Mode.{Mode}
 use Rattle.gp_round.specs.declared.round.Mode.TheVariants.{Single, Multi, Fast}
-use Rattle.gp_round.specs.Configs.{lead_of}
+use Rattle.gp_round.specs.Configs.{round_of}
 use Rattle.gp_msg.specs.declared.node.Node.{Node}
 use Rattle.gp_msg.specs.declared.node.Node.TheVariants.{Coordinator, Acceptor, Learner}
 use Rattle.gp_msg.specs.declared.event.Event.{Event}
@@ -41,7 +41,7 @@ begins p =
     let c = draw p.schedule 3 in
     let m = draw c.1 3 in
     let mode = mode_numbered m.0 in
-    (Some (Begin c.0 (record { count = p.top_count + 1; mode = mode; lead = lead_of mode c.0 })), record p { schedule = m.1; top_count = p.top_count + 1 })
+    (Some (Begin c.0 (round_of c.0 (p.top_count + 1) mode)), record p { schedule = m.1; top_count = p.top_count + 1 })
 
 -- a node is drawn, and it falls and keeps nothing
 abbrev pub falls : Plan → Option Event × Plan

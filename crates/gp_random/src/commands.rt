@@ -3,15 +3,12 @@ ghost use Rattle.std.specs.Prelude.{◌≡◌, ◌<◌, IfOk};
 ghost use Rattle.gp_random.specs.Commands.{numbered_key, drawn_op, op_at, offer_at};
 
 use crate::draws::draw;
-use gp_command::{Key, NoMemory};
+use gp_command::{Key, NoMemory, PROPOSERS};
 use gp_msg::Event;
 use gp_store::{Op, draft_of};
 use gp_words::push_number;
 use rand_chacha::ChaCha20Rng;
 use std::alloc::Global;
-
-/// How many proposers offer commands.
-const PROPOSERS: u32 = 8;
 
 /// How many keys the commands have.
 const KEYS: u32 = 16;

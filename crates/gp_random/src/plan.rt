@@ -111,15 +111,7 @@ impl Plan {
         let coordinator = draw(&mut self.schedule, COORDINATORS);
         let mode = mode_numbered(draw(&mut self.schedule, 3));
         self.top_count += 1;
-        let lead = match mode {
-            Mode::Multi => 0,
-            Mode::Single | Mode::Fast => coordinator,
-        };
-        let round = Round {
-            count: self.top_count,
-            mode,
-            lead,
-        };
+        let round = Round::of(coordinator, self.top_count, mode);
         Event::Begin { coordinator, round }
     }
 

@@ -1,10 +1,8 @@
 -- Sets that are large enough have numbers in common.
 use Rattle.std.proofs.Common.{◌≡◌, ℕ, zero, suc, ◌+◌, ◌<◌, ◌≤◌, Bool, true, false, ◌&&◌, cond, refl, ap, arith}
-use Rattle.std.specs.Prelude.{nat_lt, nat_eq}
-use Rattle.std.proofs.lemmas.Bool.{ltb-true, eqb-true}
 use Rattle.gp_round.specs.declared.round.Mode.{Mode}
 use Rattle.gp_round.specs.declared.round.Mode.TheVariants.{Single, Multi, Fast}
-use Rattle.gp_round.specs.Configs.{majority, lead_of, quorum_size}
+use Rattle.gp_round.specs.Configs.{majority, quorum_size}
 use Rattle.gp_round.specs.Quorums.{IsQuorum, IsFirstQuorum, coordinator_quorum_of, Shared, SharedByThree}
 use Rattle.gp_round.specs.Sets.{members}
 
@@ -80,7 +78,7 @@ fast_quorums_meet n p q s a b c = shared_by_three n p q s (omega (arith, a, b, c
 
 -- ---- quorums of coordinators
 
-pub coordinator_quorums_meet : (n c : ℕ) (mode : Mode) (lead : ℕ) (p q : ℕ → Bool) → nat_lt c n ≡ true → nat_eq lead (lead_of mode c) ≡ true → coordinator_quorum_of n mode lead p → coordinator_quorum_of n mode lead q → Shared n p q
-coordinator_quorums_meet n c Single lead p q lt is a b = record { number = lead; below = omega (arith, ltb-true c n lt, eqb-true lead c is); left = a; right = b }
-coordinator_quorums_meet n c Multi lead p q lt is a b = shared n p q (omega (arith, a, b, majorities n))
-coordinator_quorums_meet n c Fast lead p q lt is a b = record { number = lead; below = omega (arith, ltb-true c n lt, eqb-true lead c is); left = a; right = b }
+pub coordinator_quorums_meet : (n : ℕ) (mode : Mode) (lead : ℕ) (p q : ℕ → Bool) → coordinator_quorum_of n mode lead p → coordinator_quorum_of n mode lead q → Shared n p q
+coordinator_quorums_meet n Single lead p q a b = record { number = lead; below = a.0; left = a.1; right = b.1 }
+coordinator_quorums_meet n Multi lead p q a b = shared n p q (omega (arith, a, b, majorities n))
+coordinator_quorums_meet n Fast lead p q a b = record { number = lead; below = a.0; left = a.1; right = b.1 }

@@ -3,6 +3,7 @@ use Rattle.std.specs.Prelude.{ℕ, ◌+◌, ◌*◌, ◌/◌, Bool, cond, ◌&&�
 use Rattle.gp_round.specs.declared.round.Mode.{Mode}
 use Rattle.gp_round.specs.declared.round.Mode.TheVariants.{Single, Multi, Fast}
 use Rattle.gp_round.specs.declared.round.Round.{Round}
+use Rattle.gp_round.specs.declared.config.TheConstants.{LAST_COUNT}
 use Rattle.gp_round.specs.declared.config.BadCount.{BadCount}
 use Rattle.gp_round.specs.declared.config.Which.TheVariants.{Acceptors, Coordinators, Learners}
 use Rattle.gp_round.specs.Counts.{Counts}
@@ -48,6 +49,10 @@ lead_of Single c = c
 lead_of Multi c = 0
 lead_of Fast c = c
 
+-- the round of this count and mode that the coordinator may begin
+abbrev pub round_of : ℕ → ℕ → Mode → Round
+round_of coordinator count mode = record { count = count; mode = mode; lead = lead_of mode coordinator }
+
 -- coordinator c of n may begin the round
 abbrev pub is_owner : ℕ → ℕ → Round → Bool
-is_owner n c r = is_between 1 1000000 r.count && nat_lt c n && nat_eq r.lead (lead_of r.mode c)
+is_owner n c r = is_between 1 LAST_COUNT r.count && nat_lt c n && nat_eq r.lead (lead_of r.mode c)

@@ -14,11 +14,11 @@ IsQuorum n mode q = quorum_size n mode ≤ members q n
 abbrev pub IsFirstQuorum : ℕ → (ℕ → Bool) → Type 0
 IsFirstQuorum n q = majority n ≤ members q n
 
--- a quorum of n coordinators: more than half in a multi round, and otherwise any set with the lead
+-- a quorum of n coordinators: more than half of them in a multi round, and otherwise any set with the lead, which is one of them
 abbrev pub coordinator_quorum_of : ℕ → Mode → ℕ → (ℕ → Bool) → Type 0
-coordinator_quorum_of n Single lead q = q lead ≡ true
+coordinator_quorum_of n Single lead q = (lead < n) × (q lead ≡ true)
 coordinator_quorum_of n Multi lead q = majority n ≤ members q n
-coordinator_quorum_of n Fast lead q = q lead ≡ true
+coordinator_quorum_of n Fast lead q = (lead < n) × (q lead ≡ true)
 
 abbrev pub IsCoordinatorQuorum : ℕ → Round → (ℕ → Bool) → Type 0
 IsCoordinatorQuorum n r q = coordinator_quorum_of n r.mode r.lead q

@@ -2,11 +2,11 @@
 ghost use Rattle.std.specs.Prelude.{◌≡◌, ◌≤◌, Some, None, IfOk, IfErr, OnOk};
 ghost use Rattle.gp_round.specs.Configs.{counts, bad_count, quorum_size, majority, coordinator_quorum_size, is_owner};
 
-use crate::round::{Mode, Round};
+use crate::round::{Mode, Round, lead_of};
 use std::marker::Model;
 
 /// The greatest count of a round that is begun.
-const LAST_COUNT: u32 = 1_000_000;
+pub const LAST_COUNT: u32 = 1_000_000;
 
 /// A kind of nodes that a configuration counts.
 #[derive(Clone, Copy, Debug, PartialEq, Eq)]
@@ -130,16 +130,12 @@ impl Config {
     }
 
     /// Whether a coordinator may begin a round: it is one of the configuration, the count is 1 to
-    /// 1,000,000, and the lead is the coordinator, or 0 in a multi round, which every coordinator owns.
+    /// `LAST_COUNT`, and the lead is the coordinator, or 0 in a multi round, which every coordinator owns.
     pub fn owns(&self, coordinator: u32, round: Round) -> bool
         ensures { result ≡ is_owner self.now.coordinators coordinator round }
     {
-        let lead = match round.mode {
-            Mode::Single | Mode::Fast => coordinator,
-            Mode::Multi => 0,
-        };
         (1..=LAST_COUNT).contains(&round.count)
             && coordinator < self.coordinators
-            && round.lead == lead
+            && round.lead == lead_of(round.mode, coordinator)
     }
 }

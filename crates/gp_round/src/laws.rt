@@ -30,9 +30,9 @@ pub fn two_fast_quorums_and_one_of_the_first_phase_meet()
     ensures { (n : ℕ) (p q s : ℕ → Bool) → IsQuorum n Fast p → IsQuorum n Fast q → IsFirstQuorum n s → SharedByThree n p q s }
 {}
 
-/// Any two quorums of coordinators of a round that one of them owns share a coordinator.
+/// Any two quorums of coordinators of a round share a coordinator.
 pub fn two_coordinator_quorums_meet()
-    ensures { (n c : ℕ) (r : Round) (p q : ℕ → Bool) → is_owner n c r ≡ true → IsCoordinatorQuorum n r p → IsCoordinatorQuorum n r q → Shared n p q }
+    ensures { (n : ℕ) (r : Round) (p q : ℕ → Bool) → IsCoordinatorQuorum n r p → IsCoordinatorQuorum n r q → Shared n p q }
 {}
 
 /// The subsets of one size are the masks below 2 to the n that have as many numbers, in ascending

@@ -6,6 +6,6 @@ pub mod laws;
 mod round;
 mod subsets;
 
-pub use config::{BadCount, Config, Which};
+pub use config::{BadCount, Config, LAST_COUNT, Which};
 pub use round::{Mode, Round};
 pub use subsets::{Subsets, count_members, is_member};

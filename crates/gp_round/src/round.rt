@@ -1,6 +1,7 @@
 //! Rounds and their order.
 ghost use Rattle.std.specs.Prelude.{◌≡◌};
-ghost use Rattle.gp_round.specs.Rounds.{round_zero};
+ghost use Rattle.gp_round.specs.Configs.{lead_of, round_of};
+ghost use Rattle.gp_round.specs.Rounds.{is_fast, round_zero};
 
 use std::cmp::Ordering;
 
@@ -16,9 +17,18 @@ pub enum Mode {
     Fast,
 }
 
+impl Mode {
+    /// Whether acceptors take proposals themselves in rounds of this mode.
+    pub fn is_fast(self) -> bool
+        ensures { result ≡ is_fast self }
+    {
+        matches!(self, Mode::Fast)
+    }
+}
+
 /// A ballot round. Rounds are ordered by count, then mode, then lead.
 ///
-/// A round that is begun has a count from 1 to 1,000,000. The lead is the coordinator of a single or
+/// A round that is begun has a count from 1 to `LAST_COUNT`. The lead is the coordinator of a single or
 /// fast round, and 0 in a multi round.
 #[derive(Clone, Copy, Debug)]
 pub struct Round {
@@ -28,6 +38,17 @@ pub struct Round {
 }
 
 impl Round {
+    /// The round of this count and mode that the coordinator may begin: it leads it, but in a multi round the lead is 0.
+    pub fn of(coordinator: u32, count: u32, mode: Mode) -> Round
+        ensures { result ≡ round_of coordinator count mode }
+    {
+        Round {
+            count,
+            mode,
+            lead: lead_of(mode, coordinator),
+        }
+    }
+
     /// The round before all that are begun, in which every acceptor has voted the empty history.
     pub fn zero() -> Round
         ensures { result ≡ round_zero }
@@ -37,6 +58,16 @@ impl Round {
             mode: Mode::Single,
             lead: 0,
         }
+    }
+}
+
+// The lead of a round of this mode that the coordinator begins.
+pub(crate) fn lead_of(mode: Mode, coordinator: u32) -> u32
+    ensures { result ≡ lead_of mode coordinator }
+{
+    match mode {
+        Mode::Single | Mode::Fast => coordinator,
+        Mode::Multi => 0,
     }
 }
 

@@ -8,7 +8,7 @@ use Rattle.gp_msg.specs.declared.node.Node.TheVariants as node
 use Rattle.gp_msg.specs.declared.record.Record.{Record}
 use Rattle.gp_msg.specs.Messages.{Entry, entry_of}
 use Rattle.gp_run.specs.Messages.{messages}
-use Rattle.gp_run.specs.Nodes.{node_of}
+use Rattle.gp_msg.specs.Nodes.{node_of}
 use Rattle.gp_run.specs.States.{proposer_at, coordinator_at, acceptor_at, learner_at}
 use Rattle.gp_run.specs.Legal.{Legal, Follows, sent_by}
 use Rattle.gp_run.specs.Runs.{entries_in}

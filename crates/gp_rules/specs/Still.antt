@@ -20,7 +20,7 @@ use Rattle.gp_acceptor.specs.Epochs.{AcceptorInEpoch}
 use Rattle.gp_learner.specs.Epochs as learner
 use Rattle.gp_learner.specs.Epochs.{LearnerInEpoch}
 use Rattle.gp_run.specs.Messages.{messages, on_message}
-use Rattle.gp_run.specs.Nodes.{is_present, may_keep, fits_among}
+use Rattle.gp_msg.specs.Nodes.{is_present, may_keep, fits_among}
 use Rattle.gp_run.specs.States.{coordinator_acts, coordinator_kept, acceptor_acts, acceptor_kept, learner_acts}
 use Rattle.gp_run.specs.Legal.{fits}
 use Rattle.gp_run.specs.Runs.{entries_in}

@@ -8,7 +8,7 @@ use Rattle.gp_msg.specs.declared.node.Node.TheVariants.{Proposer, Coordinator, A
 use Rattle.gp_msg.specs.declared.event.Event.{Event}
 use Rattle.gp_msg.specs.declared.event.Event.TheVariants.{Offer, Begin, Take, Fall}
 use Rattle.gp_msg.specs.declared.event.Kept.TheVariants as kept
-use Rattle.gp_run.specs.Nodes.{node_of, is_present, fits_among}
+use Rattle.gp_msg.specs.Nodes.{node_of, is_present, fits_among}
 use Rattle.gp_run.specs.Refusals.{Refusal, refusal_among, unless_owner, bad_round_or}
 use Rattle.gp_run.proofs.Choices.{left_true, right_true}
 

@@ -20,7 +20,7 @@ use Rattle.gp_acceptor.specs.Epochs as acceptor
 use Rattle.gp_learner.specs.Epochs.{LearnerInEpoch}
 use Rattle.gp_learner.specs.Epochs as learner
 use Rattle.gp_run.specs.Messages.{messages, on_message}
-use Rattle.gp_run.specs.Nodes.{node_of, is_present, may_keep, fits_among}
+use Rattle.gp_msg.specs.Nodes.{node_of, is_present, may_keep, fits_among}
 use Rattle.gp_run.specs.States.{proposer_acts, proposer_at, coordinator_acts, coordinator_at, coordinator_kept, acceptor_acts, acceptor_at, acceptor_kept, learner_acts, learner_at}
 use Rattle.gp_run.specs.Legal.{Follows, fits, sent_by}
 use Rattle.gp_run.specs.Runs.{AreOfOthers}

@@ -1,6 +1,7 @@
 -- What learners show, what they heard in their epoch, and what the epochs before it give.
 use Rattle.std.specs.Prelude.{◌≡◌, ◌<◌, ℕ, zero, suc, Bool, true, cond, nat_eq, nat_lt, List, [], ◌∷◌, slice_get, Option, Some, None}
 use Rattle.std.specs.List.{Contains}
+use Rattle.std.specs.Option.{option_or}
 use Rattle.gp_history.specs.History.{History, IsHistory, IsPrefix, empty}
 use Rattle.gp_history.specs.Bounds.{join}
 use Rattle.gp_round.specs.declared.round.Round.{Round}
@@ -80,15 +81,10 @@ final_value e (Offered c) = None
 final_value e (InEpoch i m) = None
 final_value e (Final i l v) = cond (nat_eq i e) (Some v) None
 
--- the value of the first option, or of the second if the first has none
-abbrev pub or_else : Option History → Option History → Option History
-or_else None o = o
-or_else (Some v) o = Some v
-
 -- the value of the first Final message of epoch e
 abbrev pub first_final : ℕ → List Stamped → Option History
 first_final e [] = None
-first_final e (m ∷ ms) = or_else (final_value e m) (first_final e ms)
+first_final e (m ∷ ms) = option_or (final_value e m) (first_final e ms)
 
 -- a history joined with a value, if there is one
 abbrev pub joined_with : History → Option History → History

@@ -5,7 +5,7 @@ use Rattle.gp_round.specs.Counts.{Counts}
 use Rattle.gp_msg.specs.declared.node.Node.{Node}
 use Rattle.gp_msg.specs.declared.node.Node.TheVariants.{Proposer, Coordinator, Acceptor, Learner}
 use Rattle.gp_msg.specs.declared.event.Event.{Event}
-use Rattle.gp_run.specs.Nodes.{node_of, fits_among}
+use Rattle.gp_msg.specs.Nodes.{node_of, fits_among}
 use Rattle.gp_msg.specs.Messages.{Stamped, Entry}
 use Rattle.gp_run.specs.Messages.{messages}
 use Rattle.gp_run.specs.States.{proposer_acts, proposer_at, coordinator_acts, coordinator_at, acceptor_acts, acceptor_at, learner_acts, learner_at}

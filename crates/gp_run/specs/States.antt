@@ -17,6 +17,12 @@ use Rattle.gp_learner.specs.Epochs as learner
 use Rattle.gp_learner.specs.Epochs.{LearnerInEpoch}
 use Rattle.gp_run.specs.Messages.{messages, on_message}
 
+-- the message that a fall keeps taken, when these were sent
+abbrev pub message_kept : List Stamped → Option Kept → Option Stamped
+message_kept ms None = None
+message_kept ms (Some (kept.Begin r)) = None
+message_kept ms (Some (kept.Take k)) = slice_get ms k
+
 -- ---- proposers, which have no epoch
 
 -- what proposer p does in this state at an event: its next state, and the message that it sends
@@ -33,11 +39,15 @@ proposer_at p (e ∷ es) = (proposer_acts p (proposer_at p es) e.event).0
 
 -- ---- coordinators
 
--- the durable part after a fall, when these messages were sent: that before the fall, or that after the step which the fall keeps
+-- the durable part after a fall that keeps this, of which m is the message: that before the fall, or that after the step which the fall keeps
+abbrev pub coordinator_left : CoordinatorInEpoch → Option Kept → Option Stamped → EpochPart
+coordinator_left s None m = coordinator.durable s
+coordinator_left s (Some (kept.Begin r)) m = coordinator.durable (coordinator.begin s r).0
+coordinator_left s (Some (kept.Take k)) m = on_message (coordinator.durable s) (λ x. coordinator.durable (coordinator.take s x).0) m
+
+-- the same, when these messages were sent
 abbrev pub coordinator_kept : CoordinatorInEpoch → List Stamped → Option Kept → EpochPart
-coordinator_kept s ms None = coordinator.durable s
-coordinator_kept s ms (Some (kept.Begin r)) = coordinator.durable (coordinator.begin s r).0
-coordinator_kept s ms (Some (kept.Take k)) = on_message (coordinator.durable s) (λ m. coordinator.durable (coordinator.take s m).0) (slice_get ms k)
+coordinator_kept s ms what = coordinator_left s what (message_kept ms what)
 
 -- what coordinator c does in this state at an event, when these messages were sent: its next state, and the message that it sends
 abbrev pub coordinator_acts : ℕ → CoordinatorInEpoch → List Stamped → Event → CoordinatorInEpoch × Option Stamped
@@ -59,11 +69,15 @@ coordinator_at config c (e ∷ es) = (coordinator_acts c (coordinator_at config 
 
 -- ---- acceptors
 
--- the durable part after a fall, when these messages were sent: that before the fall, or that after the step which the fall keeps
+-- the durable part after a fall that keeps this, of which m is the message: that before the fall, or that after the step which the fall keeps
+abbrev pub acceptor_left : AcceptorInEpoch → Option Kept → Option Stamped → EpochPart
+acceptor_left s None m = acceptor.durable s
+acceptor_left s (Some (kept.Begin r)) m = acceptor.durable s
+acceptor_left s (Some (kept.Take k)) m = on_message (acceptor.durable s) (λ x. acceptor.durable (acceptor.take s x).0) m
+
+-- the same, when these messages were sent
 abbrev pub acceptor_kept : AcceptorInEpoch → List Stamped → Option Kept → EpochPart
-acceptor_kept s ms None = acceptor.durable s
-acceptor_kept s ms (Some (kept.Begin r)) = acceptor.durable s
-acceptor_kept s ms (Some (kept.Take k)) = on_message (acceptor.durable s) (λ m. acceptor.durable (acceptor.take s m).0) (slice_get ms k)
+acceptor_kept s ms what = acceptor_left s what (message_kept ms what)
 
 -- what acceptor a does in this state at an event, when these messages were sent: its next state, and the message that it sends
 abbrev pub acceptor_acts : ℕ → AcceptorInEpoch → List Stamped → Event → AcceptorInEpoch × Option Stamped

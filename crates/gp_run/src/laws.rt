@@ -13,7 +13,7 @@ ghost use Rattle.gp_acceptor.specs.Epochs as acceptor;
 ghost use Rattle.gp_acceptor.specs.Epochs.{AcceptorInEpoch};
 ghost use Rattle.gp_learner.specs.Epochs as learner;
 ghost use Rattle.gp_learner.specs.Epochs.{LearnerInEpoch};
-ghost use Rattle.gp_run.specs.Nodes.{node_of};
+ghost use Rattle.gp_msg.specs.Nodes.{node_of};
 ghost use Rattle.gp_run.specs.Messages.{messages, messages_in};
 ghost use Rattle.gp_run.specs.Legal.{fits, Legal, Follows};
 ghost use Rattle.gp_run.specs.Refusals.{refusal};

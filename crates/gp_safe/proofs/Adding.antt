@@ -10,16 +10,16 @@ use Rattle.gp_command.specs.declared.command.Command.{Command}
 use Rattle.gp_command.specs.Conflict.{same}
 use Rattle.gp_command.proofs.ConflictLemmas.{same-true}
 use Rattle.gp_command.proofs.Ties.{tied_command}
-use Rattle.gp_history.specs.History.{History, has, before, pushes}
+use Rattle.gp_history.specs.History.{History, has, before}
 use Rattle.gp_history.specs.Sequence.{history_of, place, place_in}
 use Rattle.gp_history.specs.Canonical.{is_ready, next_least, and_next, least_first, canonical}
 use Rattle.gp_history.specs.Bounds.{sublists, is_shared, in_meet, meet, join, joined}
 use Rattle.gp_history.proofs.Tests.{In, both, fst_of, snd_of, left_of, right_of, one_of, not_true, all_gives, any-append}
 use Rattle.gp_history.proofs.Sets.{has_history_of, has-ordered_by}
-use Rattle.gp_history.proofs.Push.{push_there}
 use Rattle.gp_history.proofs.Canonical.{least_in, in_filtered}
 use Rattle.gp_history.proofs.Meet.{in_items}
 use Rattle.gp_history.proofs.Places.{at_in}
+use Rattle.gp_history.proofs.Pushing.{pushes_there}
 use Rattle.gp_round.specs.Sets.{bit}
 use Rattle.gp_safe.specs.Meets.{with_one, gathered, if_whole, quorum_meet, add_meet, quorum_meets}
 use Rattle.gp_safe.specs.News.{is_in, all_have, is_new, Addition, AdditionAmong}
@@ -81,12 +81,6 @@ member_has f p (suc n) c i t h e = elim (cases_eq i n) [
 ]
 
 -- ---- a join with what is there
-
-pushes_there : (h : History) (zs : List Command) → ((c : Command) → In zs c → has h c ≡ true) → pushes h zs ≡ h
-pushes_there h [] f = refl
-pushes_there h (z ∷ zs) f =
-    ap (λ u. pushes u zs) (push_there h z (f z (at_in (z ∷ zs) 0 z refl)))
-    ∙ pushes_there h zs (λ c i. f c (right_of (same c z) (list_any (same c) zs) i))
 
 next_in : (h taken : History) (c : Command) → next_least h taken ≡ Some c → has h c ≡ true
 unfolding next_least

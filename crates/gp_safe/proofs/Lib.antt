@@ -1,4 +1,5 @@
 pub mod Gathering
+pub mod Pushed
 pub mod Choosing
 pub mod Meetings
 pub mod Changing

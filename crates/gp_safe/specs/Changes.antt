@@ -1,14 +1,14 @@
 -- What a value may add that takes the place of an older one of its sender.
-use Rattle.std.specs.Prelude.{◌≡◌, ◌≤◌, ◌<◌, ℕ, Bool, true, false, not, ◌&&◌, List, take, slice_get, nat_lt, Option, Some, None}
+use Rattle.std.specs.Prelude.{◌≡◌, ◌≤◌, ◌<◌, ℕ, Bool, true, false, not, ◌&&◌, List, [], take, slice_get, nat_lt, Option, Some, None}
 use Rattle.std.specs.List.{list_any, Contains}
 use Rattle.gp_command.specs.declared.command.Command.{Command}
 use Rattle.gp_command.specs.Conflict.{same}
 use Rattle.gp_history.specs.History.{History, IsHistory, IsPrefix, has}
 use Rattle.gp_history.specs.Sequence.{history_of}
+use Rattle.gp_history.specs.Bounds.{joined}
 use Rattle.gp_history.specs.Canonical.{is_ready}
-use Rattle.gp_round.specs.Sets.{members}
-use Rattle.gp_round.specs.Sets.{masks}
-use Rattle.gp_safe.specs.Meets.{quorum_meet}
+use Rattle.gp_round.specs.Sets.{members, masks}
+use Rattle.gp_safe.specs.Meets.{quorum_meet, quorum_meets, add_meet}
 
 -- a sender does not count, or its value has the command, and all that comes before it there is known
 abbrev pub opens : Bool → Option History → History → Command → Bool
@@ -46,6 +46,14 @@ IsMetKnown known f w n m = (h : History) → quorum_meet f w n m ≡ Some h → 
 -- what each set with `size` of n senders has in common is known
 abbrev pub AreKnown : History → (ℕ → Option History) → (ℕ → Bool) → ℕ → ℕ → Type 0
 AreKnown known f w n size = (m : ℕ) → Contains (masks n size) m → IsMetKnown known f w n m
+
+-- what is known, joined with the meets of all sets of this size
+abbrev pub known_with : History → (ℕ → Option History) → (ℕ → Bool) → ℕ → ℕ → History
+known_with known f within n size = joined known (quorum_meets f within n (masks n size))
+
+-- what is known, joined with the meet of one set
+abbrev pub known_with_one : History → (ℕ → Option History) → (ℕ → Bool) → ℕ → ℕ → History
+known_with_one known f within n mask = joined known (add_meet (quorum_meet f within n mask) [])
 
 -- no command of a sequence from a place on passes a test
 abbrev pub NoneFrom : (Command → Bool) → List Command → ℕ → Type 0

@@ -8,10 +8,10 @@ ghost use Rattle.gp_history.specs.Sequence.{history_of, no_repeat};
 ghost use Rattle.gp_history.specs.Canonical.{is_ready};
 ghost use Rattle.gp_history.specs.Bounds.{joined};
 ghost use Rattle.gp_round.specs.Sets.{masks, members, bit};
-ghost use Rattle.gp_safe.specs.Held.{value_with};
-ghost use Rattle.gp_safe.specs.Meets.{gathered, quorum_meet, quorum_meets, add_meet};
+ghost use Rattle.gp_safe.specs.Held.{value_held};
+ghost use Rattle.gp_safe.specs.Meets.{gathered, add_meet};
 ghost use Rattle.gp_safe.specs.News.{is_new, Addition, AdditionAmong};
-ghost use Rattle.gp_safe.specs.Changes.{opens, may_add, IsFromOld, IsAnyHistory, AreHistories, IsMetKnown, NoneFrom};
+ghost use Rattle.gp_safe.specs.Changes.{opens, may_add, IsFromOld, IsAnyHistory, AreHistories, IsMetKnown, NoneFrom, known_with, known_with_one};
 
 use crate::held::Replaced;
 use crate::meets::{Values, is_whole, quorum_meet};
@@ -41,9 +41,10 @@ pub fn join_news<V: Values>(
     requires few { n ≤ 7 }
     requires room { size ≤ n }
     requires sender { sender < n }
-    requires earlier { joined (history_of known.now) (quorum_meets (V.value values.now) (V.within values.now) n (masks n size)) ≡ history_of known.now }
-    ensures joined { IfOk result (λ j. unwrap_or (option_map history_of j) (history_of known.now) ≡ joined (history_of known.now) (quorum_meets (value_with (V.value values.now) sender (Some (history_of value.now))) (V.within values.now) n (masks n size))) }
-    ensures addition { IfOk result (λ j. OnSome j (AdditionAmong (history_of known.now) (value_with (V.value values.now) sender (Some (history_of value.now))) (V.within values.now) n (masks n size))) }
+    requires earlier { known_with (history_of known.now) (V.value values.now) (V.within values.now) n size ≡ history_of known.now }
+    ensures joined { IfOk result (λ j. unwrap_or (option_map history_of j) (history_of known.now)
+        ≡ known_with (history_of known.now) (value_held (V.value values.now) sender (history_of value.now)) (V.within values.now) n size) }
+    ensures addition { IfOk result (λ j. OnSome j (AdditionAmong (history_of known.now) (value_held (V.value values.now) sender (history_of value.now)) (V.within values.now) n (masks n size))) }
 {
     let held = Replaced {
         values,
@@ -218,8 +219,8 @@ fn has_news<V: Values>(
     requires old { IsFromOld (V.value values.now sender) value.now from }
     requires histories { AreHistories (V.value values.now) n }
     requires earlier { IsMetKnown (history_of known.now) (V.value values.now) (V.within values.now) n mask }
-    ensures nothing { result ≡ false → joined (history_of known.now) (add_meet (quorum_meet (value_with (V.value values.now) sender (Some (history_of value.now))) (V.within values.now) n mask) []) ≡ history_of known.now }
-    ensures addition { result ≡ true → Addition (history_of known.now) (value_with (V.value values.now) sender (Some (history_of value.now))) (λ i. bit mask i && V.within values.now i) n }
+    ensures nothing { result ≡ false → known_with_one (history_of known.now) (value_held (V.value values.now) sender (history_of value.now)) (V.within values.now) n mask ≡ history_of known.now }
+    ensures addition { result ≡ true → Addition (history_of known.now) (value_held (V.value values.now) sender (history_of value.now)) (λ i. bit mask i && V.within values.now i) n }
 {
     if !is_member(mask, sender) || !values.is_within(sender) {
         return false;
@@ -251,8 +252,9 @@ fn new_meet<V: Values>(
     requires old { IsFromOld (V.value values.now sender) value.now from }
     requires histories { AreHistories (V.value values.now) n }
     requires earlier { IsMetKnown (history_of known.now) (V.value values.now) (V.within values.now) n mask }
-    ensures joined { IfOk result (λ m. joined (history_of known.now) (add_meet (option_map history_of m) []) ≡ joined (history_of known.now) (add_meet (quorum_meet (value_with (V.value values.now) sender (Some (history_of value.now))) (V.within values.now) n mask) [])) }
-    ensures addition { IfOk result (λ m. OnSome m (Addition (history_of known.now) (value_with (V.value values.now) sender (Some (history_of value.now))) (λ i. bit mask i && V.within values.now i) n)) }
+    ensures joined { IfOk result (λ m. joined (history_of known.now) (add_meet (option_map history_of m) [])
+        ≡ known_with_one (history_of known.now) (value_held (V.value values.now) sender (history_of value.now)) (V.within values.now) n mask) }
+    ensures addition { IfOk result (λ m. OnSome m (Addition (history_of known.now) (value_held (V.value values.now) sender (history_of value.now)) (λ i. bit mask i && V.within values.now i) n)) }
 {
     if !has_news(known, values, sender, value, from, n, mask) {
         return Ok(None);

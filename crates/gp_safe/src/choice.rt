@@ -29,11 +29,11 @@ pub struct Answer {
 /// *Generalized Consensus and Paxos*, 2005. Of several answers of one acceptor the first counts, and
 /// those of acceptors that the configuration does not have are passed over.
 ///
-/// Let the acceptors that answered be a quorum of the first phase, and the meets of the quorums that
-/// count compatible in pairs. Then the choice is the least upper bound of these meets, of quorums of
+/// Let the acceptors that answered be a quorum of the first phase, and the meets of those quorums of the least size
+/// that count compatible in pairs. Then the choice is the least upper bound of these meets, of quorums of
 /// every size, if one counts. And it extends each value that a quorum of that round may still
 /// choose, whatever its members that did not answer have voted for.
-#[tactic(auto, using(crate::proofs::Choosing::history_of_nothing))]
+#[tactic(auto, using(gp_history::proofs::Pushing::history_of_nothing))]
 pub fn pick(alloc: Global, config: &Config, answers: &[Answer]) -> Result<History, NoMemory>
     ensures choice { IfOk result (λ h. history_of h ≡ safe_choice config.now.acceptors (reply_by answers.now)) }
     ensures least { IfOk result (λ h. AreConsistent config.now.acceptors (reply_by answers.now)

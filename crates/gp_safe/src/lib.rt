@@ -4,6 +4,7 @@
 
 mod changes;
 mod choice;
+mod cow;
 mod held;
 mod joins;
 mod meets;
@@ -11,6 +12,7 @@ mod news;
 
 pub use changes::join_news;
 pub use choice::{Answer, pick};
+pub use cow::HistoryCow;
 pub use held::{Replaced, newer};
 pub use joins::join;
 pub use meets::{Values, join_of_meets};

@@ -5,10 +5,11 @@ ghost use Rattle.std.specs.Option.{option_map, option_copied, is_some};
 ghost use Rattle.gp_history.specs.History.{History, has};
 ghost use Rattle.gp_history.specs.Sequence.{history_of};
 ghost use Rattle.gp_round.specs.Sets.{masks, bit};
-ghost use Rattle.gp_safe.specs.Met.{met_history};
+ghost use Rattle.gp_safe.specs.Cow.{cow_history};
 ghost use Rattle.gp_safe.specs.Covered.{HasValue, HasAllValues};
 ghost use Rattle.gp_safe.specs.Meets.{with_one, gathered, quorum_meet, quorum_meets, all_joined, with_meet};
 
+use crate::cow::HistoryCow;
 use crate::news::has_near;
 use gp_bounds::{join_onto, meet};
 use gp_command::NoMemory;
@@ -137,8 +138,7 @@ pub(crate) fn quorum_meet<V: Values>(
     }
     match met {
         None => Ok(None),
-        Some(Met::One(value)) => Ok(Some(value.copy()?)),
-        Some(Met::Several(meet)) => Ok(Some(meet)),
+        Some(met) => Ok(Some(met.into_owned()?)),
     }
 }
 
@@ -155,24 +155,16 @@ pub(crate) fn is_whole<V: Values>(values: &V, n: u32, mask: u8) -> bool
     true
 }
 
-// The meet of one value, which is not copied, or of several.
-#[derive(Drop)]
-enum Met<'a> {
-    One(&'a History),
-    Several(History),
-}
-
-// The meet with one value more.
+// The meet with one value more. The meet of one value borrows it.
 fn and_value<'a>(
     alloc: Global,
-    met: Option<Met<'a>>,
+    met: Option<HistoryCow<'a>>,
     value: &'a History,
-) -> Result<Met<'a>, NoMemory>
-    ensures { IfOk result (λ m. with_one (Some (history_of value.now)) (Some (option_map met_history met.entry)) ≡ Some (Some (met_history m))) }
+) -> Result<HistoryCow<'a>, NoMemory>
+    ensures { IfOk result (λ m. with_one (Some (history_of value.now)) (Some (option_map cow_history met.entry)) ≡ Some (Some (cow_history m))) }
 {
     match met {
-        None => Ok(Met::One(value)),
-        Some(Met::One(first)) => Ok(Met::Several(meet(alloc, first, value)?)),
-        Some(Met::Several(so_far)) => Ok(Met::Several(meet(alloc, &so_far, value)?)),
+        None => Ok(HistoryCow::Borrowed(value)),
+        Some(met) => Ok(HistoryCow::Owned(meet(alloc, met.history(), value)?)),
     }
 }

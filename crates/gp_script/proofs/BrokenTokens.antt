@@ -8,8 +8,9 @@ use Rattle.gp_command.specs.Views.{DraftView}
 use Rattle.gp_msg.specs.declared.node.Node.{Node}
 use Rattle.gp_msg.specs.declared.node.Node.TheVariants.{Proposer, Coordinator, Acceptor, Learner}
 use Rattle.gp_store.specs.declared.form.OpFault.{OpFault}
+use Rattle.gp_msg.specs.Nodes.{node_number, may_fall}
 use Rattle.gp_words.specs.Numbers.{number_of}
-use Rattle.gp_words.specs.Results.{◌>>=◌}
+use Rattle.gp_memory.specs.Results.{◌>>=◌}
 use Rattle.gp_service.specs.Languages.{Language}
 use Rattle.gp_script.specs.declared.reason.Reason.{Reason}
 use Rattle.gp_script.specs.declared.reason.Reason.TheVariants.{BadLine, BadNumber, BadCount, NoNode, BadFall}
@@ -17,7 +18,7 @@ use Rattle.gp_script.specs.Reasons.{or_reason}
 use Rattle.gp_script.specs.Names.{number, count_of, letter_and_number, node_by, node_of, as_proposer, as_coordinator, as_learner, proposer_of, coordinator_of, learner_of}
 use Rattle.gp_script.specs.Spelling.{node_word}
 use Rattle.gp_script.specs.Forms.{Form, NodesLine, OfferLine, BeginLine, TakeLine, FallLine, ShowLine, KeptForm, NothingKept, TakeKept, BeginKept}
-use Rattle.gp_script.specs.Items.{round_count, may_fall, kept_of, node_number, fall_of, offer_of, plain_item_of, item_of, counts_of}
+use Rattle.gp_script.specs.Items.{round_count, step_in, kept_of, fall_of, offer_of, plain_item_of, item_of, counts_of}
 use Rattle.gp_script.specs.declared.items.Item.{Item}
 use Rattle.gp_script.specs.Broken.{IsNumberWord, IsCountWord, IsNodeWord, IsProposerWord, IsCoordinatorWord, IsLearnerWord, BreaksRule, BreaksFirst, BreaksCount, BreaksKept, BreaksWords, BreaksFall, BreaksLine, BreaksCounts}
 use Rattle.gp_script.proofs.Steps.{ok_or_says, step_fails, ok_or_fails, test_fails, others_fail}
@@ -164,7 +165,7 @@ module _ (c : Counts) (range : AreInRange c.acceptors c.coordinators c.learners)
       let says = node_says c token node is in (
         node,
         says.written,
-        may_not (may_fall node form) form _ why e (λ later.
+        may_not (may_fall node (step_in form)) form _ why e (λ later.
             elim (step_fails (kept_of (node_number node) form) _ why later) [
               | inl none ↦ kept_fails (node_number node) form why none
               | inr m ↦ absurd (let bad = m.2 in cc)

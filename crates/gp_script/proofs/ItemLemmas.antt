@@ -3,14 +3,16 @@ use Rattle.std.proofs.Common.{◌≡◌, ℕ, ◌<◌, ◌≤◌, ◌^◌, true,
 use Rattle.std.specs.Prelude.{decimal}
 use Rattle.std.specs.Option.{ok_or}
 use Rattle.std.proofs.lemmas.Bool.{and_parts, eqb-true, ltb-true, leb-true, lt-ltb, le-leb, eq-eqb}
+use Rattle.gp_command.specs.declared.command.TheConstants.{PROPOSERS}
 use Rattle.gp_round.specs.Counts.{Counts}
 use Rattle.gp_round.specs.Ranges.{AreInRange}
-use Rattle.gp_round.specs.Configs.{is_between, is_owner, lead_of}
+use Rattle.gp_round.specs.Configs.{is_between, is_owner, lead_of, round_of}
 use Rattle.gp_round.specs.declared.round.Round.{Round}
 use Rattle.gp_msg.specs.declared.node.Node.{Node}
 use Rattle.gp_msg.specs.declared.node.Node.TheVariants.{Proposer, Coordinator, Acceptor, Learner}
 use Rattle.gp_msg.specs.declared.event.Kept.{Kept}
 use Rattle.gp_msg.specs.declared.event.Kept.TheVariants as kept
+use Rattle.gp_msg.specs.Nodes.{node_number, is_present, may_fall, may_keep}
 use Rattle.gp_words.specs.Tokens.{tokens_of}
 use Rattle.gp_store.specs.declared.form.OpFault.{OpFault}
 use Rattle.gp_service.specs.Languages.{Language, IsLanguage}
@@ -21,8 +23,8 @@ use Rattle.gp_script.specs.declared.items.Item.TheVariants.{Offer, Begin, Take, 
 use Rattle.gp_script.specs.Reasons.{or_reason}
 use Rattle.gp_script.specs.Names.{number, node_of, proposer_of, coordinator_of, learner_of}
 use Rattle.gp_script.specs.Forms.{KeptForm, NothingKept, TakeKept, BeginKept, Form, NodesLine, OfferLine, BeginLine, TakeLine, FallLine, ShowLine}
-use Rattle.gp_script.specs.Items.{round_of, round_count, may_fall, kept_of, node_number, fall_of, offer_of, plain_item_of, item_of}
-use Rattle.gp_script.specs.Admitted.{IsNode, CanKeep, IsInPlace, IsAdmitted}
+use Rattle.gp_script.specs.Items.{round_count, step_in, kept_of, fall_of, offer_of, plain_item_of, item_of}
+use Rattle.gp_script.specs.Admitted.{IsInPlace, IsAdmitted}
 use Rattle.gp_script.specs.Spelling.{node_word}
 use Rattle.gp_script.proofs.Steps.{step_says, test_then, ok_or_says}
 use Rattle.gp_script.proofs.NameLemmas.{number_says, number_read, count_says, count_read, IsNamed, node_says, proposer_says, coordinator_says, learner_says, node_read}
@@ -102,27 +104,27 @@ kept_read n (BeginKept token mode) what e =
     let same : Some (kept.Begin (round_of n count mode)) ≡ what = cc in
     subst (IsKeptRead n (BeginKept token mode)) same (record { same = ap (λ (t : List ℕ). BeginKept t mode) said.written; right = record { least = said.least; most = said.most; made = refl } })
 
-can_keep : (c : Counts) (node : Node) (what : Option Kept) → IsNode c node → may_fall node (kept_line what) ≡ true → IsKept (node_number node) what → CanKeep c node what
+can_keep : (c : Counts) (node : Node) (what : Option Kept) → is_present c node ≡ true → may_fall node (step_in (kept_line what)) ≡ true → IsKept (node_number node) what → may_keep c (2 ^ 64) node what ≡ true
 can_keep c (Proposer n) what there may right = absurd cc
-can_keep c (Coordinator n) None there may right = tt
-can_keep c (Coordinator n) (Some (kept.Take message)) there may right = right
-can_keep c (Coordinator n) (Some (kept.Begin round)) there may right = own_owned c.coordinators n round there right
-can_keep c (Acceptor n) None there may right = tt
-can_keep c (Acceptor n) (Some (kept.Take message)) there may right = right
+can_keep c (Coordinator n) None there may right = refl
+can_keep c (Coordinator n) (Some (kept.Take message)) there may right = lt-ltb message (2 ^ 64) right
+can_keep c (Coordinator n) (Some (kept.Begin round)) there may right = own_owned c.coordinators n round (ltb-true n c.coordinators there) right
+can_keep c (Acceptor n) None there may right = refl
+can_keep c (Acceptor n) (Some (kept.Take message)) there may right = lt-ltb message (2 ^ 64) right
 can_keep c (Acceptor n) (Some (kept.Begin round)) there may right = absurd cc
-can_keep c (Learner n) None there may right = tt
+can_keep c (Learner n) None there may right = refl
 can_keep c (Learner n) (Some (kept.Take message)) there may right = absurd cc
 can_keep c (Learner n) (Some (kept.Begin round)) there may right = absurd cc
 
 fall_read : (language : Language) (c : Counts) (token : List ℕ) (node : Node) (form : KeptForm) (item : Item) → IsNamed c token node → fall_of node form ≡ Ok item → IsRead language c (FallLine token form) item
 fall_read language c token node form item named e =
-    let (may, e) = test_then (may_fall node form) _ item BadFall e in
+    let (may, e) = test_then (may_fall node (step_in form)) _ item BadFall e in
     let (what, is, e) = step_says (kept_of (node_number node) form) _ item e in
     let read = kept_read (node_number node) form what is in
     let same : Fall node what ≡ item = cc in
     subst (IsRead language c (FallLine token form)) same (record {
       same = cc (named.written, read.same);
-      admitted = (named.there, can_keep c node what named.there (subst (λ (f : KeptForm). may_fall node f ≡ true) read.same may) read.right);
+      admitted = (named.there, can_keep c node what named.there (subst (λ (f : KeptForm). may_fall node (step_in f) ≡ true) read.same may) read.right);
     })
 
 offer_read : (language : Language) → IsLanguage language → (c : Counts) (token : List ℕ) (words : List (List ℕ)) (item : Item) → offer_of language c token words ≡ Ok item → IsRead language c (OfferLine token words) item
@@ -136,7 +138,7 @@ offer_read language spelled c token words item e =
     let same : Offer proposer draft ≡ item = cc in
     subst (IsRead language c (OfferLine token words)) same (record {
       same = (λ i. OfferLine (named.written i) ((spelled words draft says).tokens i));
-      admitted = (named.there, said_spoken language spelled words draft says);
+      admitted = (ltb-true proposer PROPOSERS named.there, said_spoken language spelled words draft says);
     })
 
 -- a form that says an item is that of its line, and the item is admitted
@@ -152,7 +154,7 @@ item_read language spelled c (BeginLine token counted mode) item e =
     let same : Begin coordinator (round_of coordinator count mode) ≡ item = cc in
     subst (IsRead language c (BeginLine token counted mode)) same (record {
       same = cc (named.written, said.written);
-      admitted = own_owned c.coordinators coordinator (round_of coordinator count mode) named.there (record { least = said.least; most = said.most; made = refl });
+      admitted = own_owned c.coordinators coordinator (round_of coordinator count mode) (ltb-true coordinator c.coordinators named.there) (record { least = said.least; most = said.most; made = refl });
     })
 item_read language spelled c (TakeLine token counted) item e =
     let (node, is, e) = step_says (node_of c token) _ item e in
@@ -168,7 +170,7 @@ item_read language spelled c (ShowLine token) item e =
     let (learner, is, e) = step_says (learner_of c token) _ item e in
     let named = learner_says c token learner is in
     let same : Show learner ≡ item = cc in
-    subst (IsRead language c (ShowLine token)) same (record { same = ap ShowLine named.written; admitted = named.there })
+    subst (IsRead language c (ShowLine token)) same (record { same = ap ShowLine named.written; admitted = ltb-true learner c.learners named.there })
 
 -- what a line says is admitted
 pub item_admitted : (language : Language) → IsLanguage language → (c : Counts) (form : Form) (item : Item) → item_of language c form ≡ Ok item → IsAdmitted language c item
@@ -184,28 +186,28 @@ in_place language c (Show learner) a = a
 
 -- ---- what is admitted is read
 
-fall_again : (c : Counts) (node : Node) (what : Option Kept) → CanKeep c node what → fall_of node (kept_line what) ≡ Ok (Fall node what)
-fall_again c (Proposer n) what can = absurd can
+fall_again : (c : Counts) (node : Node) (what : Option Kept) → may_keep c (2 ^ 64) node what ≡ true → fall_of node (kept_line what) ≡ Ok (Fall node what)
+fall_again c (Proposer n) what can = absurd cc
 fall_again c (Coordinator n) None can = refl
-fall_again c (Coordinator n) (Some (kept.Take message)) can = rw (number_read message can) refl
+fall_again c (Coordinator n) (Some (kept.Take message)) can = rw (number_read message (ltb-true message (2 ^ 64) can)) refl
 fall_again c (Coordinator n) (Some (kept.Begin round)) can =
     let own = owned_own c.coordinators n round can in
     rw (count_read 1 1000000 round.count (let most = own.most in omega arith) own.least own.most) (ap (λ (r : Round). Ok (Fall (Coordinator n) (Some (kept.Begin r)))) own.made)
 fall_again c (Acceptor n) None can = refl
-fall_again c (Acceptor n) (Some (kept.Take message)) can = rw (number_read message can) refl
-fall_again c (Acceptor n) (Some (kept.Begin round)) can = absurd can
+fall_again c (Acceptor n) (Some (kept.Take message)) can = rw (number_read message (ltb-true message (2 ^ 64) can)) refl
+fall_again c (Acceptor n) (Some (kept.Begin round)) can = absurd cc
 fall_again c (Learner n) None can = refl
-fall_again c (Learner n) (Some (kept.Take message)) can = absurd can
-fall_again c (Learner n) (Some (kept.Begin round)) can = absurd can
+fall_again c (Learner n) (Some (kept.Take message)) can = absurd cc
+fall_again c (Learner n) (Some (kept.Begin round)) can = absurd cc
 
 -- the form of an admitted item's line says the item
 pub item_again : (language : Language) (c : Counts) (item : Item) → AreInRange c.acceptors c.coordinators c.learners → IsAdmitted language c item → item_of language c (line_for item) ≡ Ok item
 unfolding offer_of plain_item_of
-item_again language c (Offer proposer draft) range a = rw (a.1, node_read c (Proposer proposer) range a.0) refl
+item_again language c (Offer proposer draft) range a = rw (a.1, node_read c (Proposer proposer) range (lt-ltb proposer PROPOSERS a.0)) refl
 item_again language c (Begin coordinator round) range a =
     let own = owned_own c.coordinators coordinator round a in
-    rw (node_read c (Coordinator coordinator) range (owner_there c.coordinators coordinator round a), count_read 1 1000000 round.count (let most = own.most in omega arith) own.least own.most)
+    rw (node_read c (Coordinator coordinator) range (lt-ltb coordinator c.coordinators (owner_there c.coordinators coordinator round a)), count_read 1 1000000 round.count (let most = own.most in omega arith) own.least own.most)
     (ap (λ (r : Round). Ok (Begin coordinator r)) own.made)
 item_again language c (Take node message) range a = rw (node_read c node range a.0, number_read message a.1) refl
 item_again language c (Fall node what) range a = rw (node_read c node range a.0) (fall_again c node what a.1)
-item_again language c (Show learner) range a = rw (node_read c (Learner learner) range a) refl
+item_again language c (Show learner) range a = rw (node_read c (Learner learner) range (lt-ltb learner c.learners a)) refl

@@ -2,10 +2,11 @@
 use Rattle.std.proofs.Common.{◌≡◌, ◌≢◌, ℕ, ◌+◌, ◌<◌, ◌≤◌, ◌^◌, Bool, true, false, not, eqb, List, [], ◌∷◌, ◌++◌, length, take, drop, Option, Some, None, refl, sym, ap, subst, ◌∙◌, arith, append_assoc, length-append}
 use Rattle.std.specs.Prelude.{decimal, codes, position}
 use Rattle.std.specs.List.{AllByRecursion}
-use Rattle.std.proofs.lemmas.Bool.{and_from, ne_eqb}
+use Rattle.std.proofs.lemmas.Bool.{and_from, ne_eqb, ltb-true, lt-ltb}
 use Rattle.std.proofs.lemmas.Fmt.{decimal_nonempty, length-decimal-le}
 use Rattle.std.proofs.lemmas.List.{append-nil}
 use Rattle.std.proofs.lemmas.List.Folds.{list_all-append}
+use Rattle.gp_command.specs.declared.command.TheConstants.{PROPOSERS}
 use Rattle.gp_round.specs.Counts.{Counts}
 use Rattle.gp_round.specs.Ranges.{AreInRange}
 use Rattle.gp_round.specs.Configs.{is_owner}
@@ -16,6 +17,7 @@ use Rattle.gp_msg.specs.declared.node.Node.{Node}
 use Rattle.gp_msg.specs.declared.node.Node.TheVariants.{Proposer, Coordinator, Acceptor, Learner}
 use Rattle.gp_msg.specs.declared.event.Kept.{Kept}
 use Rattle.gp_msg.specs.declared.event.Kept.TheVariants as kept
+use Rattle.gp_msg.specs.Nodes.{node_number, is_present, may_keep}
 use Rattle.gp_words.specs.Bytes.{Lacks}
 use Rattle.gp_words.specs.Lines.{is_line_feed}
 use Rattle.gp_words.specs.Spacing.{joined}
@@ -26,8 +28,7 @@ use Rattle.gp_service.specs.Languages.{Language, IsLanguage, IsSpelled}
 use Rattle.gp_script.specs.declared.items.Item.{Item}
 use Rattle.gp_script.specs.declared.items.Item.TheVariants.{Offer, Begin, Take, Fall, Show}
 use Rattle.gp_script.specs.Forms.{Form, form_of}
-use Rattle.gp_script.specs.Items.{node_number}
-use Rattle.gp_script.specs.Admitted.{IsNode, CanKeep, IsAdmitted}
+use Rattle.gp_script.specs.Admitted.{IsAdmitted}
 use Rattle.gp_script.specs.Spelling.{node_word, mode_word, round_words, kept_words, item_line, longest_line, SaysItem}
 use Rattle.gp_script.specs.Rows.{kept_words_of, HasWords}
 use Rattle.gp_script.proofs.FormLemmas.{form_says, form_read}
@@ -85,11 +86,11 @@ words_joined (Show learner) = refl
 
 -- ---- the words have no spaces, and none is empty
 
-number_small : (c : Counts) (node : Node) → AreInRange c.acceptors c.coordinators c.learners → IsNode c node → node_number node < 2 ^ 64
-number_small c (Proposer n) range lt = omega arith
-number_small c (Coordinator n) range lt = omega arith
-number_small c (Acceptor n) range lt = omega arith
-number_small c (Learner n) range lt = omega arith
+number_small : (c : Counts) (node : Node) → AreInRange c.acceptors c.coordinators c.learners → is_present c node ≡ true → node_number node < 2 ^ 64
+number_small c (Proposer n) range there = let lt = ltb-true n 8 there in omega arith
+number_small c (Coordinator n) range there = let lt = ltb-true n c.coordinators there in omega arith
+number_small c (Acceptor n) range there = let lt = ltb-true n c.acceptors there in omega arith
+number_small c (Learner n) range there = let lt = ltb-true n c.learners there in omega arith
 
 node_spaceless : (node : Node) → node_number node < 2 ^ 64 → Lacks is_space (node_word node)
 node_spaceless (Proposer n) lt = decimal_spaceless n lt
@@ -146,21 +147,21 @@ ItemFits (Show learner) = learner < 2 ^ 64
 count_fits : (many n : ℕ) (round : Round) → is_owner many n round ≡ true → round.count < 2 ^ 64
 count_fits many n round owner = let most = (owned_own many n round owner).most in omega arith
 
-kept_fits : (c : Counts) (node : Node) (what : Option Kept) → CanKeep c node what → KeptFits what
+kept_fits : (c : Counts) (node : Node) (what : Option Kept) → may_keep c (2 ^ 64) node what ≡ true → KeptFits what
 kept_fits c node None can = tt
-kept_fits c (Proposer n) (Some what) can = absurd can
-kept_fits c (Coordinator n) (Some (kept.Take message)) can = can
+kept_fits c (Proposer n) (Some what) can = absurd cc
+kept_fits c (Coordinator n) (Some (kept.Take message)) can = ltb-true message (2 ^ 64) can
 kept_fits c (Coordinator n) (Some (kept.Begin round)) can = count_fits c.coordinators n round can
-kept_fits c (Acceptor n) (Some (kept.Take message)) can = can
-kept_fits c (Acceptor n) (Some (kept.Begin round)) can = absurd can
-kept_fits c (Learner n) (Some what) can = absurd can
+kept_fits c (Acceptor n) (Some (kept.Take message)) can = ltb-true message (2 ^ 64) can
+kept_fits c (Acceptor n) (Some (kept.Begin round)) can = absurd cc
+kept_fits c (Learner n) (Some what) can = absurd cc
 
 item_fits : (language : Language) → IsLanguage language → (c : Counts) (item : Item) → AreInRange c.acceptors c.coordinators c.learners → IsAdmitted language c item → ItemFits item
-item_fits language spelled c (Offer proposer draft) range a = (number_small c (Proposer proposer) range a.0, spelled (tokens_of draft.body) draft a.1)
-item_fits language spelled c (Begin coordinator round) range a = (number_small c (Coordinator coordinator) range (owner_there c.coordinators coordinator round a), count_fits c.coordinators coordinator round a)
+item_fits language spelled c (Offer proposer draft) range a = (number_small c (Proposer proposer) range (lt-ltb proposer PROPOSERS a.0), spelled (tokens_of draft.body) draft a.1)
+item_fits language spelled c (Begin coordinator round) range a = (number_small c (Coordinator coordinator) range (lt-ltb coordinator c.coordinators (owner_there c.coordinators coordinator round a)), count_fits c.coordinators coordinator round a)
 item_fits language spelled c (Take node message) range a = (number_small c node range a.0, a.1)
 item_fits language spelled c (Fall node what) range a = (number_small c node range a.0, kept_fits c node what a.1)
-item_fits language spelled c (Show learner) range a = number_small c (Learner learner) range a
+item_fits language spelled c (Show learner) range a = number_small c (Learner learner) range (lt-ltb learner c.learners a)
 
 kept_spaceless : (what : Option Kept) → KeptFits what → AllByRecursion (Lacks is_space) (kept_words_of (kept_line what))
 kept_spaceless None f = tt
@@ -266,11 +267,11 @@ line_feedless language spelled c item range a = line_lacks item (item_fits langu
 -- ---- how long the line is
 
 -- a node has a letter and one digit
-node_short : (c : Counts) (node : Node) → AreInRange c.acceptors c.coordinators c.learners → IsNode c node → length (node_word node) ≤ 2
-node_short c (Proposer n) range lt = let digit = length-decimal-le 1 n (omega arith) (omega arith) (omega arith) in omega arith
-node_short c (Coordinator n) range lt = let digit = length-decimal-le 1 n (omega arith) (omega arith) (omega arith) in omega arith
-node_short c (Acceptor n) range lt = let digit = length-decimal-le 1 n (omega arith) (omega arith) (omega arith) in omega arith
-node_short c (Learner n) range lt = let digit = length-decimal-le 1 n (omega arith) (omega arith) (omega arith) in omega arith
+node_short : (c : Counts) (node : Node) → AreInRange c.acceptors c.coordinators c.learners → is_present c node ≡ true → length (node_word node) ≤ 2
+node_short c (Proposer n) range there = let lt = ltb-true n 8 there in let digit = length-decimal-le 1 n (omega arith) (omega arith) (omega arith) in omega arith
+node_short c (Coordinator n) range there = let lt = ltb-true n c.coordinators there in let digit = length-decimal-le 1 n (omega arith) (omega arith) (omega arith) in omega arith
+node_short c (Acceptor n) range there = let lt = ltb-true n c.acceptors there in let digit = length-decimal-le 1 n (omega arith) (omega arith) (omega arith) in omega arith
+node_short c (Learner n) range there = let lt = ltb-true n c.learners there in let digit = length-decimal-le 1 n (omega arith) (omega arith) (omega arith) in omega arith
 
 mode_short : (mode : Mode) → length (mode_word mode) ≤ 6
 mode_short Single = omega arith
@@ -286,25 +287,25 @@ round_short many n round owner =
     let mode = mode_short round.mode in
     omega arith
 
-kept_short : (c : Counts) (node : Node) (what : Option Kept) → CanKeep c node what → length (kept_words what) ≤ 26
+kept_short : (c : Counts) (node : Node) (what : Option Kept) → may_keep c (2 ^ 64) node what ≡ true → length (kept_words what) ≤ 26
 kept_short c node None can = omega arith
-kept_short c (Proposer n) (Some what) can = absurd can
-kept_short c (Coordinator n) (Some (kept.Take message)) can = let short = decimal_short message can in omega arith
+kept_short c (Proposer n) (Some what) can = absurd cc
+kept_short c (Coordinator n) (Some (kept.Take message)) can = let short = decimal_short message (ltb-true message (2 ^ 64) can) in omega arith
 kept_short c (Coordinator n) (Some (kept.Begin round)) can = let short = round_short c.coordinators n round can in omega arith
-kept_short c (Acceptor n) (Some (kept.Take message)) can = let short = decimal_short message can in omega arith
-kept_short c (Acceptor n) (Some (kept.Begin round)) can = absurd can
-kept_short c (Learner n) (Some what) can = absurd can
+kept_short c (Acceptor n) (Some (kept.Take message)) can = let short = decimal_short message (ltb-true message (2 ^ 64) can) in omega arith
+kept_short c (Acceptor n) (Some (kept.Begin round)) can = absurd cc
+kept_short c (Learner n) (Some what) can = absurd cc
 
 -- the line of an admitted item has no more bytes than its row of the table allows
 pub line_short : (language : Language) → IsLanguage language → (c : Counts) (item : Item) → AreInRange c.acceptors c.coordinators c.learners → IsAdmitted language c item → length (item_line item) ≤ longest_line item
 line_short language spelled c (Offer proposer draft) range a =
     let sum = length_apart (node_word (Proposer proposer)) draft.body in
-    let node = node_short c (Proposer proposer) range a.0 in
+    let node = node_short c (Proposer proposer) range (lt-ltb proposer PROPOSERS a.0) in
     let short = (spelled (tokens_of draft.body) draft a.1).short in
     omega arith
 line_short language spelled c (Begin coordinator round) range a =
     let sum = length_apart (node_word (Coordinator coordinator)) (round_words round) in
-    let node = node_short c (Coordinator coordinator) range (owner_there c.coordinators coordinator round a) in
+    let node = node_short c (Coordinator coordinator) range (lt-ltb coordinator c.coordinators (owner_there c.coordinators coordinator round a)) in
     let words = round_short c.coordinators coordinator round a in
     omega arith
 line_short language spelled c (Take node message) range a =
@@ -317,4 +318,4 @@ line_short language spelled c (Fall node what) range a =
     let words = kept_short c node what a.1 in
     let node = node_short c node range a.0 in
     omega arith
-line_short language spelled c (Show learner) range a = let node = node_short c (Learner learner) range a in omega arith
+line_short language spelled c (Show learner) range a = let node = node_short c (Learner learner) range (lt-ltb learner c.learners a) in omega arith

@@ -7,11 +7,11 @@ use Rattle.gp_round.specs.Counts.{Counts}
 use Rattle.gp_round.specs.Ranges.{AreInRange}
 use Rattle.gp_msg.specs.declared.node.Node.{Node}
 use Rattle.gp_msg.specs.declared.node.Node.TheVariants.{Proposer, Coordinator, Acceptor, Learner}
+use Rattle.gp_msg.specs.Nodes.{is_present}
 use Rattle.gp_words.specs.Numbers.{number_of}
 use Rattle.gp_words.proofs.NumberLemmas.{number_spelled, number_again}
 use Rattle.gp_script.specs.declared.reason.Reason.TheVariants.{BadNumber, BadCount, NoNode}
 use Rattle.gp_script.specs.Names.{number, count_of, letter_and_number, node_by, node_of, as_proposer, as_coordinator, as_learner, proposer_of, coordinator_of, learner_of}
-use Rattle.gp_script.specs.Admitted.{IsNode}
 use Rattle.gp_script.specs.Spelling.{node_word}
 use Rattle.gp_script.proofs.Steps.{step_says, test_says, first_or_next, ok_or_says, option_map_says}
 
@@ -47,12 +47,12 @@ count_read low high n lt least most = rw (number_read n lt, le-leb low n least, 
 -- the token is the word of the node, and the node is of the configuration
 pub record IsNamed (c : Counts) (token : List ℕ) (node : Node) : Type 0 where
   pub written : token ≡ node_word node
-  pub there : IsNode c node
+  pub there : is_present c node ≡ true
 
-letter_is : (letter code n bound : ℕ) → (eqb letter code && ltb n bound) ≡ true → (letter ∷ decimal n ≡ code ∷ decimal n) × (n < bound)
+letter_is : (letter code n bound : ℕ) → (eqb letter code && ltb n bound) ≡ true → (letter ∷ decimal n ≡ code ∷ decimal n) × (ltb n bound ≡ true)
 letter_is letter code n bound e =
     let (same, lt) = and_parts (eqb letter code) (ltb n bound) e in
-    (ap (λ b. b ∷ decimal n) (eqb-true letter code same), ltb-true n bound lt)
+    (ap (λ b. b ∷ decimal n) (eqb-true letter code same), lt)
 
 -- a letter and a number that stand for a node are its word
 node_by_says : (c : Counts) (letter n : ℕ) (node : Node) → node_by c letter n ≡ Ok node → IsNamed c (letter ∷ decimal n) node
@@ -120,9 +120,9 @@ learner_says c token n e =
     subst (λ (node : Node). IsNamed c token node) (as_learner_says node n as_one) (node_says c token node is)
 
 -- the word of a node of the configuration names it
-pub node_read : (c : Counts) (node : Node) → AreInRange c.acceptors c.coordinators c.learners → IsNode c node → node_of c (node_word node) ≡ Ok node
+pub node_read : (c : Counts) (node : Node) → AreInRange c.acceptors c.coordinators c.learners → is_present c node ≡ true → node_of c (node_word node) ≡ Ok node
 unfolding node_of letter_and_number
-node_read c (Proposer n) range lt = rw (number_again n (omega arith), lt-ltb n 8 lt) refl
-node_read c (Coordinator n) range lt = rw (number_again n (omega arith), lt-ltb n c.coordinators lt) refl
-node_read c (Acceptor n) range lt = rw (number_again n (omega arith), lt-ltb n c.acceptors lt) refl
-node_read c (Learner n) range lt = rw (number_again n (omega arith), lt-ltb n c.learners lt) refl
+node_read c (Proposer n) range there = let lt = ltb-true n 8 there in rw (number_again n (omega arith), lt-ltb n 8 lt) refl
+node_read c (Coordinator n) range there = let lt = ltb-true n c.coordinators there in rw (number_again n (omega arith), lt-ltb n c.coordinators lt) refl
+node_read c (Acceptor n) range there = let lt = ltb-true n c.acceptors there in rw (number_again n (omega arith), lt-ltb n c.acceptors lt) refl
+node_read c (Learner n) range there = let lt = ltb-true n c.learners there in rw (number_again n (omega arith), lt-ltb n c.learners lt) refl

@@ -1,16 +1,17 @@
 -- What is wrong with a line of the table that says nothing: its first token that breaks its rule.
-use Rattle.std.specs.Prelude.{◌≡◌, ◌≢◌, ◌⊎◌, ℕ, ◌<◌, ◌≤◌, ◌^◌, true, List, Some, None, Err, decimal}
+use Rattle.std.specs.Prelude.{◌≡◌, ◌≢◌, ◌⊎◌, ℕ, ◌<◌, ◌≤◌, ◌^◌, List, Some, None, Err, IsTrue, decimal}
 use Rattle.gp_round.specs.Counts.{Counts}
+use Rattle.gp_round.specs.declared.config.TheConstants.{LAST_COUNT}
 use Rattle.gp_msg.specs.declared.node.Node.{Node}
 use Rattle.gp_msg.specs.declared.node.Node.TheVariants.{Proposer, Coordinator, Learner}
+use Rattle.gp_msg.specs.Nodes.{is_present, may_fall}
 use Rattle.gp_store.specs.declared.form.OpFault.{OpFault}
 use Rattle.gp_service.specs.Languages.{Language}
 use Rattle.gp_script.specs.declared.reason.Reason.{Reason}
 use Rattle.gp_script.specs.declared.reason.Reason.TheVariants.{BadLine, BadNumber, BadCount, NoNode, BadFall}
 use Rattle.gp_script.specs.Reasons.{fault_reason}
-use Rattle.gp_script.specs.Admitted.{IsNode}
 use Rattle.gp_script.specs.Spelling.{node_word}
-use Rattle.gp_script.specs.Items.{may_fall}
+use Rattle.gp_script.specs.Items.{step_in}
 use Rattle.gp_script.specs.Forms.{Form, NodesLine, OfferLine, BeginLine, TakeLine, FallLine, ShowLine, KeptForm, NothingKept, TakeKept, BeginKept}
 
 -- ---- the rules of tokens
@@ -25,16 +26,16 @@ IsCountWord low high token = (n : ℕ) × (token ≡ decimal n) × (low ≤ n) �
 
 -- it is the letter and the number of a node of the configuration
 abbrev pub IsNodeWord : Counts → List ℕ → Type 0
-IsNodeWord c token = (node : Node) × (token ≡ node_word node) × IsNode c node
+IsNodeWord c token = (node : Node) × (token ≡ node_word node) × IsTrue (is_present c node)
 
 abbrev pub IsProposerWord : Counts → List ℕ → Type 0
-IsProposerWord c token = (n : ℕ) × (token ≡ node_word (Proposer n)) × IsNode c (Proposer n)
+IsProposerWord c token = (n : ℕ) × (token ≡ node_word (Proposer n)) × IsTrue (is_present c (Proposer n))
 
 abbrev pub IsCoordinatorWord : Counts → List ℕ → Type 0
-IsCoordinatorWord c token = (n : ℕ) × (token ≡ node_word (Coordinator n)) × IsNode c (Coordinator n)
+IsCoordinatorWord c token = (n : ℕ) × (token ≡ node_word (Coordinator n)) × IsTrue (is_present c (Coordinator n))
 
 abbrev pub IsLearnerWord : Counts → List ℕ → Type 0
-IsLearnerWord c token = (n : ℕ) × (token ≡ node_word (Learner n)) × IsNode c (Learner n)
+IsLearnerWord c token = (n : ℕ) × (token ≡ node_word (Learner n)) × IsTrue (is_present c (Learner n))
 
 -- ---- the first that is broken
 
@@ -54,7 +55,7 @@ BreaksCount low high token reason = BreaksFirst (IsNumberWord token) BadNumber r
 abbrev pub BreaksKept : KeptForm → Reason → Type 0
 BreaksKept NothingKept reason = ⊥
 BreaksKept (TakeKept message) reason = BreaksRule (IsNumberWord message) BadNumber reason
-BreaksKept (BeginKept count mode) reason = BreaksCount 1 1000000 count reason
+BreaksKept (BeginKept count mode) reason = BreaksCount 1 LAST_COUNT count reason
 
 -- the words of an operation, of which the first with a fault gives the reason
 abbrev pub BreaksWords : Language → List (List ℕ) → Reason → Type 0
@@ -62,13 +63,13 @@ BreaksWords language words reason = (fault : OpFault) × (language words ≡ Som
 
 -- a node that may not crash so, and then what it keeps
 abbrev pub BreaksFall : List ℕ → KeptForm → Reason → Type 0
-BreaksFall token form reason = (node : Node) × (token ≡ node_word node) × BreaksFirst (may_fall node form ≡ true) BadFall reason (BreaksKept form reason)
+BreaksFall token form reason = (node : Node) × (token ≡ node_word node) × BreaksFirst (IsTrue (may_fall node (step_in form))) BadFall reason (BreaksKept form reason)
 
 -- the tokens of a line behind the `nodes` line, from left to right. That no operation has such words comes before the proposer
 abbrev pub BreaksLine : Language → Counts → Form → Reason → Type 0
 BreaksLine language c (NodesLine acceptors coordinators learners) reason = reason ≡ BadLine
 BreaksLine language c (OfferLine node words) reason = BreaksFirst (language words ≢ None) BadLine reason (BreaksFirst (IsProposerWord c node) NoNode reason (BreaksWords language words reason))
-BreaksLine language c (BeginLine node count mode) reason = BreaksFirst (IsCoordinatorWord c node) NoNode reason (BreaksCount 1 1000000 count reason)
+BreaksLine language c (BeginLine node count mode) reason = BreaksFirst (IsCoordinatorWord c node) NoNode reason (BreaksCount 1 LAST_COUNT count reason)
 BreaksLine language c (TakeLine node message) reason = BreaksFirst (IsNodeWord c node) NoNode reason (BreaksRule (IsNumberWord message) BadNumber reason)
 BreaksLine language c (FallLine node form) reason = BreaksFirst (IsNodeWord c node) NoNode reason (BreaksFall node form reason)
 BreaksLine language c (ShowLine node) reason = BreaksRule (IsLearnerWord c node) NoNode reason

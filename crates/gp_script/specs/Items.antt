@@ -1,15 +1,14 @@
 -- What a line says: its tokens from left to right.
-use Rattle.std.specs.Prelude.{ℕ, Bool, true, false, List, Option, Some, None, Result, Ok, Err, if◌then◌else◌}
+use Rattle.std.specs.Prelude.{ℕ, List, Option, Some, None, Result, Ok, Err, if◌then◌else◌}
 use Rattle.std.specs.Option.{ok_or}
 use Rattle.gp_round.specs.Counts.{Counts}
-use Rattle.gp_round.specs.Configs.{lead_of}
-use Rattle.gp_round.specs.declared.round.Mode.{Mode}
-use Rattle.gp_round.specs.declared.round.Round.{Round}
+use Rattle.gp_round.specs.declared.config.TheConstants.{LAST_COUNT}
+use Rattle.gp_round.specs.Configs.{round_of}
 use Rattle.gp_msg.specs.declared.node.Node.{Node}
-use Rattle.gp_msg.specs.declared.node.Node.TheVariants.{Proposer, Coordinator, Acceptor, Learner}
 use Rattle.gp_msg.specs.declared.event.Kept.{Kept}
 use Rattle.gp_msg.specs.declared.event.Kept.TheVariants as kept
-use Rattle.gp_words.specs.Results.{◌>>=◌}
+use Rattle.gp_msg.specs.Nodes.{node_number, KeptStep, Took, Began, may_fall}
+use Rattle.gp_memory.specs.Results.{◌>>=◌}
 use Rattle.gp_service.specs.Languages.{Language}
 use Rattle.gp_script.specs.declared.reason.Reason.{Reason}
 use Rattle.gp_script.specs.declared.reason.Reason.TheVariants.{BadLine, BadFall}
@@ -19,24 +18,15 @@ use Rattle.gp_script.specs.Reasons.{or_reason}
 use Rattle.gp_script.specs.Names.{number, count_of, node_of, proposer_of, coordinator_of, learner_of}
 use Rattle.gp_script.specs.Forms.{Form, NodesLine, OfferLine, BeginLine, TakeLine, FallLine, ShowLine, KeptForm, NothingKept, TakeKept, BeginKept}
 
--- the round that this coordinator begins
-abbrev pub round_of : ℕ → ℕ → Mode → Round
-round_of coordinator count mode = record { count = count; mode = mode; lead = lead_of mode coordinator }
-
 -- a count of rounds
 abbrev pub round_count : List ℕ → Result ℕ Reason
-round_count = count_of 1 1000000
+round_count = count_of 1 LAST_COUNT
 
--- whether a node of this kind can fall so: proposers never, learners keep nothing, acceptors begin nothing
-abbrev pub may_fall : Node → KeptForm → Bool
-may_fall (Proposer n) form = false
-may_fall (Coordinator n) form = true
-may_fall (Acceptor n) NothingKept = true
-may_fall (Acceptor n) (TakeKept message) = true
-may_fall (Acceptor n) (BeginKept count mode) = false
-may_fall (Learner n) NothingKept = true
-may_fall (Learner n) (TakeKept message) = false
-may_fall (Learner n) (BeginKept count mode) = false
+-- the kind of step that a crash keeps
+abbrev pub step_in : KeptForm → Option KeptStep
+step_in NothingKept = None
+step_in (TakeKept message) = Some Took
+step_in (BeginKept count mode) = Some Began
 
 -- the step that a node keeps
 abbrev pub kept_of : ℕ → KeptForm → Result (Option Kept) Reason
@@ -48,17 +38,10 @@ kept_of number_of_node (BeginKept count mode) = do
   n ← round_count count
   Ok (Some (kept.Begin (round_of number_of_node n mode)))
 
--- a node's number among those of its kind
-abbrev pub node_number : Node → ℕ
-node_number (Proposer n) = n
-node_number (Coordinator n) = n
-node_number (Acceptor n) = n
-node_number (Learner n) = n
-
 -- a crash of this node
 abbrev pub fall_of : Node → KeptForm → Result Item Reason
 fall_of node form =
-    if may_fall node form then (kept_of (node_number node) form >>= (λ kept. Ok (Fall node kept))) else Err BadFall
+    if may_fall node (step_in form) then (kept_of (node_number node) form >>= (λ kept. Ok (Fall node kept))) else Err BadFall
 
 -- what an offer of these words says in a language
 unfoldable pub offer_of : Language → Counts → List ℕ → List (List ℕ) → Result Item Reason

@@ -1,11 +1,12 @@
 -- What tokens name: numbers, counts, nodes of a configuration.
 use Rattle.std.specs.Prelude.{ℕ, ◌&&◌, ◌==◌, nat_lt, nat_le, List, [], ◌∷◌, Option, None, Result, Ok, Err, if◌then◌else◌}
 use Rattle.std.specs.Option.{ok_or, option_map}
+use Rattle.gp_command.specs.declared.command.TheConstants.{PROPOSERS}
 use Rattle.gp_round.specs.Counts.{Counts}
 use Rattle.gp_msg.specs.declared.node.Node.{Node}
 use Rattle.gp_msg.specs.declared.node.Node.TheVariants.{Proposer, Coordinator, Acceptor, Learner}
 use Rattle.gp_words.specs.Numbers.{number_of}
-use Rattle.gp_words.specs.Results.{◌>>=◌}
+use Rattle.gp_memory.specs.Results.{◌>>=◌}
 use Rattle.gp_script.specs.declared.reason.Reason.{Reason}
 use Rattle.gp_script.specs.declared.reason.Reason.TheVariants.{BadNumber, BadCount, NoNode}
 
@@ -24,10 +25,10 @@ unfoldable pub letter_and_number : List ℕ → Option (ℕ × ℕ)
 letter_and_number [] = None
 letter_and_number (letter ∷ digits) = option_map (λ n. (letter, n)) (number_of digits)
 
--- by its letter: `p` (112) is a proposer, of which there are 8, `c` (99) a coordinator, `a` (97) an acceptor and `l` (108) a learner of the configuration
+-- by its letter: `p` (112) is a proposer, `c` (99) a coordinator, `a` (97) an acceptor and `l` (108) a learner of the configuration
 abbrev pub node_by : Counts → ℕ → ℕ → Result Node Reason
 node_by c letter n =
-    if letter == 112 && nat_lt n 8 then Ok (Proposer n)
+    if letter == 112 && nat_lt n PROPOSERS then Ok (Proposer n)
     else if letter == 99 && nat_lt n c.coordinators then Ok (Coordinator n)
     else if letter == 97 && nat_lt n c.acceptors then Ok (Acceptor n)
     else if letter == 108 && nat_lt n c.learners then Ok (Learner n)

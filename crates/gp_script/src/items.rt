@@ -1,7 +1,8 @@
 //! What lines say.
 ghost use Rattle.std.specs.Prelude.{◌≡◌};
 ghost use Rattle.gp_words.specs.Tokens.{texts};
-ghost use Rattle.gp_script.specs.Items.{round_of, round_count, may_fall, kept_of, node_number, fall_of, offer_of, plain_item_of, item_of, counts_of};
+ghost use Rattle.gp_msg.specs.Nodes.{node_number, may_fall};
+ghost use Rattle.gp_script.specs.Items.{round_count, step_in, kept_of, fall_of, offer_of, plain_item_of, item_of, counts_of};
 ghost use Rattle.gp_script.specs.FormViews.{form_view, kept_view};
 ghost use Rattle.gp_script.specs.Faults.{Says};
 
@@ -11,7 +12,7 @@ use crate::names::{coordinator_of, count_of, learner_of, node_of, number, propos
 use crate::reason::Reason;
 use gp_command::Draft;
 use gp_msg::{Kept, Node};
-use gp_round::{Config, Mode, Round};
+use gp_round::{Config, LAST_COUNT, Round};
 use gp_service::{Service, Unsaid};
 use std::alloc::Global;
 
@@ -30,24 +31,14 @@ pub enum Item {
     Show { learner: u32 },
 }
 
-fn round_of(coordinator: u32, count: u32, mode: Mode) -> Round
-    ensures { result ≡ round_of coordinator count mode }
-{
-    let lead = match mode {
-        Mode::Multi => 0,
-        Mode::Single | Mode::Fast => coordinator,
-    };
-    Round { count, mode, lead }
-}
-
 fn round_count(token: &[u8]) -> Result<u32, Reason>
     ensures { result ≡ round_count token.now }
 {
-    count_of(1, 1_000_000, token)
+    count_of(1, LAST_COUNT, token)
 }
 
 fn may_fall(node: Node, form: KeptForm<'_>) -> bool
-    ensures { result ≡ may_fall node (kept_view form.entry) }
+    ensures { result ≡ may_fall node (step_in (kept_view form.entry)) }
 {
     match (node, form) {
         (Node::Proposer(_), _) => false,
@@ -67,7 +58,7 @@ fn kept_of(number_of_node: u32, form: KeptForm<'_>) -> Result<Option<Kept>, Reas
         KeptForm::Take(message) => Ok(Some(Kept::Take(number(message)?))),
         KeptForm::Begin(count, mode) => {
             let count = round_count(count)?;
-            Ok(Some(Kept::Begin(round_of(number_of_node, count, mode))))
+            Ok(Some(Kept::Begin(Round::of(number_of_node, count, mode))))
         }
     }
 }
@@ -126,7 +117,7 @@ fn plain_item_of(config: &Config, line: Form<'_, '_>) -> Result<Item, Reason>
         Form::Nodes(_, _, _) | Form::Offer(_, _) => Err(Reason::BadLine),
         Form::Begin(node, count, mode) => {
             let coordinator = coordinator_of(config, node)?;
-            let round = round_of(coordinator, round_count(count)?, mode);
+            let round = Round::of(coordinator, round_count(count)?, mode);
             Ok(Item::Begin { coordinator, round })
         }
         Form::Take(node, message) => {

@@ -3,12 +3,10 @@ ghost use Rattle.std.specs.Prelude.{◌≡◌, ◌≤◌, IfOk};
 ghost use Rattle.gp_script.specs.Names.{number, count_of, letter_and_number, node_of, proposer_of, coordinator_of, learner_of};
 
 use crate::reason::Reason;
+use gp_command::PROPOSERS;
 use gp_msg::Node;
 use gp_round::Config;
 use gp_words::number_of;
-
-/// How many proposers every configuration has.
-const PROPOSERS: u64 = 8;
 
 /// The number that a token spells.
 pub fn number(token: &[u8]) -> Result<u64, Reason>
@@ -46,7 +44,7 @@ pub fn node_of(config: &Config, token: &[u8]) -> Result<Node, Reason>
     ensures { result ≡ node_of config.now token.now }
 {
     let (letter, number) = letter_and_number(token).ok_or(Reason::NoNode)?;
-    if letter == b'p' && number < PROPOSERS {
+    if letter == b'p' && number < u64::from(PROPOSERS) {
         Ok(Node::Proposer(number as u32))
     } else if letter == b'c' && number < u64::from(config.coordinators()) {
         Ok(Node::Coordinator(number as u32))

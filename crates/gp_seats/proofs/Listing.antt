@@ -1,10 +1,11 @@
 -- The nodes of a configuration: each is listed once.
 use Rattle.std.proofs.Common.{◌≡◌, ◌<◌, ◌⊎◌, inl, inr, ⊎_elim, ℕ, zero, suc, true, List, [], ◌∷◌, ◌++◌, refl, sym, subst, ap, ◌∙◌, arith}
 use Rattle.std.proofs.lemmas.Bool.{ltb-true, lt-ltb}
+use Rattle.gp_command.specs.declared.command.TheConstants.{PROPOSERS}
 use Rattle.gp_round.specs.Counts.{Counts}
 use Rattle.gp_msg.specs.declared.node.Node.{Node}
 use Rattle.gp_msg.specs.declared.node.Node.TheVariants as node
-use Rattle.gp_run.specs.Nodes.{proposers, is_present}
+use Rattle.gp_msg.specs.Nodes.{is_present}
 use Rattle.gp_wire.specs.Lists.{Has, IsDistinct}
 use Rattle.gp_work.specs.Moves.{number_of}
 use Rattle.gp_seats.specs.declared.nodes.Role.{Role}
@@ -92,21 +93,21 @@ all_distinct config =
     let logged : IsDistinct (logged_nodes config) = distinct_both (first_of Acceptor a) (first_of Coordinator c) (distinct_first Acceptor a) (distinct_first Coordinator c) (apart Acceptor Coordinator a c (λ e. omega (arith, e))) in
     let working : IsDistinct (working_nodes config) = distinct_both (logged_nodes config) (first_of Learner l) logged (distinct_first Learner l) (λ n h o.
     ⊎_elim (λ x. apart Acceptor Learner a l (λ e. omega (arith, e)) n x o) (λ x. apart Coordinator Learner c l (λ e. omega (arith, e)) n x o) (has_either n (first_of Acceptor a) (first_of Coordinator c) h)) in
-    distinct_both (working_nodes config) proposer_nodes working (distinct_first Proposer proposers) (λ n h o.
-    ⊎_elim (λ y. ⊎_elim (λ x. apart Acceptor Proposer a proposers (λ e. omega (arith, e)) n x o) (λ x. apart Coordinator Proposer c proposers (λ e. omega (arith, e)) n x o) (has_either n (first_of Acceptor a) (first_of Coordinator c) y))
-    (λ x. apart Learner Proposer l proposers (λ e. omega (arith, e)) n x o) (has_either n (logged_nodes config) (first_of Learner l) h))
+    distinct_both (working_nodes config) proposer_nodes working (distinct_first Proposer PROPOSERS) (λ n h o.
+    ⊎_elim (λ y. ⊎_elim (λ x. apart Acceptor Proposer a PROPOSERS (λ e. omega (arith, e)) n x o) (λ x. apart Coordinator Proposer c PROPOSERS (λ e. omega (arith, e)) n x o) (has_either n (first_of Acceptor a) (first_of Coordinator c) y))
+    (λ x. apart Learner Proposer l PROPOSERS (λ e. omega (arith, e)) n x o) (has_either n (logged_nodes config) (first_of Learner l) h))
 
 abbrev pub count_of : Counts → Role → ℕ
 count_of config Acceptor = config.acceptors
 count_of config Coordinator = config.coordinators
 count_of config Learner = config.learners
-count_of config Proposer = proposers
+count_of config Proposer = PROPOSERS
 
 present_at : (config : Counts) (r : Role) (i : ℕ) → i < count_of config r → is_present config (node_of r i) ≡ true
 present_at config Acceptor i l = lt-ltb i config.acceptors l
 present_at config Coordinator i l = lt-ltb i config.coordinators l
 present_at config Learner i l = lt-ltb i config.learners l
-present_at config Proposer i l = lt-ltb i proposers l
+present_at config Proposer i l = lt-ltb i PROPOSERS l
 
 present_first : (config : Counts) (r : Role) (n : Node) → Has n (first_of r (count_of config r)) → is_present config n ≡ true
 present_first config r n h = let f = first_has r (count_of config r) n h in subst (λ m. is_present config m ≡ true) (sym f.2) (present_at config r f.0 f.1)
@@ -133,4 +134,4 @@ all_present config (node.Coordinator i) e =
 all_present config (node.Learner i) e =
     let here = has_first Learner config.learners i (ltb-true i config.learners e) in
     has_left _ (working_nodes config) proposer_nodes (has_right _ (logged_nodes config) (first_of Learner config.learners) here)
-all_present config (node.Proposer i) e = has_right _ (working_nodes config) proposer_nodes (has_first Proposer proposers i (ltb-true i proposers e))
+all_present config (node.Proposer i) e = has_right _ (working_nodes config) proposer_nodes (has_first Proposer PROPOSERS i (ltb-true i PROPOSERS e))

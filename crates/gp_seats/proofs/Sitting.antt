@@ -1,11 +1,11 @@
 -- New jobs: those that are made so far, and what they are.
 use Rattle.std.proofs.Common.{◌≡◌, ◌≤◌, ◌+◌, ◌-◌, inl, inr, ℕ, zero, suc, true, false, List, [], ◌∷◌, ◌++◌, length, reverse, refl, sym, subst, ap, ◌∙◌, arith, All, Option, Some, None, Result, Ok, Err, OnOk, is_err, append_assoc, length-append}
-use Rattle.std.proofs.lemmas.List.{reverse-append, length-reverse, length-map, map-append}
+use Rattle.std.proofs.lemmas.List.{reverse-append, length-reverse, length-map, map-append, append-nil}
 use Rattle.std.specs.Option.{option_to_list}
 use Rattle.gp_round.specs.Counts.{Counts}
 use Rattle.gp_msg.specs.declared.node.Node.{Node}
 use Rattle.gp_msg.specs.declared.node.Node.TheVariants as node
-use Rattle.gp_run.specs.Nodes.{is_present}
+use Rattle.gp_msg.specs.Nodes.{is_present}
 use Rattle.gp_vlog.specs.Logs.{LogState}
 use Rattle.gp_wire.specs.Lists.{Each, Has}
 use Rattle.gp_wire.specs.Known.{WireState, PassState, new_pass}
@@ -73,11 +73,7 @@ module _ {D : Type 0} where
   later_is n all rest None e split = subst (λ l. None ≡ first_log n l → rest ≡ later_logs n l) (sym split) (later_none n rest) e
 
   pub logs_more : (js : List (Job (CellState D))) (j : Job (CellState D)) → logs_in (js ++ j ∷ []) ≡ logs_in js ++ option_to_list (log_of j.cell)
-  logs_more [] j = append_nil (option_to_list (log_of j.cell))
-    where
-      append_nil : (l : List (LogState D)) → l ++ [] ≡ l
-      append_nil [] = refl
-      append_nil (y ∷ ys) = ap (λ l. y ∷ l) (append_nil ys)
+  logs_more [] j = append-nil (option_to_list (log_of j.cell))
   logs_more (x ∷ js) j = ap (λ l. option_to_list (log_of x.cell) ++ l) (logs_more js j) ∙ sym (append_assoc (option_to_list (log_of x.cell)) (logs_in js) (option_to_list (log_of j.cell)))
 
   pub reverse_option : (o : Option (LogState D)) → reverse (option_to_list o) ≡ option_to_list o

@@ -1,9 +1,9 @@
 -- All nodes of a configuration, in their order.
 use Rattle.std.specs.Prelude.{ℕ, zero, suc, List, [], ◌∷◌, ◌++◌}
+use Rattle.gp_command.specs.declared.command.TheConstants.{PROPOSERS}
 use Rattle.gp_round.specs.Counts.{Counts}
 use Rattle.gp_msg.specs.declared.node.Node.{Node}
 use Rattle.gp_msg.specs.declared.node.Node.TheVariants as node
-use Rattle.gp_run.specs.Nodes.{proposers}
 use Rattle.gp_seats.specs.declared.nodes.Role.{Role}
 use Rattle.gp_seats.specs.declared.nodes.Role.TheVariants.{Acceptor, Coordinator, Learner, Proposer}
 
@@ -28,7 +28,7 @@ abbrev pub working_nodes : Counts → List Node
 working_nodes config = logged_nodes config ++ first_of Learner config.learners
 
 abbrev pub proposer_nodes : List Node
-proposer_nodes = first_of Proposer proposers
+proposer_nodes = first_of Proposer PROPOSERS
 
 -- the acceptors, the coordinators, the learners and the proposers
 abbrev pub all_nodes : Counts → List Node

@@ -1,5 +1,6 @@
 -- What proposers offer in a run.
 use Rattle.std.specs.Prelude.{◌≡◌, ◌<◌, ℕ, Bool, true, false, cond, nat_eq, List, [], ◌∷◌, ◌++◌, map, None}
+use Rattle.gp_command.specs.declared.command.TheConstants.{PROPOSERS}
 use Rattle.gp_command.specs.Views.{DraftView}
 use Rattle.gp_msg.specs.declared.node.Node.{Node}
 use Rattle.gp_msg.specs.declared.node.Node.TheVariants.{Proposer, Coordinator, Acceptor, Learner}
@@ -40,7 +41,7 @@ node_in j = j.cell.node
 
 -- the number of the proposer is one of the eight
 abbrev pub IsKnown : ℕ × DraftView → Type 0
-IsKnown o = o.0 < 8
+IsKnown o = o.0 < PROPOSERS
 
 -- the job did not end early, and if the node is up its log keeps the durable part of its state
 abbrev pub IsDone : {D : Type 0} → Job (CellState D) → Type 0

@@ -2,7 +2,7 @@
 ghost use Rattle.std.specs.Prelude.{◌≡◌, ◌↔◌, true};
 ghost use Rattle.gp_round.specs.Counts.{Counts};
 ghost use Rattle.gp_msg.specs.declared.node.Node.{Node};
-ghost use Rattle.gp_run.specs.Nodes.{is_present};
+ghost use Rattle.gp_msg.specs.Nodes.{is_present};
 ghost use Rattle.gp_wire.specs.Lists.{Has, IsDistinct};
 ghost use Rattle.gp_seats.specs.Nodes.{all_nodes};
 

@@ -7,6 +7,6 @@ mod offering;
 mod seating;
 mod seats;
 
-pub use nodes::{PROPOSERS, Role, all_nodes};
+pub use nodes::{Role, all_nodes};
 pub use offering::offer_all;
 pub use seating::{Seated, Unseated, seat_all};

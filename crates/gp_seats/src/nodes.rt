@@ -2,13 +2,10 @@
 ghost use Rattle.std.specs.Prelude.{◌≡◌, ◌++◌, IfOk, OnOk};
 ghost use Rattle.gp_seats.specs.Nodes.{node_of, first_of, all_nodes};
 
-use gp_command::NoMemory;
+use gp_command::{NoMemory, PROPOSERS};
 use gp_msg::Node;
 use gp_round::Config;
 use std::alloc::Global;
-
-/// How many proposers each configuration has.
-pub const PROPOSERS: u32 = 8;
 
 /// What a node does.
 #[derive(Clone, Copy, Debug)]

@@ -5,9 +5,9 @@ ghost use Rattle.gp_seats.specs.Nodes.{all_nodes, working_nodes, proposer_nodes}
 ghost use Rattle.gp_seats.specs.Offering.{node_in};
 ghost use Rattle.gp_seats.specs.Seats.{IsBlank, IsNewJob, new_passes, seats};
 
-use crate::nodes::{PROPOSERS, all_nodes};
+use crate::nodes::all_nodes;
 use crate::seats::make_jobs;
-use gp_command::NoMemory;
+use gp_command::{NoMemory, PROPOSERS};
 use gp_edge::Disk;
 use gp_node::{Job, PaxosRules};
 use gp_round::Config;

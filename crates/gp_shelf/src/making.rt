@@ -7,7 +7,7 @@ ghost use Rattle.gp_shelf.specs.Making.{IsMade, MakesFirst, StaysFirst, ComesBac
 
 use crate::moving::{put_first, unmake};
 use gp_edge::Disk;
-use gp_vlog::{Log, OpenFault, Unopened};
+use gp_vlog::{LEAST_LIMIT, Log, MOST_LIMIT, OpenFault, Unopened};
 use std::alloc::Global;
 
 /// Why disks were not lent.
@@ -26,8 +26,8 @@ fn make_first<D: Disk>(
     disks: &mut Vec<D>,
     logs: &mut Vec<Log<D>>,
 ) -> Result<(), LendFault>
-    requires low { 64 ≤ limit }
-    requires high { limit ≤ 67108864 }
+    requires low { LEAST_LIMIT ≤ limit }
+    requires high { limit ≤ MOST_LIMIT }
     requires some { 0 < length disks.old.items }
     requires room { vec_len logs.old < vec_capacity logs.old }
     ensures made { OnOk result (MakesFirst (IsMade D.content D.image D.faults limit) disks.old.items disks.new.items logs.old.items logs.new.items) }
@@ -67,8 +67,8 @@ pub(crate) fn make<D: Disk>(
     disks: &mut Vec<D>,
     logs: Vec<Log<D>>,
 ) -> Result<Vec<Log<D>>, LendFault>
-    requires low { 64 ≤ limit }
-    requires high { limit ≤ 67108864 }
+    requires low { LEAST_LIMIT ≤ limit }
+    requires high { limit ≤ MOST_LIMIT }
     requires room { HasRoomFor (length disks.old.items) logs }
     ensures made { IfOk result (λ logs. AllZip (IsMade D.content D.image D.faults limit) disks.old.items logs.items) }
     ensures none_left { OnOk result (disks.new.items ≡ []) }

@@ -10,7 +10,7 @@ use crate::moving::{divide, shelve, unmake};
 use crate::places::DISKS;
 use gp_edge::Disk;
 use gp_round::Config;
-use gp_vlog::Log;
+use gp_vlog::{LEAST_LIMIT, Log, MOST_LIMIT};
 use std::alloc::Global;
 use std::marker::Model;
 
@@ -65,8 +65,8 @@ pub fn lend<D: Disk>(
     disks: Vec<D>,
 ) -> Result<Lent<D>, Unlent<D>>
     requires twelve { length disks.items ≡ 12 }
-    requires low { 64 ≤ limit }
-    requires high { limit ≤ 67108864 }
+    requires low { LEAST_LIMIT ≤ limit }
+    requires high { limit ≤ MOST_LIMIT }
     ensures logs { IfOk result (λ l. AllZip (IsMade D.content D.image D.faults limit) (lent_of config disks.items) l.logs.items) }
     ensures count { IfOk result (λ l. length l.logs.items ≡ logged config) }
     ensures kept { IfOk result (λ l. l.shelf.kept ≡ kept_of config disks.items) }

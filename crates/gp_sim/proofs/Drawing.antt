@@ -12,7 +12,7 @@ use Rattle.gp_msg.specs.declared.event.Kept.{Kept}
 use Rattle.gp_msg.specs.Messages.{Stamped, Entry}
 use Rattle.gp_round.specs.Counts.{Counts}
 use Rattle.gp_run.specs.Messages.{messages}
-use Rattle.gp_run.specs.Nodes.{node_of, is_present, may_keep}
+use Rattle.gp_msg.specs.Nodes.{node_of, is_present, may_keep}
 use Rattle.gp_run.specs.Legal.{fits, sent_by, Legal}
 use Rattle.gp_run.specs.Runs.{entry_after}
 use Rattle.gp_run.specs.TopCount.{top_count}

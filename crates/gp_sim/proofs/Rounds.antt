@@ -11,7 +11,7 @@ use Rattle.gp_msg.specs.Messages.{Stamped, Entry}
 use Rattle.gp_run.specs.Messages.{messages}
 use Rattle.gp_run.specs.Legal.{sent_by}
 use Rattle.gp_run.specs.Runs.{entry_after}
-use Rattle.gp_run.specs.TopCount.{rounds_of}
+use Rattle.gp_run.specs.TopCount.{rounds_of, learner_rounds}
 use Rattle.gp_run.specs.States.{proposer_acts, proposer_at, coordinator_acts, coordinator_at, acceptor_acts, acceptor_at, learner_acts, learner_at}
 use Rattle.gp_proposer.specs.State.{ProposerState}
 use Rattle.gp_run.proofs.Choices.{chosen}
@@ -20,8 +20,7 @@ use Rattle.gp_run.proofs.RoleRounds.{AcceptorIsUpTo, no_rounds}
 use Rattle.gp_coordinator.specs.Epochs.{CoordinatorInEpoch}
 use Rattle.gp_acceptor.specs.Epochs.{AcceptorInEpoch}
 use Rattle.gp_learner.specs.Epochs.{LearnerInEpoch}
-use Rattle.gp_run.specs.TopCount.{learner_rounds}
-use Rattle.gp_run.specs.Nodes.{is_present}
+use Rattle.gp_msg.specs.Nodes.{is_present}
 use Rattle.gp_driver.proofs.RunsKeep.{in_either, only}
 use Rattle.gp_driver.proofs.TopRounds.{CoordinatorUpTo, RunUpTo, swept_up_to}
 

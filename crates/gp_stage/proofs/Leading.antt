@@ -8,7 +8,7 @@ use Rattle.gp_round.specs.declared.round.Round.{Round}
 use Rattle.gp_msg.specs.declared.node.Node.{Node}
 use Rattle.gp_msg.specs.declared.node.Node.TheVariants as node
 use Rattle.gp_msg.specs.Messages.{Entry}
-use Rattle.gp_run.specs.Nodes.{is_present}
+use Rattle.gp_msg.specs.Nodes.{is_present}
 use Rattle.gp_run.specs.Runs.{entries_in}
 use Rattle.gp_run.specs.States.{coordinator_at}
 use Rattle.gp_run.specs.TopCount.{rounds_below, greatest_count, top_of_coordinators}

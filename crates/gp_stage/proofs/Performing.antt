@@ -12,7 +12,7 @@ use Rattle.gp_msg.specs.declared.message.MsgKind.{MsgKind}
 use Rattle.gp_msg.specs.declared.event.Event.{Event}
 use Rattle.gp_msg.specs.Reads.{kind_of}
 use Rattle.gp_run.specs.Messages.{messages}
-use Rattle.gp_run.specs.Nodes.{is_present, node_of, fits_among}
+use Rattle.gp_msg.specs.Nodes.{is_present, node_of, fits_among}
 use Rattle.gp_run.specs.Legal.{fits}
 use Rattle.gp_run.specs.Runs.{entries_in, entry_after}
 use Rattle.gp_run.specs.TopCount.{top_count, top_of_messages}

@@ -10,7 +10,7 @@ use Rattle.gp_msg.specs.declared.node.Node.TheVariants as node
 use Rattle.gp_msg.specs.declared.record.Record.{Record}
 use Rattle.gp_msg.specs.Messages.{message_of, entry_of}
 use Rattle.gp_run.specs.Messages.{messages}
-use Rattle.gp_run.specs.Nodes.{is_present, node_of}
+use Rattle.gp_msg.specs.Nodes.{is_present, node_of}
 use Rattle.gp_run.specs.Legal.{fits}
 use Rattle.gp_run.specs.Runs.{entries_in, entry_after}
 use Rattle.gp_run.proofs.Choices.{right_true}

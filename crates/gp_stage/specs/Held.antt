@@ -1,21 +1,17 @@
 -- The cells of a wire where the pass of one of them holds all nodes.
-use Rattle.std.specs.Prelude.{◌≡◌, ◌-◌, ◌+◌, ◌^◌, ℕ, true, if◌then◌else◌, nat_lt, List, [], ◌∷◌, map, slice_get, Option, Some, None, refl}
-use Rattle.std.specs.Coded.{Coded, code_by, coded×, coded_ℕ, coded_list}
-use Rattle.atomic_table.specs.Seated.{TableId, table_id_coded}
+use Rattle.std.specs.Prelude.{◌≡◌, ◌-◌, ◌+◌, ◌^◌, ℕ, true, if◌then◌else◌, nat_lt, List, [], ◌∷◌, map, slice_get, Option, Some, None}
+use Rattle.atomic_table.specs.Seated.{TableId}
 use Rattle.gp_round.specs.Counts.{Counts}
-use Rattle.gp_coordinator.specs.Codes.{counts_code}
 use Rattle.gp_msg.specs.declared.node.Node.{Node}
-use Rattle.gp_msg.specs.contracts.node.Node as node
 use Rattle.gp_msg.specs.declared.event.Event.{Event}
 use Rattle.gp_msg.specs.declared.record.Record.{Record}
-use Rattle.gp_run.specs.Nodes.{is_present}
+use Rattle.gp_msg.specs.Nodes.{is_present}
 use Rattle.gp_run.specs.Runs.{entries_in}
 use Rattle.gp_wire.specs.Lists.{Has}
 use Rattle.gp_wire.specs.Known.{WireState, PassState, records}
 use Rattle.gp_rules.specs.Own.{own_events}
 use Rattle.gp_rules.specs.declared.rules.PaxosRules.{PaxosRules}
 use Rattle.gp_cell.specs.Cells.{CellState, cell_of}
-use Rattle.gp_cell.specs.Codes.{cell_code}
 use Rattle.gp_cell.specs.Refusals.{IsTooGreat, faults_of, limit_of}
 use Rattle.gp_cell.specs.Working.{IsAt}
 use Rattle.gp_driver.specs.Stages.{StageNode, StageState}
@@ -28,14 +24,6 @@ pub record HeldCells (D : Type 0) : Type 0 where
   pub cells : List (CellState D)
   pub holder : ℕ
   pub fulls : ℕ
-
-abbrev pub held_code : {D : Type 0} → Coded D → Coded (HeldCells D)
-held_code {D} d =
-    code_by (Counts × (TableId × (List Node × (List (CellState D) × (ℕ × ℕ)))))
-    (coded× counts_code (coded× table_id_coded (coded× (coded_list node.the_row.coded) (coded× (coded_list (cell_code d)) (coded× coded_ℕ coded_ℕ)))))
-    (λ h. (h.config, (h.wire, (h.nodes, (h.cells, (h.holder, h.fulls))))))
-    (λ p. record { config = p.0; wire = p.1.0; nodes = p.1.1.0; cells = p.1.1.1.0; holder = p.1.1.1.1.0; fulls = p.1.1.1.1.1 })
-    (λ _. refl)
 
 -- the records that a cell has seen, and none if there is no cell
 abbrev pub seen_by : {D : Type 0} → Option (CellState D) → List Record

@@ -1,4 +1,5 @@
 pub mod Held
+pub mod Codes
 pub mod Gathered
 pub mod Kept
 pub mod Played

@@ -6,7 +6,7 @@ use Rattle.gp_msg.specs.declared.message.MsgKind.{MsgKind}
 use Rattle.gp_msg.specs.Messages.{entry_of}
 use Rattle.gp_msg.specs.Reads.{kind_of}
 use Rattle.gp_run.specs.Messages.{messages}
-use Rattle.gp_run.specs.Nodes.{is_present}
+use Rattle.gp_msg.specs.Nodes.{is_present}
 use Rattle.gp_run.specs.Legal.{fits}
 use Rattle.gp_run.specs.Runs.{entries_in, entry_after}
 use Rattle.gp_run.specs.TopCount.{top_of_messages}

@@ -45,7 +45,8 @@ pub struct CellStage<'a, D: Disk, G: Gate> {
 }
 
 impl<'a, D: Disk, G: Gate> Model for CellStage<'a, D, G> {
-    ghost use Rattle.gp_stage.specs.Held.{HeldCells, held_code};
+    ghost use Rattle.gp_stage.specs.Held.{HeldCells};
+    ghost use Rattle.gp_stage.specs.Codes.{held_code};
     ghost use Rattle.gp_stage.specs.Kept.{IsKept};
 
     ghost Value = { HeldCells D };

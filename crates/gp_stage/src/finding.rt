@@ -1,6 +1,6 @@
 //! The cell and the move of an event.
 ghost use Rattle.std.specs.Prelude.{◌≡◌, ◌↔◌, false, ℕ, Some, slice_get, IfSome, IfNone, IsTrue};
-ghost use Rattle.gp_run.specs.Nodes.{node_of};
+ghost use Rattle.gp_msg.specs.Nodes.{node_of};
 ghost use Rattle.gp_work.specs.Moves.{event_of};
 ghost use Rattle.gp_cell.specs.Cells.{CellState};
 ghost use Rattle.gp_driver.specs.Stages.{is_fall};

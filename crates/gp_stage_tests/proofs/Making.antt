@@ -6,7 +6,7 @@ use Rattle.gp_round.specs.Counts.{Counts}
 use Rattle.gp_edge.specs.Records.{MemDiskState}
 use Rattle.gp_msg.specs.declared.node.Node.{Node}
 use Rattle.gp_msg.specs.declared.node.Node.TheVariants.{Proposer, Coordinator, Acceptor, Learner}
-use Rattle.gp_run.specs.Nodes.{is_present}
+use Rattle.gp_msg.specs.Nodes.{is_present}
 use Rattle.gp_wire.specs.Lists.{Each, Has, IsDistinct}
 use Rattle.gp_wire.specs.Known.{WireState, PassState}
 use Rattle.gp_wire.specs.Fresh.{AreFresh}

@@ -1,6 +1,6 @@
 //! The cells of a whole configuration, over disks in memory.
 ghost use Rattle.std.specs.Prelude.{◌≡◌, ◌≤◌, [], true, None, map, IfOk};
-ghost use Rattle.gp_run.specs.Nodes.{is_present};
+ghost use Rattle.gp_msg.specs.Nodes.{is_present};
 ghost use Rattle.gp_wire.specs.Known.{records};
 ghost use Rattle.gp_wire.specs.Fresh.{AreFresh};
 ghost use Rattle.gp_rules.specs.Own.{own};

@@ -6,6 +6,7 @@ use Rattle.std.specs.Ordering.{eq_by_cmp}
 use Rattle.std.specs.Cmp.{eq_by_cmp_equiv}
 use Rattle.std.proofs.lemmas.Map.Views.{tells_apart}
 use Rattle.std.proofs.Math.Nat.{mod-add-mod}
+use Rattle.std.specs.Option.{option_or}
 use Rattle.gp_command.specs.Key.{key_cmp, key_cmp_total}
 use Rattle.gp_replica.specs.declared.reply.Reply.{Reply}
 use Rattle.gp_replica.specs.declared.reply.Reply.TheVariants.{Done, Yes, No}
@@ -41,11 +42,6 @@ target (Cas key old new) = key
 target (Copy from into) = into
 target Checkpoint = []
 
--- the second value unless there is none
-abbrev or_else : Option ℕ → Option ℕ → Option ℕ
-or_else kept None = kept
-or_else kept (Some found) = Some found
-
 -- what is at the target behind the operation, of what was at the source and at the target
 abbrev pub written : Op → Option ℕ → Option ℕ → Option ℕ
 written (Put key value) read kept = Some value
@@ -53,7 +49,7 @@ written (Add key value) read kept = Some ((unwrap_or kept 0 + value) % 2 ^ 64)
 written (Get key) read kept = kept
 written (Del key) read kept = None
 written (Cas key old new) read kept = cond (is_value read old) (Some new) kept
-written (Copy from into) read kept = or_else kept read
+written (Copy from into) read kept = option_or read kept
 written Checkpoint read kept = kept
 
 -- what it replies, of what was at the source
@@ -95,7 +91,7 @@ cas_value : (pairs : Pairs) (key : List ℕ) (new : ℕ) (q : List ℕ) (b : Boo
 cas_value pairs key new q true = put_value pairs key new q
 cas_value pairs key new q false = kept_value pairs q key (same_key q key) refl
 
-copy_value : (pairs : Pairs) (into : List ℕ) (q : List ℕ) (read : Option ℕ) → value_at (put_found pairs into read) q ≡ cond (same_key q into) (or_else (value_at pairs into) read) (value_at pairs q)
+copy_value : (pairs : Pairs) (into : List ℕ) (q : List ℕ) (read : Option ℕ) → value_at (put_found pairs into read) q ≡ cond (same_key q into) (option_or read (value_at pairs into)) (value_at pairs q)
 copy_value pairs into q None = kept_value pairs q into (same_key q into) refl
 copy_value pairs into q (Some found) = put_value pairs into found q
 

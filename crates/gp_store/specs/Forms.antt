@@ -3,7 +3,7 @@ use Rattle.std.specs.Prelude.{ℕ, List, [], ◌∷◌, if◌then◌else◌, cod
 use Rattle.std.specs.Str.{bytes_eq}
 use Rattle.gp_command.specs.Key.{is_key}
 use Rattle.gp_words.specs.Numbers.{number_of}
-use Rattle.gp_words.specs.Results.{◌>>=◌}
+use Rattle.gp_memory.specs.Results.{◌>>=◌}
 use Rattle.gp_store.specs.declared.op.Op.{Op}
 use Rattle.gp_store.specs.declared.op.Op.TheVariants.{Put, Add, Get, Del, Cas, Copy, Checkpoint}
 use Rattle.gp_store.specs.declared.form.OpFault.{OpFault}

@@ -11,7 +11,7 @@ use Rattle.gp_round.specs.Counts.{Counts}
 use Rattle.gp_round.specs.Ranges.{AreInRange}
 use Rattle.gp_msg.specs.declared.event.Event.{Event}
 use Rattle.gp_msg.specs.Messages.{Stamped, Entry}
-use Rattle.gp_run.specs.Nodes.{node_of}
+use Rattle.gp_msg.specs.Nodes.{node_of}
 use Rattle.gp_run.specs.Messages.{messages}
 use Rattle.gp_run.specs.Legal.{Legal, sent_by, sent_at}
 use Rattle.gp_run.specs.Runs.{entry_after, run_onto, run_of, AllFit, events_of}

@@ -8,7 +8,7 @@ use Rattle.gp_round.specs.Ranges.{AreInRange}
 use Rattle.gp_msg.specs.declared.event.Event.{Event}
 use Rattle.gp_msg.specs.declared.event.Event.TheVariants.{Offer, Begin, Take, Fall}
 use Rattle.gp_words.specs.Tokens.{tokens_of}
-use Rattle.gp_words.specs.Results.{◌>>=◌}
+use Rattle.gp_memory.specs.Results.{◌>>=◌}
 use Rattle.gp_service.specs.Languages.{Language}
 use Rattle.gp_script.specs.declared.reason.Reason.{Reason}
 use Rattle.gp_script.specs.declared.reason.Reason.TheVariants.{NoNodesLine, BadLine, NoMessage, TooManyCommands, TooManyEvents}

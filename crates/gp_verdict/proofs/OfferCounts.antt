@@ -27,7 +27,7 @@ use Rattle.gp_msg.specs.Messages.{Stamped, Offered, InEpoch, Final, Entry}
 use Rattle.gp_proposer.specs.State.{ProposerState}
 use Rattle.gp_proposer.specs.Table.{proposer_offer, numbered}
 use Rattle.gp_run.specs.Messages.{messages}
-use Rattle.gp_run.specs.Nodes.{node_of}
+use Rattle.gp_msg.specs.Nodes.{node_of}
 use Rattle.gp_run.specs.Legal.{fits, sent_by, sent_at, Follows, Legal}
 use Rattle.gp_run.specs.Learned.{learned_at}
 use Rattle.gp_run.specs.Runs.{events_of}

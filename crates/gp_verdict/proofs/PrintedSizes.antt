@@ -7,7 +7,7 @@ use Rattle.gp_round.specs.Ranges.{AreInRange}
 use Rattle.gp_msg.specs.Messages.{Entry}
 use Rattle.gp_run.specs.Legal.{Legal, sent_by}
 use Rattle.gp_run.specs.Messages.{messages}
-use Rattle.gp_run.specs.Nodes.{node_of}
+use Rattle.gp_msg.specs.Nodes.{node_of}
 use Rattle.gp_run.specs.Runs.{events_of}
 use Rattle.gp_run.proofs.Running.{events-cons}
 use Rattle.gp_service.specs.Stores.{store_language}

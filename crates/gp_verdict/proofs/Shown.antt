@@ -10,7 +10,7 @@ use Rattle.gp_round.specs.Counts.{Counts}
 use Rattle.gp_msg.specs.declared.event.Event.{Event}
 use Rattle.gp_words.specs.Lines.{text_of}
 use Rattle.gp_words.specs.Tokens.{tokens_of}
-use Rattle.gp_words.specs.Results.{◌>>=◌}
+use Rattle.gp_memory.specs.Results.{◌>>=◌}
 use Rattle.gp_service.specs.Stores.{store_language}
 use Rattle.gp_service.specs.StoreLaws.{store_spelled}
 use Rattle.gp_script.specs.declared.reason.Reason.{Reason}

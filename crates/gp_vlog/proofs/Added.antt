@@ -1,10 +1,10 @@
 -- What votes add to each other.
 use Rattle.std.proofs.Common.{◌≡◌, ℕ, zero, suc, ◌+◌, ◌<◌, ◌≤◌, Bool, true, false, cond, List, [], ◌∷◌, ◌++◌, filter, length, get_or, take, Some, refl, sym, ap, subst, ◌∙◌, arith}
-use Rattle.std.specs.Prelude.{not, slice_index_or, slice_get}
-use Rattle.std.specs.Prelude.{Option, None, IfSome}
+use Rattle.std.specs.Prelude.{not, slice_index_or, slice_get, Option, None, IfSome}
 use Rattle.std.specs.Option.{option_map}
-use Rattle.gp_vlog.specs.Bodies.{base_or_empty}
 use Rattle.std.specs.List.{list_any, All}
+use Rattle.std.proofs.lemmas.List.{take_more}
+use Rattle.gp_vlog.specs.Bodies.{base_or_empty}
 use Rattle.gp_command.specs.declared.command.Command.{Command}
 use Rattle.gp_command.specs.Conflict.{same}
 use Rattle.gp_command.proofs.ConflictLemmas.{same_itself, same-true}
@@ -13,10 +13,9 @@ use Rattle.gp_history.specs.Sequence.{history_of, no_repeat}
 use Rattle.gp_history.specs.Canonical.{canonical}
 use Rattle.gp_history.proofs.Tests.{In, both, fst_of, snd_of, left_of, right_of, one_of, by_cases, never}
 use Rattle.gp_history.proofs.Sets.{has_history_of}
-use Rattle.gp_history.proofs.Joins.{empty_none, history_of_is, history_of-empty, history_of-push}
+use Rattle.gp_history.proofs.Joins.{empty_none, history_of_is, history_of-push}
 use Rattle.gp_history.proofs.Push.{push_there, has-push}
 use Rattle.gp_history.proofs.Bound.{extended_by}
-use Rattle.std.proofs.lemmas.List.{take_more}
 use Rattle.gp_history.proofs.Places.{take_next}
 use Rattle.gp_history.proofs.Canonical.{in_filtered, canonical_stands}
 use Rattle.gp_history.proofs.Acyclic.{canonical_no_repeat}
@@ -92,9 +91,6 @@ adds_additions base v hb hv p = ap (λ u. are_same (additions base u) (additions
 
 pub nothing_in_empty : (c : Command) → has empty c ≡ false
 nothing_in_empty c = empty_none c
-
-pub history_of_nothing : (xs : List Command) → xs ≡ [] → history_of xs ≡ empty
-history_of_nothing xs e = ap history_of e ∙ history_of-empty
 
 -- ---- one more command
 

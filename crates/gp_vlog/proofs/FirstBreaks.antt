@@ -4,9 +4,10 @@ use Rattle.std.specs.Prelude.{◌&&◌, nat_eq, nat_le, nat_lt}
 use Rattle.std.specs.Int.{w32, from_le_bytes}
 use Rattle.std.proofs.lemmas.Bool.{eqb-true, eq-eqb, lt-ltb, lt-leb, true≢false, cases_lt}
 use Rattle.std.proofs.lemmas.List.{get_or-drop, drop_at, take_at, drop-drop, drop_more, drop_all, length-drop}
+use Rattle.gp_memory.specs.Results.{◌>>=◌}
 use Rattle.gp_vlog.specs.Bodies.{LogEntry, entry_of}
 use Rattle.gp_vlog.specs.Gates.{length_at, meant_by, opened, with_first, area}
-use Rattle.gp_vlog.specs.Files.{◌>>=◌, expect, magic, zeros, is_limit, limit_at, byte_at, is_second, Head, head_of, first_gate, Contents, contents_of, area_of, read_log}
+use Rattle.gp_vlog.specs.Files.{expect, magic, zeros, is_limit, limit_at, byte_at, is_second, Head, head_of, first_gate, Contents, contents_of, area_of, read_log}
 use Rattle.gp_vlog.specs.Breaks.{limit_in, area_start, area_bytes, IsOpen, next_gate, IsWhole, LeadsTo, IsBroken, HasArea, Breaks, Ended, WrongName, WrongLimit, NotZero, NoGate, NoEntry, IsFirstBreak}
 use Rattle.gp_vlog.proofs.Areas.{Holds, opened_holds, area_step, area_closed}
 use Rattle.gp_vlog.proofs.AreaLoop.{at_end, broken_gate}

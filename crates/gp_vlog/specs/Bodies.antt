@@ -10,6 +10,7 @@ use Rattle.gp_history.specs.History.{History, empty, size, pushes}
 use Rattle.gp_round.specs.declared.round.Mode.{Mode}
 use Rattle.gp_round.specs.declared.round.Mode.TheVariants.{Single, Multi, Fast}
 use Rattle.gp_round.specs.declared.round.Round.{Round}
+use Rattle.gp_round.specs.declared.config.TheConstants.{LAST_COUNT}
 use Rattle.gp_round.specs.Rounds.{mode_number, earlier}
 use Rattle.gp_msg.specs.Messages.{Part, Acceptors, Coordinators, EpochPart}
 use Rattle.gp_vlog.specs.declared.reading.Kind.{Kind}
@@ -42,7 +43,7 @@ is_zero r = nat_eq r.count 0 && (nat_eq (mode_number r.mode) 0 && nat_eq r.lead 
 
 -- round zero, or one that a coordinator may begin
 abbrev pub is_round : Round → Bool
-is_round r = is_zero r || (nat_le 1 r.count && (nat_le r.count 1000000 && nat_le r.lead (most_lead r.mode)))
+is_round r = is_zero r || (nat_le 1 r.count && (nat_le r.count LAST_COUNT && nat_le r.lead (most_lead r.mode)))
 
 -- the count in four bytes, the mode, and the lead in four bytes
 abbrev pub round_spelling : Round → List ℕ

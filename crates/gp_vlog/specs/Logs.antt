@@ -7,6 +7,7 @@ use Rattle.gp_round.specs.Rounds.{earlier}
 use Rattle.gp_msg.specs.declared.durable.Durable.{Durable}
 use Rattle.gp_msg.specs.declared.durable.Durable.TheVariants.{Acceptor, Coordinator}
 use Rattle.gp_msg.specs.Messages.{part_of}
+use Rattle.gp_vlog.specs.declared.header.TheConstants.{LEAST_LIMIT, MOST_LIMIT}
 use Rattle.gp_vlog.specs.declared.fault.AppendFault.{AppendFault}
 use Rattle.gp_vlog.specs.declared.fault.AppendFault.TheVariants.{Full, Disk, NoMemory}
 use Rattle.gp_vlog.specs.Bodies.{LogEntry, entry_with, is_round}
@@ -48,8 +49,8 @@ IsReady content image log = IfRevealed (content log.disk) (λ s. Shows log.limit
 
 -- what a log keeps of its disk
 pub record IsOnDisk {D : Type 0} (content : D → Option (List ℕ)) (image : D → List ℕ → Type 0) (disk : D) (limit : ℕ) (second old : Bool) (entries : List LogEntry) (closed : ℕ) (ready : Bool) : Type 0 where
-  pub low : 64 ≤ limit
-  pub high : limit ≤ 67108864
+  pub low : LEAST_LIMIT ≤ limit
+  pub high : limit ≤ MOST_LIMIT
   pub room : 17 + closed ≤ limit
   pub some : old ≡ true → 0 < length entries
   pub revealed : ready ≡ true → IfRevealed (content disk) (λ s. (read_log is_limit s ≡ Ok (record { limit = limit; second = second; entries = entries; closed = closed })) × Only s (image disk))

@@ -5,12 +5,14 @@ ghost use Rattle.gp_vlog.specs.Files.{is_limit, read_log};
 ghost use Rattle.gp_vlog.specs.Breaks.{IsFirstBreak};
 ghost use Rattle.gp_vlog.specs.Logs.{HoldsEntries};
 
+use crate::header::{LEAST_LIMIT, MOST_LIMIT};
+
 /// Bytes that hold a log do not break its format, so `open` and `reopen` never answer `NotLog` for the
 /// disk of a log that was created, whatever crash fell into an append or a renewal.
 #[tactic(auto, using(crate::proofs::Openings::no_break))]
 pub fn a_log_is_opened()
     ensures opened { (limit : ℕ) (es : List LogEntry) (s : List ℕ) (at : ℕ) → HoldsEntries limit es s → read_log is_limit s ≡ Err at → ⊥ }
-    ensures again { (limit : ℕ) (es : List LogEntry) (s : List ℕ) (at : ℕ) → 64 ≤ limit → limit ≤ 67108864 → HoldsEntries limit es s → read_log (nat_eq limit) s ≡ Err at → ⊥ }
+    ensures again { (limit : ℕ) (es : List LogEntry) (s : List ℕ) (at : ℕ) → LEAST_LIMIT ≤ limit → limit ≤ MOST_LIMIT → HoldsEntries limit es s → read_log (nat_eq limit) s ≡ Err at → ⊥ }
 {}
 
 /// The place that `NotLog` has is the smallest at which the bytes break the format in one of six ways:
@@ -20,5 +22,5 @@ pub fn a_log_is_opened()
 #[tactic(auto, using(crate::proofs::FirstBreaks::first_break_of_log, crate::proofs::FirstBreaks::first_break_again))]
 pub fn a_break_is_the_first()
     ensures opened { (s : List ℕ) → IsFirstBreak is_limit s (read_log is_limit s) }
-    ensures again { (limit : ℕ) (s : List ℕ) → 64 ≤ limit → IsFirstBreak (nat_eq limit) s (read_log (nat_eq limit) s) }
+    ensures again { (limit : ℕ) (s : List ℕ) → LEAST_LIMIT ≤ limit → IsFirstBreak (nat_eq limit) s (read_log (nat_eq limit) s) }
 {}

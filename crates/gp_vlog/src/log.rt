@@ -13,6 +13,7 @@ ghost use Rattle.gp_vlog.specs.Logs.{IsReady, KeepsRules, OldOrAdded, OldOrRenew
 use crate::device::{begin, load, write_and_mark};
 use crate::fault::{AppendFault, OpenFault};
 use crate::file::{Found, first_gate};
+use crate::header::{LEAST_LIMIT, MOST_LIMIT};
 use crate::plan::{is_full, planned};
 use gp_edge::Disk;
 use gp_msg::Durable;
@@ -67,8 +68,8 @@ impl<D: Disk> Log<D> {
     /// `Disk` only if the number of faults of the disk has risen, and with `NoMemory` if memory runs out.
     /// Nothing is promised of a crash inside this call.
     pub fn create(alloc: Global, disk: D, limit: u32) -> Result<Log<D>, Unopened<D>>
-        requires low { 64 ≤ limit }
-        requires high { limit ≤ 67108864 }
+        requires low { LEAST_LIMIT ≤ limit }
+        requires high { limit ≤ MOST_LIMIT }
         ensures created { IfOk result (λ log. log.entries ≡ []) }
         ensures limit { IfOk result (λ log. log.limit ≡ limit) }
         ensures size { IfOk result (λ log. log.size ≡ 17) }

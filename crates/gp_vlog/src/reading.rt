@@ -15,7 +15,7 @@ use gp_command::{Command, NoMemory, ReadRefused, read_command};
 use gp_history::Hist;
 use gp_index::History;
 use gp_msg::Durable;
-use gp_round::{Mode, Round};
+use gp_round::{LAST_COUNT, Mode, Round};
 use std::alloc::{AllocFailed, Global};
 
 /// Why nothing was read.
@@ -85,7 +85,7 @@ pub(crate) fn is_round(r: Round) -> bool
         _ => 4,
     };
     (r.count == 0 && r.mode as u8 == 0 && r.lead == 0)
-        || (1 <= r.count && r.count <= 1_000_000 && r.lead <= most_lead)
+        || (1 <= r.count && r.count <= LAST_COUNT && r.lead <= most_lead)
 }
 
 #[tactic(auto, unfolding(crate::specs::Bodies::round_at))]

@@ -4,6 +4,7 @@ ghost use Rattle.gp_command.specs.Spelling.{IsNumbered};
 ghost use Rattle.gp_vlog.specs.Logs.{KeepsRules};
 
 use crate::reading::is_round;
+use gp_command::PROPOSERS;
 use gp_history::Hist;
 use gp_index::History;
 use gp_msg::Durable;
@@ -41,7 +42,7 @@ fn are_numbered(vote: &History) -> bool
 {
     for i in 0..vote.len() {
         let id = vote.at(i).id();
-        if id.proposer >= 8 {
+        if id.proposer >= PROPOSERS {
             return false;
         }
         if id.number < 1 {

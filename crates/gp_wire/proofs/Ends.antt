@@ -1,6 +1,7 @@
 -- All passes come together, and the wire is closed.
 use Rattle.std.proofs.Common.{◌≡◌, ℕ, List, [], ◌∷◌, ◌++◌, ◌⊎◌, ◌<◌, ◌≤◌, length, sym, refl, ap, ◌∙◌, subst, inl, inr, ⊎_elim, arith, Option, Some, None, append_assoc, cond}
 use Rattle.std.proofs.lemmas.Bool.{cases_lt, lt-ltb, le-ltb}
+use Rattle.std.proofs.lemmas.List.{append-nil}
 use mathlib.Core.Option as maybe
 use lib.ListN.{get_elem?}
 use Rattle.atomic_table.specs.Table.{Final, Seen}
@@ -20,7 +21,7 @@ use Rattle.gp_wire.specs.Turns.{WireSeat, IsIdle}
 use Rattle.gp_wire.specs.Known.{PassState, old_of}
 use Rattle.gp_wire.specs.Ends.{AreOf, IsHeld, AllBegin, Closed}
 use Rattle.gp_wire.proofs.Words.{each_append, each_map, each_back, has_left, has_right}
-use Rattle.gp_wire.proofs.Keeps.{at_one, append_nil}
+use Rattle.gp_wire.proofs.Keeps.{at_one}
 
 abbrev pub Within : List Node → List Node → Type 0
 Within ns ms = (n : Node) → Has n ns → Has n ms
@@ -98,7 +99,7 @@ pub gathers_first : (id : TableId) (p : PassState) (s : WireSeat) → s.table_id
 gathers_first id p s own idle is = record {
   own = own;
   idle = idle;
-  lists = (subst (Begins s.me.0.seen) (sym is) (record { rest = []; split = sym (append_nil s.me.0.seen); foreign = tt; later = tt }), tt);
+  lists = (subst (Begins s.me.0.seen) (sym is) (record { rest = []; split = sym (append-nil s.me.0.seen); foreign = tt; later = tt }), tt);
   nodes = (subst (λ ns. Within ns s.me.0.nodes) (sym (holds_is p s is)) (λ n h. h), tt);
   turns = (subst (λ t. IsUpTo t s.me.0.turn) (sym (turn_is p s is)) (up_same s.me.0.turn), tt);
 }
@@ -151,7 +152,7 @@ module _ (L : List Record → Record → Type 0) (all : List Node) where
       let s = final.0 in let k : Kept L all s = final.1.0 in let at = final.1.1 in
       let know = k.knows id v at in
       let none : know.rest ≡ [] = nothing_left all v.nodes know.rest cover (each_back (λ e. Has e.item.node all) v.seen know.rest (subst (Each (λ e. Has e.item.node all)) know.split k.ours)) know.foreign in
-      let whole : k.log ≡ v.seen = know.split ∙ (ap (λ l. v.seen ++ l) none ∙ append_nil v.seen) in
+      let whole : k.log ≡ v.seen = know.split ∙ (ap (λ l. v.seen ++ l) none ∙ append-nil v.seen) in
       let quiet : NoTurn s.views = λ j u there. ⊎_elim (λ n. n)
       (λ (h : IsSomebody u.nodes). let here = k.one_holder j id u v h.0 there at h.1 (cover h.0 (k.inside j u h.0 there h.1)) in
       let is : v ≡ u = at_one s.views id v u at (subst (λ x. get_elem? s.views x ≡ maybe.some u) here there) in

@@ -1,5 +1,7 @@
 -- Each kind of step keeps the rule.
 use Rattle.std.proofs.Common.{◌≡◌, ℕ, zero, suc, ◌+◌, ◌%◌, ◌^◌, ◌<◌, ◌≤◌, ◌≢◌, List, [], ◌∷◌, ◌++◌, length, set, get_or, eqb, sym, refl, ap, ◌∙◌, subst, ⊎_elim, arith, Some, None, eq-eqb, ne_eqb, append_assoc, length-append}
+use Rattle.std.proofs.Math.Nat.{mod-eq_of_lt}
+use Rattle.std.proofs.lemmas.List.{append_cancel_left, append-nil}
 use mathlib.Core.Logic.{dite}
 use mathlib.Core.Option as maybe
 use mathlib.Core.Option.{some-injective}
@@ -7,8 +9,6 @@ use native.Mathlib.Decide.{ℕ_discrete}
 use lib.ListN.{get_elem?}
 use lib.Seq.{set-get_or}
 use prog.Atomic.{either}
-use Rattle.std.proofs.Math.Nat.{mod-eq_of_lt}
-use Rattle.std.proofs.lemmas.List.{append_cancel_left}
 use Rattle.atomic_table.specs.Table.{State, step, keeps, takes, gives, stepped, put_back, homes_after, rest as behind_slot, Allows}
 use Rattle.atomic_table.proofs.Lists.{at_set, set_again, set_else}
 use Rattle.gp_msg.specs.declared.node.Node.{Node}
@@ -64,10 +64,6 @@ no_turn_before : (vs : List View) (me : ℕ) (v w : View) → get_elem? vs me �
 no_turn_before vs me v w at nay none j u e = dite (ℕ_discrete j me)
     (λ here. subst (λ (x : View). NotServing x.standing) (at_one vs me v u at (subst (λ i. get_elem? vs i ≡ maybe.some u) here e)) nay)
     (λ other. none j u (set_else vs me j w other ∙ e))
-
-pub append_nil : (l : List Post) → l ++ [] ≡ l
-append_nil [] = refl
-append_nil (y ∷ ys) = ap (λ z. y ∷ z) (append_nil ys)
 
 pub set_there : (l : List View) (i : ℕ) (a b : View) → get_elem? l i ≡ maybe.some a → get_elem? (set l i b) i ≡ maybe.some b
 set_there [] i a b e = absurd (maybe.some-ne-none a (sym e))
@@ -197,7 +193,7 @@ module _ (L : List Record → Record → Type 0) (all : List Node) where
         takes 0 (Some (items whole)),
         ap (λ l. get_elem? l 0) there,
         moved s k id v w (set s.words 1 x) (set s.homes 0 maybe.none) k.log k.next k.serving at words' k.room k.lawful k.ours k.ascends k.numbered (omega arith) refl refl
-            (record { rest = []; split = know.split ∙ sym (append_nil whole); foreign = tt; later = tt }) (k.below id v at)
+            (record { rest = []; split = know.split ∙ sym (append-nil whole); foreign = tt; later = tt }) (k.below id v at)
             (found, omega arith, mine.2, mine.3, sym know.split, away)
             (λ j u other is. (k.knows j u is, k.below j u is, stands_on k.log k.log k.next k.next k.serving k.serving s.homes (set s.homes 0 maybe.none) u u.standing (k.stands j u is) (others_wait s k id v at has_it j u other is) (omega arith) (λ _ _ l. l)))
             (λ j u a other is tw tu. other (k.one_ticket j id u v k.serving is at (tu ∙ (sym tw ∙ ap Some found)) has_it))
@@ -247,7 +243,7 @@ module _ (L : List Record → Record → Type 0) (all : List Node) where
             (each_append (λ f. Has f.item.node all) k.log (e ∷ []) k.ours (k.inside id v x.node at mine_node, tt))
             (subst (λ z. Ascends 0 (k.log ++ post_of x z ∷ [])) (sym now) (ascends_more 0 k.serving k.log x (omega arith) k.ascends k.numbered))
             (each_append (λ f. f.turn ≤ k.serving) k.log (e ∷ []) k.numbered (omega arith, tt)) (omega arith) refl refl
-            (record { rest = []; split = ap (λ l. l ++ e ∷ []) (sym whole) ∙ sym (append_nil (v.seen ++ e ∷ [])); foreign = tt; later = tt })
+            (record { rest = []; split = ap (λ l. l ++ e ∷ []) (sym whole) ∙ sym (append-nil (v.seen ++ e ∷ [])); foreign = tt; later = tt })
             (k.below id v at)
             (now, mine.1, mine.2, mine.3, ap (λ l. l ++ e ∷ []) whole, mine.5)
             (λ j u other is. let know = k.knows j u is in (
@@ -288,7 +284,7 @@ module _ (L : List Record → Record → Type 0) (all : List Node) where
         tt,
         moved s k id v w (set s.words 1 ((n + 1) % 2 ^ 64)) (homes_after s.homes me.1 gives) k.log k.next (k.serving + 1) at words' room k.lawful k.ours k.ascends
             (each_map (λ e. e.turn ≤ k.serving) (λ e. e.turn ≤ k.serving + 1) k.log (λ e l. omega arith) k.numbered) (omega arith) refl refl
-            (record { rest = []; split = sym whole ∙ sym (append_nil v.seen); foreign = tt; later = tt }) (omega arith)
+            (record { rest = []; split = sym whole ∙ sym (append-nil v.seen); foreign = tt; later = tt }) (omega arith)
             (subst (λ os. Each (Begins v.seen) os) (sym mine.2) tt)
             (λ j u other is. (
               k.knows j u is,

@@ -1,7 +1,7 @@
 -- Seats that are split and joined, the first seat, and the last.
-use Rattle.std.proofs.Common.{◌≡◌, ℕ, zero, suc, ◌<◌, ◌≤◌, ◌≢◌, ◌⊎◌, List, [], ◌∷◌, ◌++◌, length, set, sym, refl, ap, ◌∙◌, subst, inl, inr, ⊎_elim, arith, Option, Some, None, length-set, true, false, Bool, cond}
-use Rattle.std.proofs.Common.{ltb}
+use Rattle.std.proofs.Common.{◌≡◌, ℕ, zero, suc, ◌<◌, ◌≤◌, ◌≢◌, ◌⊎◌, List, [], ◌∷◌, ◌++◌, length, set, sym, refl, ap, ◌∙◌, subst, inl, inr, ⊎_elim, arith, Option, Some, None, length-set, true, false, Bool, cond, ltb}
 use Rattle.std.proofs.lemmas.Bool.{cases_lt, lt-ltb, le-ltb}
+use Rattle.std.proofs.lemmas.List.{append-nil}
 use mathlib.Core.Logic.{dite}
 use mathlib.Core.Option as maybe
 use mathlib.Core.Option.{some-injective}
@@ -19,7 +19,7 @@ use Rattle.gp_wire.specs.Lists.{Each, Has}
 use Rattle.gp_wire.specs.Rule.{Slot, view, newcomer, IsForeign, IsLater, IsBelow, Knows, Begins, Stands, ticket, tickets, NotServing, Kept}
 use Rattle.gp_wire.specs.Told.{longer, later, all_of, joined, nobody}
 use Rattle.gp_wire.proofs.Words.{each_front, each_back, each_map, at_end, at_within, has_left, has_right, has_either, waiting_set, waiting_append}
-use Rattle.gp_wire.proofs.Keeps.{at_one, append_nil, set_there}
+use Rattle.gp_wire.proofs.Keeps.{at_one, set_there}
 
 -- of two beginnings of one list the shorter begins the longer
 pub prefix : {A : Type 0} (a ra b rb : List A) → a ++ ra ≡ b ++ rb → length a ≤ length b → (mid : List A) × (b ≡ a ++ mid) × (ra ≡ mid ++ rb)
@@ -69,13 +69,13 @@ together log ns ms t u a b ka kb = dite_lt (cases_lt (length a) (length b))
     first mid is rest = let fa = subst (Each (IsForeign ns)) rest ka.foreign in let la = subst (Each (IsLater t)) rest ka.later in record {
       knows = record { rest = kb.rest; split = kb.split; foreign = both_foreign ns ms kb.rest (each_back (IsForeign ns) mid kb.rest fa) kb.foreign; later = both_later t u kb.rest (each_back (IsLater t) mid kb.rest la) kb.later };
       one = record { rest = mid; split = is; foreign = each_front (IsForeign ns) mid kb.rest fa; later = each_front (IsLater t) mid kb.rest la };
-      two = record { rest = []; split = sym (append_nil b); foreign = tt; later = tt };
+      two = record { rest = []; split = sym (append-nil b); foreign = tt; later = tt };
     }
 
     second : (mid : List Post) → a ≡ b ++ mid → kb.rest ≡ mid ++ ka.rest → Together log ns ms t u a b a
     second mid is rest = let fb = subst (Each (IsForeign ms)) rest kb.foreign in let lb = subst (Each (IsLater u)) rest kb.later in record {
       knows = record { rest = ka.rest; split = ka.split; foreign = both_foreign ns ms ka.rest ka.foreign (each_back (IsForeign ms) mid ka.rest fb); later = both_later t u ka.rest ka.later (each_back (IsLater u) mid ka.rest lb) };
-      one = record { rest = []; split = sym (append_nil a); foreign = tt; later = tt };
+      one = record { rest = []; split = sym (append-nil a); foreign = tt; later = tt };
       two = record { rest = mid; split = is; foreign = each_front (IsForeign ms) mid ka.rest fb; later = each_front (IsLater u) mid ka.rest lb };
     }
 

@@ -1,6 +1,6 @@
 -- What a pass knows after a call, by what its seat knows.
 use Rattle.std.proofs.Common.{◌≡◌, ℕ, List, [], ◌∷◌, ◌++◌, map, sym, ap, ◌∙◌, subst}
-use Rattle.std.proofs.lemmas.List.{map-append}
+use Rattle.std.proofs.lemmas.List.{map-append, append-nil}
 use Rattle.atomic_table.specs.Seated.{TableId}
 use Rattle.gp_msg.specs.declared.node.Node.{Node}
 use Rattle.gp_msg.specs.declared.record.Record.{Record}
@@ -11,7 +11,6 @@ use Rattle.gp_wire.specs.Told.{SeatState}
 use Rattle.gp_wire.specs.Turns.{WireSeat, Turned}
 use Rattle.gp_wire.specs.Known.{PassState, record_of, records, HoldsAll}
 use Rattle.gp_wire.specs.Passes.{HadTurn, nothing, only}
-use Rattle.gp_wire.proofs.Keeps.{append_nil}
 use Rattle.gp_wire.proofs.Ends.{nothing_left}
 use Rattle.gp_wire.proofs.Words.{each_back}
 
@@ -40,10 +39,10 @@ pub no_more : (p q : PassState) (posts : ℕ → List Post) (t : HadTurn p q pos
 no_more p q posts t cover =
     ap (λ (r : PassState). r.seen) t.after
     ∙ ap (λ l. (p.seen ++ l) ++ posts t.turn) (nothing_left p.all p.holds t.more cover (each_back (λ e. Has e.item.node p.all) p.seen t.more t.inside) t.foreign)
-    ∙ ap (λ l. l ++ posts t.turn) (append_nil p.seen)
+    ∙ ap (λ l. l ++ posts t.turn) (append-nil p.seen)
 
 pub nothing_new : (p q : PassState) → HadTurn p q nothing → HoldsAll p → q.seen ≡ p.seen
-nothing_new p q t cover = no_more p q nothing t cover ∙ append_nil p.seen
+nothing_new p q t cover = no_more p q nothing t cover ∙ append-nil p.seen
 
 pub one_new : (p q : PassState) (x : Record) → HadTurn p q (only x) → HoldsAll p → records q ≡ records p ++ x ∷ []
 one_new p q x t cover = ap (map record_of) (no_more p q (only x) t cover) ∙ map-append record_of p.seen (post_of x t.turn ∷ [])

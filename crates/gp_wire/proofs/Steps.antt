@@ -1,6 +1,6 @@
 -- The steps of one turn, put together.
 use Rattle.std.proofs.Common.{◌≡◌, ℕ, ◌+◌, ◌%◌, ◌^◌, ◌<◌, length, arith, length-append, List, [], ◌∷◌, ◌++◌, sym, ap, ◌∙◌, subst, Some, None}
-use Rattle.std.proofs.lemmas.List.{length-map}
+use Rattle.std.proofs.lemmas.List.{length-map, append-nil}
 use Rattle.atomic_table.specs.Table.{Allows, step}
 use Rattle.gp_msg.specs.declared.node.Node.{Node}
 use Rattle.gp_msg.specs.declared.record.Record.{Record}
@@ -14,7 +14,7 @@ use Rattle.gp_wire.specs.Turns.{IsIdle, at_standing, rested, Enters, Turned}
 use Rattle.gp_wire.specs.Passes.{nothing, only}
 use Rattle.gp_wire.specs.Legal.{LegalFrom, IsOfOther}
 use mathlib.Core.Option as maybe
-use Rattle.gp_wire.proofs.Keeps.{append_nil, posts}
+use Rattle.gp_wire.proofs.Keeps.{posts}
 use Rattle.gp_wire.proofs.Words.{items_append}
 
 -- the whole list is in the slot
@@ -51,7 +51,7 @@ looked_on m e n t out none in_ after = record {
   more = in_.more;
   foreign = in_.foreign;
   inside = in_.inside;
-  after = after ∙ (ap (λ (p : SeatState). (rested p.0 t, [])) in_.after ∙ (ap (λ l. (view m.0.all m.0.nodes l Idle (Some t) m.0.olds, [])) (sym (append_nil (m.0.seen ++ in_.more))) ∙ ap (λ c. (view m.0.all m.0.nodes ((m.0.seen ++ in_.more) ++ []) Idle (Some t) m.0.olds, c)) (sym none)));
+  after = after ∙ (ap (λ (p : SeatState). (rested p.0 t, [])) in_.after ∙ (ap (λ l. (view m.0.all m.0.nodes l Idle (Some t) m.0.olds, [])) (sym (append-nil (m.0.seen ++ in_.more))) ∙ ap (λ c. (view m.0.all m.0.nodes ((m.0.seen ++ in_.more) ++ []) Idle (Some t) m.0.olds, c)) (sym none)));
 }
 
 -- a record is at the end of the list in the slot, and may follow what the seat had seen before this turn

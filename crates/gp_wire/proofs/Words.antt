@@ -1,5 +1,6 @@
 -- Lists, and the words of the rule.
 use Rattle.std.proofs.Common.{◌≡◌, ℕ, ◌+◌, ◌<◌, ◌≤◌, ◌⊎◌, List, [], ◌∷◌, ◌++◌, length, set, sym, refl, ap, subst, inl, inr, ⊎_elim, suc, zero, arith, append_assoc, Option, Some, None}
+use Rattle.std.proofs.lemmas.List.{append-nil}
 use mathlib.Core.Option.{some, some-injective, some-ne-none}
 use lib.ListN.{get_elem?}
 use Rattle.gp_msg.specs.declared.node.Node.{Node}
@@ -55,19 +56,11 @@ has_either n (x ∷ xs) ys (inr h) = ⊎_elim (λ a. inl (inr a)) (λ b. inr b) 
 
 module _ (L : List Record → Record → Type 0) where
   pub legal_more : (before xs : List Record) (x : Record) → LegalFrom L before xs → L (before ++ xs) x → LegalFrom L before (xs ++ x ∷ [])
-  legal_more before [] x a b = (subst (λ l. L l x) (append_nil before) b, tt)
-    where
-      append_nil : (l : List Record) → l ++ [] ≡ l
-      append_nil [] = refl
-      append_nil (y ∷ ys) = ap (λ l. y ∷ l) (append_nil ys)
+  legal_more before [] x a b = (subst (λ l. L l x) (append-nil before) b, tt)
   legal_more before (y ∷ ys) x a b = (a.0, legal_more (before ++ y ∷ []) ys x a.1 (subst (λ l. L l x) (sym (append_assoc before (y ∷ []) ys)) b))
 
   pub legal_behind : (before xs ys : List Record) → LegalFrom L before (xs ++ ys) → LegalFrom L (before ++ xs) ys
-  legal_behind before [] ys a = subst (λ l. LegalFrom L l ys) (sym (append_nil before)) a
-    where
-      append_nil : (l : List Record) → l ++ [] ≡ l
-      append_nil [] = refl
-      append_nil (y ∷ zs) = ap (λ l. y ∷ l) (append_nil zs)
+  legal_behind before [] ys a = subst (λ l. LegalFrom L l ys) (sym (append-nil before)) a
   legal_behind before (x ∷ xs) ys a = subst (λ l. LegalFrom L l ys) (append_assoc before (x ∷ []) xs) (legal_behind (before ++ x ∷ []) xs ys a.1)
 
 pub items_append : (xs ys : List Post) → items (xs ++ ys) ≡ items xs ++ items ys

@@ -3,4 +3,3 @@ pub mod Lines
 pub mod Tokens
 pub mod Numbers
 pub mod Spacing
-pub mod Results

@@ -4,7 +4,7 @@ ghost use Rattle.std.specs.List.{list_all};
 ghost use Rattle.std.specs.Char.{is_ascii_digit};
 ghost use Rattle.gp_words.specs.Numbers.{is_decimal, number_of};
 
-use gp_command::NoMemory;
+use gp_memory::NoMemory;
 use itoa::Buffer;
 
 /// The number that a token spells: digits, without a sign, without a leading zero but for `0` itself,

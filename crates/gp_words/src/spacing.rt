@@ -5,7 +5,7 @@
 ghost use Rattle.std.specs.Prelude.{◌≡◌, ◌++◌, OnOk, OnErr};
 ghost use Rattle.gp_words.specs.Spacing.{gap, dash};
 
-use gp_command::NoMemory;
+use gp_memory::NoMemory;
 
 /// Appends what stands before a word that has `words` words before it: a space where there are any.
 /// Where memory runs out `to` holds what it held.

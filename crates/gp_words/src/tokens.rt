@@ -3,7 +3,7 @@ ghost use Rattle.std.specs.Prelude.{◌≡◌, ◌==◌, ◌∷◌, [], IfOk, Ma
 ghost use Rattle.std.specs.List.{list_any};
 ghost use Rattle.gp_words.specs.Tokens.{is_space, tokens_of, texts, has_empty};
 
-use gp_command::NoMemory;
+use gp_memory::NoMemory;
 use std::alloc::Global;
 
 /// The tokens of a text, split at each single space.

@@ -21,20 +21,19 @@ use Rattle.gp_acceptor.specs.Epochs.{AcceptorInEpoch}
 use Rattle.gp_acceptor.specs.Epochs as acceptor
 use Rattle.gp_learner.specs.Epochs as learner
 use Rattle.gp_run.specs.Messages.{messages, on_message}
-use Rattle.gp_run.specs.Nodes.{node_of, is_present, fits_among}
-use Rattle.gp_run.specs.Nodes as run
-use Rattle.gp_run.specs.States.{proposer_acts, proposer_at, coordinator_acts, coordinator_at, coordinator_kept, acceptor_acts, acceptor_at, acceptor_kept, learner_acts, learner_at}
+use Rattle.gp_msg.specs.Nodes.{node_of, is_present, fits_among}
+use Rattle.gp_command.specs.declared.command.TheConstants.{PROPOSERS}
+use Rattle.gp_run.specs.States.{proposer_acts, proposer_at, coordinator_acts, coordinator_at, coordinator_left, coordinator_kept, acceptor_left, acceptor_acts, acceptor_at, acceptor_kept, learner_acts, learner_at}
 use Rattle.gp_run.specs.Legal.{Legal, fits, sent_by}
 use Rattle.gp_run.specs.Refusals.{message_named, refusal_among}
 use Rattle.gp_run.specs.Runs.{entry_after}
-use Rattle.gp_run.proofs.Fitting.{refused_where, none_tells}
-use Rattle.gp_run.proofs.Fitting.{node_there}
+use Rattle.gp_run.proofs.Fitting.{refused_where, none_tells, node_there}
 use Rattle.gp_run.proofs.Running.{offers_below}
 use Rattle.gp_agreement.specs.Epochs.{leads_to}
 use Rattle.gp_agreement.proofs.Steps.{coordinator_own}
 use Rattle.gp_agreement.proofs.EpochCounts.{message_counted}
 use Rattle.gp_world.specs.Nodes.{states_below, nodes_at, IsThere}
-use Rattle.gp_world.specs.Acting.{offering, coordinator_left, acceptor_left, after_event, sent_at_event, CanAct, CanOffer, CanBegin, HasRoom}
+use Rattle.gp_world.specs.Acting.{offering, after_event, sent_at_event, CanAct, CanOffer, CanBegin, HasRoom}
 use Rattle.gp_world.proofs.Numbering.{length-states_below, slice_get-states_below, sent_of-states_below, changed-states_below}
 
 -- the message that an event names
@@ -162,7 +161,7 @@ module _ (config : Counts) (es : List Entry) where
   pub stepped : (event : Event) → after_event (nodes_at config es) event (named_in es event) ≡ nodes_at config (entry_after config es event ∷ es)
   stepped (Offer p d) =
       ap (λ xs. record (nodes_at config es) { proposers = xs })
-      (changed-states_below run.proposers (λ q. proposer_at q es) (λ q. (proposer_acts q (proposer_at q es) (Offer p d)).0) p (λ s. (proposer_offer s d).0) (λ q. first_of (nat_eq q p) (offering (proposer_at q es) d) (proposer_at q es, None)))
+      (changed-states_below PROPOSERS (λ q. proposer_at q es) (λ q. (proposer_acts q (proposer_at q es) (Offer p d)).0) p (λ s. (proposer_offer s d).0) (λ q. first_of (nat_eq q p) (offering (proposer_at q es) d) (proposer_at q es, None)))
   stepped (Begin c r) =
       ap (λ xs. record (nodes_at config es) { coordinators = xs })
       (changed-states_below config.coordinators (λ b. coordinator_at config b es) (λ b. (coordinator_acts b (coordinator_at config b es) (messages es) (Begin c r)).0) c (λ s. (coordinator.begin s r).0) (λ b. first_of (nat_eq b c) (coordinator.begin (coordinator_at config b es) r) (coordinator_at config b es, None)))
@@ -210,7 +209,7 @@ module _ (config : Counts) (es : List Entry) where
 
   pub sends : (event : Event) → fits config es event ≡ true → sent_at_event (nodes_at config es) event (named_in es event) ≡ sent_by config es (node_of event) event
   sends (Offer p d) h =
-      sent_of-states_below run.proposers (λ q. proposer_at q es) p (λ s. offering s d) (ltb-true p run.proposers h)
+      sent_of-states_below PROPOSERS (λ q. proposer_at q es) p (λ s. offering s d) (ltb-true p PROPOSERS h)
       ∙ second_of p (offering (proposer_at p es) d) (proposer_at p es, None)
   sends (Begin c r) h =
       sent_of-states_below config.coordinators (λ b. coordinator_at config b es) c (λ s. coordinator.begin s r) (ltb-true c config.coordinators (node_there config (length (messages es)) (Begin c r) h))
@@ -224,14 +223,14 @@ module _ (config : Counts) (es : List Entry) where
   -- ---- what the nodes can do
 
   there : (node : Node) → is_present config node ≡ true → IsThere (nodes_at config es) node
-  there (Proposer p) h = let l : p < run.proposers = ltb-true p run.proposers h in omega (arith, l, length-states_below run.proposers (λ q. proposer_at q es))
+  there (Proposer p) h = let l : p < PROPOSERS = ltb-true p PROPOSERS h in omega (arith, l, length-states_below PROPOSERS (λ q. proposer_at q es))
   there (Coordinator c) h = let l : c < config.coordinators = ltb-true c config.coordinators h in omega (arith, l, length-states_below config.coordinators (λ b. coordinator_at config b es))
   there (Acceptor a) h = let l : a < config.acceptors = ltb-true a config.acceptors h in omega (arith, l, length-states_below config.acceptors (λ b. acceptor_at config b es))
   there (Learner i) h = let l : i < config.learners = ltb-true i config.learners h in omega (arith, l, length-states_below config.learners (λ b. learner_at config b es))
 
-  can_offer : (p : ℕ) → p < run.proposers → length es < 2 ^ 31 → CanOffer (nodes_at config es).proposers p
+  can_offer : (p : ℕ) → p < PROPOSERS → length es < 2 ^ 31 → CanOffer (nodes_at config es).proposers p
   can_offer p l few s e =
-      let own : Some (proposer_at p es) ≡ Some s = sym (slice_get-states_below run.proposers (λ q. proposer_at q es) p l) ∙ e in
+      let own : Some (proposer_at p es) ≡ Some s = sym (slice_get-states_below PROPOSERS (λ q. proposer_at q es) p l) ∙ e in
       let same : proposer_at p es ≡ s = cc in
       let many = offers_below p es in
       subst (λ (x : ProposerState). x.offers < 2 ^ 32 - 1) same (omega (arith, many, few))
@@ -254,7 +253,7 @@ module _ (config : Counts) (es : List Entry) where
         omega (arith, l, few, leads_on m)
 
     pub can_act : (event : Event) → fits config es event ≡ true → CanAct (nodes_at config es) event (named_in es event)
-    can_act (Offer p d) h = (there (Proposer p) h, can_offer p (ltb-true p run.proposers h) few)
+    can_act (Offer p d) h = (there (Proposer p) h, can_offer p (ltb-true p PROPOSERS h) few)
     can_act (Begin c r) h =
         let here = node_there config (length (messages es)) (Begin c r) h in
         (there (Coordinator c) here, can_begin c r (ltb-true c config.coordinators here) h)

@@ -9,8 +9,7 @@ use Rattle.gp_msg.specs.declared.node.Node.TheVariants.{Proposer, Coordinator, A
 use Rattle.gp_msg.specs.declared.event.Event.{Event}
 use Rattle.gp_msg.specs.declared.event.Event.TheVariants.{Offer, Begin, Take, Fall}
 use Rattle.gp_msg.specs.declared.event.Kept.{Kept}
-use Rattle.gp_msg.specs.declared.event.Kept.TheVariants as kept
-use Rattle.gp_msg.specs.Messages.{Stamped, EpochPart, epoch_of, maybe_stamped}
+use Rattle.gp_msg.specs.Messages.{Stamped, epoch_of, maybe_stamped}
 use Rattle.gp_proposer.specs.State.{ProposerState}
 use Rattle.gp_proposer.specs.Table.{proposer_offer}
 use Rattle.gp_coordinator.specs.Epochs.{CoordinatorInEpoch}
@@ -18,7 +17,7 @@ use Rattle.gp_coordinator.specs.Epochs as coordinator
 use Rattle.gp_acceptor.specs.Epochs.{AcceptorInEpoch}
 use Rattle.gp_acceptor.specs.Epochs as acceptor
 use Rattle.gp_learner.specs.Epochs as learner
-use Rattle.gp_run.specs.Messages.{on_message}
+use Rattle.gp_run.specs.States.{coordinator_left, acceptor_left}
 use Rattle.gp_world.specs.Nodes.{NodesState, IsThere}
 
 -- a list with the element at a place changed by f
@@ -34,18 +33,6 @@ sent_of xs i f = option_and_then (λ x. (f x).1) (slice_get xs i)
 -- the step of a proposer that is offered a draft; a proposal is of no epoch
 abbrev pub offering : ProposerState → Draft → ProposerState × Option Stamped
 offering s d = ((proposer_offer s d).0, maybe_stamped 0 (proposer_offer s d).1)
-
--- the durable part of a coordinator after a fall that keeps a step, of which m is the message
-abbrev pub coordinator_left : CoordinatorInEpoch → Option Kept → Option Stamped → EpochPart
-coordinator_left s None m = coordinator.durable s
-coordinator_left s (Some (kept.Begin r)) m = coordinator.durable (coordinator.begin s r).0
-coordinator_left s (Some (kept.Take k)) m = on_message (coordinator.durable s) (λ x. coordinator.durable (coordinator.take s x).0) m
-
--- the durable part of an acceptor after a fall that keeps a step, of which m is the message
-abbrev pub acceptor_left : AcceptorInEpoch → Option Kept → Option Stamped → EpochPart
-acceptor_left s None m = acceptor.durable s
-acceptor_left s (Some (kept.Begin r)) m = acceptor.durable s
-acceptor_left s (Some (kept.Take k)) m = on_message (acceptor.durable s) (λ x. acceptor.durable (acceptor.take s x).0) m
 
 -- the nodes after one of them took a message
 abbrev pub after_take : NodesState → Node → Stamped → NodesState

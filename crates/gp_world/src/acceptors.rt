@@ -5,7 +5,8 @@ ghost use Rattle.gp_msg.specs.Messages.{message_of, part_of, epoch_of};
 ghost use Rattle.gp_acceptor.specs.Epochs.{opening};
 ghost use Rattle.gp_acceptor.specs.Epochs as table;
 ghost use Rattle.gp_world.specs.Nodes.{states_below};
-ghost use Rattle.gp_world.specs.Acting.{changed, sent_of, acceptor_left, HasRoom};
+ghost use Rattle.gp_run.specs.States.{acceptor_left};
+ghost use Rattle.gp_world.specs.Acting.{changed, sent_of, HasRoom};
 
 use gp_acceptor::Acceptor;
 use gp_command::NoMemory;

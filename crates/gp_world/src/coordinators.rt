@@ -6,7 +6,8 @@ ghost use Rattle.gp_coordinator.specs.Epochs.{opening, durable};
 ghost use Rattle.gp_coordinator.specs.Epochs as table;
 ghost use Rattle.gp_run.specs.TopCount.{greatest_count};
 ghost use Rattle.gp_world.specs.Nodes.{states_below};
-ghost use Rattle.gp_world.specs.Acting.{changed, sent_of, coordinator_left, CanBegin, HasRoom};
+ghost use Rattle.gp_run.specs.States.{coordinator_left};
+ghost use Rattle.gp_world.specs.Acting.{changed, sent_of, CanBegin, HasRoom};
 
 use gp_command::NoMemory;
 use gp_coordinator::Coordinator;

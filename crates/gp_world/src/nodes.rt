@@ -30,7 +30,8 @@ pub struct Nodes {
 }
 
 impl Model for Nodes {
-    ghost use Rattle.gp_world.specs.Nodes.{NodesState, nodes_code};
+    ghost use Rattle.gp_world.specs.Nodes.{NodesState};
+    ghost use Rattle.gp_world.specs.Codes.{nodes_code};
 
     ghost Value = { NodesState };
 

@@ -1,14 +1,13 @@
 //! The proposers of a world.
 ghost use Rattle.std.specs.Prelude.{◌≡◌, ◌<◌, length, map, IfOk, OnOk, OnErr};
 ghost use Rattle.std.specs.Option.{option_to_list};
+ghost use Rattle.gp_command.specs.declared.command.TheConstants.{PROPOSERS};
 ghost use Rattle.gp_msg.specs.Messages.{message_of};
 ghost use Rattle.gp_proposer.specs.Table.{opening, proposer_offer};
-ghost use Rattle.gp_run.specs.Nodes.{proposers};
 ghost use Rattle.gp_world.specs.Nodes.{states_below};
 ghost use Rattle.gp_world.specs.Acting.{changed, sent_of, offering, CanOffer};
 
-use crate::refusals::PROPOSERS;
-use gp_command::{Draft, NoMemory};
+use gp_command::{Draft, NoMemory, PROPOSERS};
 use gp_msg::Outs;
 use gp_proposer::{Proposer, Unoffered};
 use std::alloc::Global;
@@ -16,7 +15,7 @@ use std::alloc::Global;
 /// All proposers, before anything happened.
 #[tactic(auto, using(crate::proofs::Numbering::states_more))]
 pub fn new_all(alloc: Global) -> Result<Vec<Proposer>, NoMemory>
-    ensures { IfOk result (λ all. all.items ≡ states_below proposers opening) }
+    ensures { IfOk result (λ all. all.items ≡ states_below PROPOSERS opening) }
 {
     let mut all = Vec::new(alloc);
     for p in 0..PROPOSERS {

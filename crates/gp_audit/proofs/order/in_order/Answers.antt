@@ -1,7 +1,7 @@
 use Rattle.std.proofs.Common.{sym, arith}
 use Rattle.gp_history.specs.Sequence.{history_of}
 use Rattle.gp_history.proofs.Joins.{history_of_is}
-use Rattle.gp_audit.proofs.CanonicalWalk.{none_taken, front_prefix, front_end, front_length, front_taken}
+use Rattle.gp_history.proofs.Fronts.{none_taken, front_prefix, front_end, front_length, front_taken}
 use Rattle.gp_audit.proofs.order.in_order.Goals as goal
 
 pub loop-next-init : goal.loop-next-init

@@ -1,7 +1,7 @@
 use Rattle.std.proofs.Common.{◌-◌, length}
 use Rattle.gp_history.specs.Sequence.{history_of}
 use Rattle.gp_history.specs.Canonical.{canonical}
-use Rattle.gp_audit.proofs.CanonicalWalk.{IsFront}
+use Rattle.gp_history.proofs.Fronts.{IsFront}
 use Rattle.gp_audit.proofs.order.in_order.Given as goal
 
 abbrev pub invariant-loop-next : goal.invariant-loop-next

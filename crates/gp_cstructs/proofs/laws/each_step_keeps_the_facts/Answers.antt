@@ -1,7 +1,8 @@
 use Rattle.gp_cstructs.proofs.ProtocolLaws.{lawful}
-use Rattle.gp_cstructs.proofs.CommandLaws.{commands_kept}
+use Rattle.gp_cstructs.proofs.CommandLaws.{commands_kept, identity_told}
 use Rattle.gp_cstructs.proofs.Runs.{happens_keeps}
 use Rattle.gp_cstructs.proofs.OfferedCommands.{happens_offers}
+use Rattle.gp_cstructs.proofs.ProposedOnce.{happens_once}
 use Rattle.gp_cstructs.proofs.laws.each_step_keeps_the_facts.Goals as goal
 
 pub returns-clause-facts : goal.returns-clause-facts
@@ -9,3 +10,6 @@ returns-clause-facts g c a k some w e facts fits = happens_keeps (lawful g.V.CSt
 
 pub returns-clause-offered : goal.returns-clause-offered
 returns-clause-offered g c a k w e offered fits = happens_offers (commands_kept g.V.CStructs.operations g.met.V.CStructs.laws a k) w offered e fits
+
+pub returns-clause-once : goal.returns-clause-once
+returns-clause-once g c a k w e once = happens_once (identity_told g.V.CStructs.operations g.met.V.CStructs.laws a k) w e once

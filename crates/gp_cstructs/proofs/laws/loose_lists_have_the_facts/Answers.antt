@@ -1,7 +1,8 @@
 use Rattle.gp_cstructs.proofs.ProtocolLaws.{lawful}
-use Rattle.gp_cstructs.proofs.CommandLaws.{commands_kept}
+use Rattle.gp_cstructs.proofs.CommandLaws.{commands_kept, identity_told}
 use Rattle.gp_cstructs.proofs.Runs.{run_keeps}
 use Rattle.gp_cstructs.proofs.OfferedCommands.{run_offers}
+use Rattle.gp_cstructs.proofs.ProposedOnce.{run_once}
 use Rattle.gp_cstructs.proofs.laws.loose_lists_have_the_facts.Goals as goal
 
 pub returns-clause-facts : goal.returns-clause-facts
@@ -9,3 +10,6 @@ returns-clause-facts g c a k some es loose = run_keeps (lawful g.V.CStructs.oper
 
 pub returns-clause-offered : goal.returns-clause-offered
 returns-clause-offered g c a k es loose = run_offers (commands_kept g.V.CStructs.operations g.met.V.CStructs.laws a k) es loose
+
+pub returns-clause-once : goal.returns-clause-once
+returns-clause-once g c a k es = run_once (identity_told g.V.CStructs.operations g.met.V.CStructs.laws a k) es

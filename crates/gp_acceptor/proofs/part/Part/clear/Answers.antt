@@ -2,7 +2,7 @@ use Rattle.std.proofs.Common.{◌≡◌, ◌∙◌, ap, length, arith}
 use Rattle.std.specs.Vec.{with_items}
 use Rattle.std.proofs.lemmas.List.{with_items_is}
 use Rattle.gp_acceptor.specs.State.{nobody, histories}
-use Rattle.gp_acceptor.proofs.Holding.{history_of_nothing}
+use Rattle.gp_history.proofs.Pushing.{history_of_nothing}
 use Rattle.gp_acceptor.proofs.part.Part.clear.Goals as goal
 
 pub returns : goal.returns

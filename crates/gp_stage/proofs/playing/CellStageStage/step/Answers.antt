@@ -1,6 +1,6 @@
 use Rattle.std.proofs.Common.{◌≡◌, true, ◌∷◌, ◌++◌, length, drop, slice_get, take, sym, ap, ◌∙◌, subst, inl, arith, Err}
 use Rattle.gp_run.specs.Legal.{fits}
-use Rattle.gp_run.specs.Nodes.{node_of}
+use Rattle.gp_msg.specs.Nodes.{node_of}
 use Rattle.gp_run.specs.Runs.{entries_in, entry_after}
 use Rattle.gp_work.specs.Moves.{event_of}
 use Rattle.gp_driver.specs.Stages.{AllBut, Anyone, FailsByNode}
