@@ -11,8 +11,8 @@ use gp_round::Config;
 use std::alloc::Global;
 use std::marker::Model;
 
-/// An acceptor: its epoch and its state there. The epoch, its round, the round of its last vote and that
-/// vote survive a crash.
+/// An acceptor: its epoch and its state there. The epoch, its round, the round of its last vote and
+/// that vote survive a crash.
 #[derive(Drop, Debug)]
 pub struct Acceptor {
     alloc: Global,
@@ -32,8 +32,8 @@ impl Model for Acceptor {
 }
 
 impl Acceptor {
-    /// An acceptor to which nothing has happened: it is in epoch 0. `number` is its number among the
-    /// acceptors, from 0.
+    /// An acceptor at its start: it is in epoch 0. `number` is its number among the acceptors, from
+    /// 0. `NoMemory` if memory runs out.
     pub fn new(alloc: Global, config: &Config, number: u32) -> Result<Acceptor, NoMemory>
         ensures { IfOk result (λ a. a ≡ opening config.now number) }
     {
@@ -44,15 +44,15 @@ impl Acceptor {
         })
     }
 
-    /// The part that survives a crash.
+    /// The part that survives a crash. `NoMemory` if memory runs out.
     pub fn durable(&self) -> Result<Durable, NoMemory>
         ensures { IfOk result (λ d. part_of d ≡ durable self.now) }
     {
         self.part.durable(self.epoch)
     }
 
-    /// Crashes and restarts with this durable part: nothing is held. Of the durable part of a coordinator it
-    /// takes the epoch alone. It takes no memory.
+    /// Crashes and restarts with this durable part. The held values are lost. If the durable part
+    /// is that of a coordinator, only the epoch is taken from it, and the state there stays.
     pub fn fall(&mut self, durable: Durable)
         ensures { self.new ≡ fall self.old (part_of durable) }
     {
@@ -72,14 +72,15 @@ impl Acceptor {
         }
     }
 
-    /// Takes a message, and returns what it sends for it: at most one message. If memory runs out, nothing
-    /// changes.
+    /// Takes a message, and returns what it sends for it: at most one message. If memory runs out,
+    /// nothing changes. The epoch of a Final must be below 2^32 - 1.
     ///
-    /// In its epoch it answers a greater round that is asked for with its last vote. It holds what
-    /// coordinators send for its round or a greater one, and votes if the values of a quorum of them are
-    /// held. In a fast round in which it has voted, it votes for each proposed command that its vote does
-    /// not have. After a Final that is not of an earlier epoch it is in the epoch after that one, in round
-    /// zero: its votes are forgotten, and nothing is held.
+    /// In its epoch the acceptor answers a P1a of a greater round with its last vote. It holds the
+    /// values that coordinators send for its round or a greater one, and votes if it holds those of
+    /// a quorum of coordinators. In a fast round only its first vote comes from them. After that it
+    /// votes for each proposed command that its vote lacks. After a Final that is not of an earlier
+    /// epoch it is in the epoch after that one, in round zero: its votes are forgotten, and it
+    /// holds no value.
     pub fn take(&mut self, m: &Msg) -> Result<Outs, NoMemory>
         requires { closed_by (message_of m.now) < 2 ^ 32 - 1 }
         ensures next { OnOk result (self.new ≡ (take self.old (message_of m.now)).0) }
@@ -108,7 +109,7 @@ impl Acceptor {
         }
     }
 
-    /// An equal acceptor.
+    /// An equal acceptor. `NoMemory` if memory runs out.
     pub fn copy(&self) -> Result<Acceptor, NoMemory>
         ensures { IfOk result (λ a. a ≡ self.now) }
     {

@@ -1,4 +1,4 @@
-//! What an acceptor keeps of its epoch, and what it does there.
+//! The state of an acceptor in its epoch, and what it does there.
 ghost use Rattle.std.specs.Prelude.{◌≡◌, [], ◌∷◌, ◌<◌, IfOk, IsTrue, OnOk, OnErr, map, not, cond, ◌&&◌, false};
 ghost use Rattle.std.specs.Option.{option_map, option_to_list};
 ghost use Rattle.gp_history.specs.History.{has, push};
@@ -7,7 +7,7 @@ ghost use Rattle.gp_round.specs.Rounds.{earlier, same_round, is_fast};
 ghost use Rattle.gp_msg.specs.Messages.{message_of, part_of, maybe_stamped, EpochPart, Acceptors, Asked, Proposed, Sent, Voted, InEpoch};
 ghost use Rattle.gp_acceptor.specs.State.{opening, histories};
 ghost use Rattle.gp_acceptor.specs.Table.{acceptor_take, acceptor_fall, durable, raised, with_value, with_vote};
-ghost use Rattle.gp_acceptor.specs.Revotes.{IsAgreed, IsPlan, settled, told};
+ghost use Rattle.gp_acceptor.specs.Revotes.{IsAgreed, IsPlan, settled, vote_sent};
 
 use crate::held::{clear, copy_value, value_at};
 use crate::voting::{revote, told_vote};
@@ -20,8 +20,8 @@ use gp_safe::newer;
 use std::alloc::Global;
 use std::marker::Model;
 
-/// The state of an acceptor in its epoch. Its round, the round of its last vote and that vote survive a
-/// crash. The values that it holds of coordinators do not.
+/// The state of an acceptor in its epoch. Its round, the round of its last vote and that vote
+/// survive a crash. The values that are held of coordinators do not.
 #[derive(Drop, Debug)]
 pub struct Part {
     alloc: Global,
@@ -51,7 +51,8 @@ impl Model for Part {
 }
 
 impl Part {
-    /// The state in which nothing has happened: round zero, with the empty history as its vote.
+    /// The state at the start: round zero, with the empty history as its vote. `NoMemory` if memory
+    /// runs out.
     #[tactic(auto, using(crate::proofs::Holding::all_gone, gp_history::proofs::Pushing::history_of_nothing, crate::proofs::Agreeing::agreed_of_nobody))]
     pub fn new(alloc: Global, config: &Config, number: u32) -> Result<Part, NoMemory>
         ensures { IfOk result (λ a. a ≡ opening config.now number) }
@@ -71,7 +72,7 @@ impl Part {
         })
     }
 
-    /// Returns to the state in which nothing has happened. It takes no memory.
+    /// Returns to the state at the start.
     #[tactic(auto, using(crate::proofs::Agreeing::agreed_of_nobody))]
     pub fn clear(&mut self)
         ensures { self.new ≡ opening self.old.config self.old.number }
@@ -82,7 +83,7 @@ impl Part {
         clear(&mut self.held);
     }
 
-    /// What survives a crash, with the epoch that is given.
+    /// The part that survives a crash, with this epoch. `NoMemory` if memory runs out.
     pub fn durable(&self, epoch: u32) -> Result<Durable, NoMemory>
         ensures { IfOk result (λ d. ◌≡◌ {A = EpochPart} (part_of d) (record { epoch = epoch; part = durable self.now })) }
     {
@@ -94,7 +95,8 @@ impl Part {
         })
     }
 
-    /// Crashes and restarts with what is durable: nothing is held. It takes no memory.
+    /// Crashes and restarts with this round, and with this last vote and its round. The held values
+    /// are lost.
     #[tactic(auto, using(crate::proofs::Agreeing::agreed_of_nobody))]
     pub fn fall(&mut self, round: Round, voted: Round, vote: History)
         ensures { self.new ≡ acceptor_fall self.old (Acceptors round voted (history_of vote)) }
@@ -105,7 +107,7 @@ impl Part {
         clear(&mut self.held);
     }
 
-    /// An equal part.
+    /// An equal part. `NoMemory` if memory runs out.
     pub fn copy(&self) -> Result<Part, NoMemory>
         ensures { IfOk result (λ a. a ≡ self.now) }
     {
@@ -124,7 +126,7 @@ impl Part {
         })
     }
 
-    // Enters a greater round, in which nothing is held yet.
+    // Enters a greater round, in which no value is held yet.
     #[tactic(auto, using(crate::proofs::Agreeing::agreed_of_nobody))]
     fn raise(&mut self, round: Round)
         ensures { self.new ≡ raised self.old round }
@@ -135,7 +137,9 @@ impl Part {
         }
     }
 
-    /// Answers a greater round with the last vote. If memory runs out, nothing changes.
+    /// Enters a round that is greater than its own, and returns the message that answers with its
+    /// last vote. For any other round nothing changes, and there is no message. If memory runs out,
+    /// nothing changes.
     pub fn answer(&mut self, epoch: u32, asked: Round) -> Result<Outs, NoMemory>
         ensures next { OnOk result (self.new ≡ (acceptor_take self.old (Asked asked)).0) }
         ensures sent { IfOk result (λ outs. map message_of outs ≡ option_to_list (maybe_stamped epoch (acceptor_take self.old (Asked asked)).1)) }
@@ -183,8 +187,8 @@ impl Part {
         Ok(outs)
     }
 
-    /// Takes a proposed command: in a fast round in which it has voted, it votes for it. If memory runs out,
-    /// nothing changes.
+    /// Takes a proposed command: in a fast round in which it has voted, it votes for the command if
+    /// its vote lacks it. If memory runs out, nothing changes.
     pub fn propose(&mut self, epoch: u32, c: &Command) -> Result<Outs, NoMemory>
         ensures next { OnOk result (self.new ≡ (acceptor_take self.old (Proposed c.now)).0) }
         ensures sent { IfOk result (λ outs. map message_of outs ≡ option_to_list (maybe_stamped epoch (acceptor_take self.old (Proposed c.now)).1)) }
@@ -197,20 +201,20 @@ impl Part {
         }
     }
 
-    // What counts as held in a round that is not below its own.
+    // The values that are held in a round that is not below its own: none in a greater one.
     fn values_in(&self, round: Round) -> &[Option<History>]
         ensures { histories result.now ≡ cond (earlier self.now.round round) [] self.now.held }
     {
         if self.round < round { &[] } else { &self.held }
     }
 
-    // What changes with a value of a coordinator, made before anything changes.
+    // The changes that a value of a coordinator makes, computed before anything changes.
     fn plan(&self, epoch: u32, round: Round, sender: u32, value: &History) -> Result<Plan, NoMemory>
         requires reached { earlier round self.now.round ≡ false }
         requires known { sender < self.now.config.coordinators }
         ensures next { IfOk result (λ p. IsPlan self.now round sender (history_of value.now) (option_map history_of p.held) (option_map history_of p.vote)) }
         ensures agreed { IfOk result (λ p. IsAgreed (settled self.now round sender (option_map history_of p.held) (option_map history_of p.vote))) }
-        ensures sent { IfOk result (λ p. map message_of p.outs ≡ option_to_list (maybe_stamped epoch (told self.now round (option_map history_of p.vote)))) }
+        ensures sent { IfOk result (λ p. map message_of p.outs ≡ option_to_list (maybe_stamped epoch (vote_sent self.now round (option_map history_of p.vote)))) }
     {
         let values = self.values_in(round);
         let newer = newer(value_at(values, sender), value)?;
@@ -240,7 +244,7 @@ impl Part {
         })
     }
 
-    // Holds a value of a coordinator and casts a vote in its round, where there are such.
+    // Holds a value of a coordinator and casts a vote in its round, each if there is one.
     #[tactic(auto, using(crate::proofs::Holding::histories_set))]
     fn settle(&mut self, sender: u32, value: Option<History>, vote: Option<History>)
         requires known { sender < self.old.config.coordinators }
@@ -256,8 +260,10 @@ impl Part {
         }
     }
 
-    /// Takes a value of a coordinator for its round or a greater one: it holds the value, and votes if the
-    /// values of a quorum of coordinators are held. If memory runs out, nothing changes.
+    /// Takes a value of a coordinator for its round or a greater one, which it then enters. It
+    /// holds the value if it holds none of that coordinator in the round, or one with fewer
+    /// commands, and casts the vote that the held values give, if they give one. Any other value
+    /// changes nothing. If memory runs out, nothing changes.
     #[tactic(auto, using(crate::proofs::Taking::raised_config))]
     pub fn receive(
         &mut self,
@@ -280,7 +286,7 @@ impl Part {
     }
 }
 
-// What a step holds, what it votes, and what it sends.
+// The value that a step holds, the vote that it casts, and what it sends.
 #[derive(Drop)]
 struct Plan {
     held: Option<History>,

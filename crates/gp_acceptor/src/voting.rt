@@ -1,4 +1,4 @@
-//! The vote that values of coordinators make, and the message that sends it.
+//! The vote that the held values give, and the message that sends it.
 ghost use Rattle.std.specs.Prelude.{◌≡◌, ◌<◌, IfOk, map, Option, ◌&&◌};
 ghost use Rattle.std.specs.Option.{option_map, option_to_list, option_copied};
 ghost use Rattle.gp_history.specs.Sequence.{history_of};
@@ -17,10 +17,11 @@ use gp_round::{Config, Mode, Round};
 use gp_safe::{HistoryCow, Replaced, join, join_news};
 use std::alloc::Global;
 
-/// The vote that the held values make, if they make one. A multi round in which it has voted gives one
-/// only if it has more commands than the last vote.
+/// The vote that the held values give after the new value of one coordinator, if they give one. In
+/// a round that is not fast and in which it has voted, `None` says that the vote stays as it is.
+/// `NoMemory` if memory runs out.
 ///
-/// What was agreed on before is in the vote, so only what the new value adds is looked for.
+/// In such a round the vote must have what quorums of coordinators agreed on before the new value.
 pub fn revote(
     alloc: Global,
     config: &Config,
@@ -53,10 +54,10 @@ pub fn revote(
     next_vote(alloc, voted, round, vote, agreed)
 }
 
-/// The vote that replaces the old one, if one does.
+/// The vote that replaces the old one, if one does. `NoMemory` if memory runs out.
 ///
-/// The first vote of a round is what a quorum of coordinators agreed on. In a round that is not fast,
-/// each later vote is the join of the vote before with that.
+/// The first vote of a round is what quorums of coordinators agreed on. In a round that is not
+/// fast, each later vote is the join of the vote before it with what they agreed on then.
 pub fn next_vote(
     alloc: Global,
     voted: Round,
@@ -78,8 +79,8 @@ pub fn next_vote(
     Ok(None)
 }
 
-/// The message that sends the next vote, if that is the first of its round or has more commands than the
-/// vote before.
+/// The message that sends the next vote, if that is the first of its round or has more commands
+/// than the vote before it. `NoMemory` if memory runs out.
 pub fn told_vote(
     alloc: Global,
     epoch: u32,

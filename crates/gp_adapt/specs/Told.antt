@@ -1,4 +1,4 @@
--- What watches say to calls that ask for the next round.
+-- What watches report to calls that ask for the next round.
 use Rattle.std.specs.Prelude.{◌≡◌, ◌<◌, ℕ, Bool, true, List, [], ◌∷◌, All, Option, Some, None, unwrap_or}
 use Rattle.std.specs.List.{Contains}
 use Rattle.gp_round.specs.declared.round.Round.{Round}
@@ -16,7 +16,7 @@ use Rattle.gp_adapt.specs.Calls.{Call, AreAnswered}
 abbrev pub AreSent : List Entry → List Stamped → Type 0
 AreSent es ms = All (λ m. Contains (messages es) m) ms
 
--- a clash is told only if a watch of round r, in some epoch, has clashed that saw messages of one legal run
+-- a collision is reported only if a watch of round r, in some epoch, that saw messages of one legal run has noticed a collision
 pub record IsTold (r : Round) (clashed : Bool) : Type 0 where
   pub config : Counts
   pub some : 0 < config.acceptors
@@ -27,13 +27,13 @@ pub record IsTold (r : Round) (clashed : Bool) : Type 0 where
   pub sent : AreSent entries seen
   pub clash : clashed ≡ true → HasClash (watched (epoch, r) seen)
 
--- each call is told what a watch of the round last answered says; before the first answer there is none
+-- each call reports what a watch of the round last returned says; before the first returned round there is none
 abbrev pub AreTold : Option Round → List Call → Type 0
 AreTold last [] = Unit {0}
 AreTold None (c ∷ cs) = AreTold c.answer cs
 AreTold (Some r) (c ∷ cs) = IsTold r c.clashed × AreTold (Some (unwrap_or c.answer r)) cs
 
--- all calls from the first one on, each of which had a count left and was told what a watch of the round last answered says
+-- all calls from the first one on, each of which had a count left and reported what a watch of the round last returned says
 pub record AreWatchedCalls (calm : ℕ) (cs : List Call) : Type 0 where
   pub answered : AreAnswered (opening calm) cs
   pub told : AreTold None cs

@@ -1,4 +1,4 @@
-//! Rounds that adapt to clashes.
+//! Rounds that adapt to collisions.
 ghost use Rattle.std.specs.Prelude.{◌≡◌, ◌<◌, ◌≤◌, ◌+◌, ◌&&◌, true, nat_lt, IfSome};
 ghost use Rattle.std.specs.Option.{is_some};
 ghost use Rattle.gp_round.specs.Configs.{is_owner, lead_of};
@@ -11,17 +11,19 @@ use crate::course::Course;
 use crate::scene::Scene;
 use gp_round::{Config, LAST_COUNT, Mode, Round};
 
-/// The greatest number of calls without a clash that can make a calm.
+/// The greatest number of calls without a collision that can make a calm.
 pub const MOST_CALM: u32 = 1_000;
 
 /// A closure that says in which mode the next round begins.
 pub type ChooseMode = Box<dyn Fn(&Scene) -> Mode>;
 
-/// When a coordinator begins a round, and which: at its first call, after each clash, and at a calm, which
-/// is enough calls without a clash, if there were clashes before.
+/// Says when a coordinator begins a round, and which one. It begins a round at its first call,
+/// after each collision, and after a calm if there were collisions before. A calm is a fixed number
+/// of calls in a row without a collision.
 ///
-/// It keeps a closure beside the facts that it may be called on every scene, and that it answers a single
-/// round from two clashes on. In a single round all values are compatible, so it does not clash.
+/// It keeps a closure and two facts: the closure may be called on every scene, and it returns
+/// `Single` after two or more collisions. In a single round all values are compatible, so no
+/// collision is possible.
 #[derive(Drop)]
 pub struct Adapt {
     pub config: Config,
@@ -29,7 +31,8 @@ pub struct Adapt {
     pub choose: ChooseMode,
     /// What it remembers of its calls.
     pub course: Course,
-    /// Whether the closure is known to answer a fast, a multi or a single round by the clashes alone. It changes no answer.
+    /// Whether the closure is known to return a fast, a multi or a single round by the number of
+    /// collisions alone. This changes no result.
     pub by_clashes: bool,
     pub ghost known: { coordinator < config.coordinators },
     pub ghost callable: { TakesScenes (ChooseMode.pre choose) },
@@ -38,9 +41,9 @@ pub struct Adapt {
 }
 
 impl Adapt {
-    /// The rounds of a coordinator in a configuration, in the modes that the closure answers. `calm` is the
-    /// number of calls without a clash that make a calm, from 1 to `MOST_CALM`. There was no call yet. It
-    /// takes no memory.
+    /// The rounds of a coordinator in a configuration, in the modes that the closure returns,
+    /// before the first call. `calm` is the number of calls without a collision that make a calm,
+    /// from 1 to `MOST_CALM`.
     pub fn new(config: Config, coordinator: u32, calm: u32, choose: ChooseMode) -> Adapt
         requires known { coordinator < config.coordinators }
         requires some_calm { 1 ≤ calm }
@@ -61,8 +64,8 @@ impl Adapt {
         }
     }
 
-    /// As `new`, where the closure answers a fast round without a clash, a multi round after one, and a single round after
-    /// more.
+    /// As `new`, for a closure that returns a fast round after no collision, a multi round after
+    /// one, and a single round after more.
     pub fn new_by_clashes(config: Config, coordinator: u32, calm: u32, choose: ChooseMode) -> Adapt
         requires known { coordinator < config.coordinators }
         requires some_calm { 1 ≤ calm }
@@ -84,7 +87,7 @@ impl Adapt {
         }
     }
 
-    /// As before the first call. It takes no memory.
+    /// Returns to the state before the first call.
     pub fn reset(&mut self)
         ensures course { self.new.course ≡ opening self.old.course.calm }
         ensures config { self.new.config ≡ self.old.config }
@@ -95,12 +98,12 @@ impl Adapt {
         self.course.reset();
     }
 
-    /// The round that the coordinator is to begin next, if it is to begin one: its count is one above that of
-    /// `highest`, and its mode is what the closure answers. `clashed` says whether the round last begun has
-    /// clashed. It takes no memory of its own.
+    /// The round that the coordinator begins next, if it begins one. Its count is one above that of
+    /// `highest`, and its mode is what the closure returns. `clashed` says whether there was a
+    /// collision in the round that was begun last.
     ///
-    /// It is `None` if this call begins no round, or if the count of `highest` is `LAST_COUNT` or more. What
-    /// is remembered changes in either case.
+    /// The result is `None` if this call begins no round, or if the count of `highest` is
+    /// `LAST_COUNT` or more. What is remembered changes in either case.
     pub fn next(&mut self, highest: Round, clashed: bool) -> Option<Round>
         ensures course { self.new.course ≡ moved self.old.course clashed }
         ensures config { self.new.config ≡ self.old.config }

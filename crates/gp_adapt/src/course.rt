@@ -7,7 +7,7 @@ use std::marker::Model;
 
 /// What an adapting coordinator remembers of its calls: whether there was one, and the scene.
 ///
-/// A contract sees it as these, beside the number of calls without a clash that make a calm.
+/// A contract sees these, and the number of calls without a collision that make a calm.
 #[derive(Drop, Debug)]
 pub struct Course {
     calm: u32,
@@ -31,7 +31,7 @@ impl Model for Course {
 }
 
 impl Course {
-    /// Before the first call; so many calls without a clash make a calm. It takes no memory.
+    /// The state before the first call. `calm` calls without a collision make a calm.
     pub(crate) fn new(calm: u32) -> Course
         requires { 1 ≤ calm }
         ensures { result ≡ opening calm }
@@ -46,7 +46,7 @@ impl Course {
         }
     }
 
-    /// As before the first call. It takes no memory.
+    /// Returns to the state before the first call.
     pub(crate) fn reset(&mut self)
         ensures { self.new ≡ opening self.old.calm }
     {
@@ -57,14 +57,14 @@ impl Course {
         };
     }
 
-    /// What the closure is told. It takes no memory.
+    /// The scene, which the closure is given.
     pub fn scene(&self) -> Scene
         ensures { result ≡ scene_of self.now }
     {
         self.scene
     }
 
-    /// One more call, and whether it begins a round. It takes no memory.
+    /// Counts one more call, and returns whether it begins a round.
     pub(crate) fn advance(&mut self, clashed: bool) -> bool
         ensures moved { self.new ≡ moved self.old clashed }
         ensures begins { result ≡ begins self.old clashed }
@@ -89,7 +89,7 @@ impl Course {
         returns
     }
 
-    // One more clash.
+    // Counts one more collision.
     fn clash(&mut self)
         ensures { self.new ≡ after_clash self.old }
     {

@@ -1,4 +1,5 @@
-//! Rounds that adapt: a coordinator goes over to safer rounds after clashes, and comes back after quiet.
+//! Rounds that adapt: a coordinator changes to safer rounds after collisions, and changes back
+//! after a calm.
 #![tactic(auto)]
 
 mod adapt;

@@ -1,13 +1,13 @@
-//! What a choice of a mode is told.
+//! What the choice of a mode is based on.
 
-/// The number of clashes from which on more are not told apart.
+/// Collisions are counted up to this number.
 pub const MOST_CLASHES: u32 = 2;
 
-/// What the closure of an adapting coordinator is told when a round begins.
+/// What the closure of an adapting coordinator is given when a round begins.
 #[derive(Clone, Copy, Debug, PartialEq, Eq)]
 pub struct Scene {
-    /// How many clashes there were since they last came back to none, at most `MOST_CLASHES`.
+    /// How many collisions there were since their count last returned to 0, at most `MOST_CLASHES`.
     pub clashes: u32,
-    /// How many calls without a clash there were since the last clash or the last calm.
+    /// How many calls without a collision there were since the last collision or the last calm.
     pub quiet: u32,
 }

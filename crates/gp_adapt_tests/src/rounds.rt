@@ -15,10 +15,10 @@ const ZERO: Round = Round {
     lead: 0,
 };
 
-// A round of coordinator 0: count and mode. None is no round.
+// A round of coordinator 0: its count and its mode. `None` is no round.
 type Text = Option<(u32, Mode)>;
 
-// The highest round, whether it has clashed, and the round that is to begin next.
+// The highest round, whether it has collided, and the round that is to begin next.
 type Call = (Text, bool, Text);
 
 fn round(text: (u32, Mode), coordinator: u32) -> Round {
@@ -111,7 +111,7 @@ fn no_round_follows_the_greatest_count(rt: HostRuntime) -> Result<(), Fail> {
         (LAST, true, None),
         (Some((LAST_COUNT - 1, Mode::Single)), true, LAST),
         (LAST, false, None),
-        // the clashes came back to none while no count was left
+        // the number of collisions went back to none while no count was left
         (Some((7, Mode::Single)), true, Some((8, Mode::Multi))),
     ];
     asks(&rt, rt.alloc(), 0, 1, &CALLS)

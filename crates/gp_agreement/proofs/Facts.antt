@@ -48,7 +48,7 @@ use Rattle.gp_run.specs.Messages.{messages}
 use Rattle.gp_run.specs.States.{coordinator_at, acceptor_at, learner_at}
 use Rattle.gp_run.specs.Legal.{Legal}
 use Rattle.gp_run.specs.Chosen as chosen
-use Rattle.gp_agreement.specs.Facts.{IsReached, HasSent, IsBacked, IsJoined, AnswerFacts, CoordinatorFacts, AcceptorFacts, IsBoundOfChosen, LearnerFacts, AreClosed, IsCutOfChosen, EpochFacts, AreProposed, AreProposedOnce, Facts}
+use Rattle.gp_agreement.specs.Facts.{IsReached, HasSent, IsBacked, IsJoined, AnswerFacts, CoordinatorFacts, AcceptorFacts, IsBoundOfChosen, LearnerFacts, AreClosed, IsCutOfChosen, EpochFacts, AreProposed, Facts}
 use Rattle.gp_agreement.proofs.FinalsBelow as finals
 use Rattle.gp_agreement.proofs.Projection.{T}
 use Rattle.gp_agreement.proofs.Projected.{projection}
@@ -370,11 +370,6 @@ module _ (config : Counts) (some : 0 < config.acceptors) (es : List Entry) (lega
     learner_learned = λ l d h. among_contains (messages es) (Offered d) (learned_proposed config es legal some l d h);
   }
 
-  all_once : AreProposedOnce es
-  all_once =
-      let k = proposed_once config es legal in
-      record { once = k.once; numbered = λ c p. k.numbered_there c (contains_among (messages es) (Offered c) p) }
-
   -- ---- all of them
 
   pub all_facts : Facts config es
@@ -385,5 +380,5 @@ module _ (config : Counts) (some : 0 < config.acceptors) (es : List Entry) (lega
     epochs = epoch_facts;
     votes_agree = votes_agree;
     proposed = all_proposed;
-    proposed_once = all_once;
+    proposed_once = proposed_once config es legal;
   }

@@ -1,5 +1,5 @@
 -- Each command is proposed once.
-use Rattle.std.proofs.Common.{◌≡◌, ◌≤◌, ◌+◌, ℕ, suc, Bool, cond, nat_eq, List, [], ◌∷◌, Option, Some, None, slice_get, length, refl, sym, subst, ap, ◌∙◌, inl, inr, arith}
+use Rattle.std.proofs.Common.{◌≡◌, ◌≤◌, ◌+◌, ℕ, suc, Bool, cond, nat_eq, List, [], ◌∷◌, ◌++◌, Option, Some, None, length, refl, sym, subst, ap, ◌∙◌, inl, inr, arith}
 use Rattle.std.specs.Option.{option_to_list}
 use Rattle.std.proofs.lemmas.Bool.{eq-eqb}
 use Rattle.gp_command.specs.declared.command.Command.{Command}
@@ -14,11 +14,12 @@ use Rattle.gp_proposer.specs.State.{ProposerState}
 use Rattle.gp_proposer.specs.Table.{proposer_offer, numbered}
 use Rattle.gp_msg.specs.Nodes.{node_of}
 use Rattle.gp_cstructs.specs.CStructs.{Among}
-use Rattle.gp_cstructs.proofs.Lists.{cond_cases, among_append, get_append, get_among}
+use Rattle.gp_cstructs.proofs.Lists.{cond_cases, among_append, get_append, get_among, among_contains, contains_among}
 use Rattle.gp_msg.specs.Messages.{Stamped, Offered, Entry}
 use Rattle.gp_run.specs.Messages.{messages}
 use Rattle.gp_run.specs.States.{proposer_acts, proposer_at, coordinator_at, acceptor_at, learner_at}
 use Rattle.gp_run.specs.Legal.{sent_by, Follows, Legal}
+use Rattle.gp_agreement.specs.Facts.{AreProposedOnce}
 use Rattle.gp_agreement.proofs.Sending.{Ballots, Finals, acceptor_sends, coordinator_sends, learner_sends, one_sent}
 
 -- ---- proposers
@@ -105,11 +106,6 @@ module _ (config : Counts) (es : List Entry) where
   new_offer (Take node k) c h = new_by node (Take node k) c (λ p e. none_offered (sent_by config es node (Take node k)) c (ap (λ (n : Node). sent_by config es n (Take node k)) e) h) h
   new_offer (Fall node what) c h = new_by node (Fall node what) c (λ p e. none_offered (sent_by config es node (Fall node what)) c (ap (λ (n : Node). sent_by config es n (Fall node what)) e) h) h
 
--- no command is proposed twice with one identity, and none has a number above its proposer's count of offers
-pub record AreProposedOnce (es : List Entry) : Type 0 where
-  pub once : (i j : ℕ) (c d : Command) → slice_get (messages es) i ≡ Some (Offered c) → slice_get (messages es) j ≡ Some (Offered d) → c.id ≡ d.id → i ≡ j
-  pub numbered_there : (c : Command) → Among (messages es) (Offered c) → c.id.number ≤ (proposer_at c.id.proposer es).offers
-
 module _ (config : Counts) (es : List Entry) (k : AreProposedOnce es) (x : Entry) (f : Follows config es x) where
   new_there : (c : Command) → Among x.sent (Offered c) → IsNew config es x.event c
   new_there c p = new_offer config es x.event c (one_sent (sent_by config es (node_of x.event) x.event) (Offered c) (subst (λ (ms : List Stamped). Among ms (Offered c)) f.own_messages p))
@@ -125,7 +121,7 @@ module _ (config : Counts) (es : List Entry) (k : AreProposedOnce es) (x : Entry
   apart : (c d : Command) → Among (messages es) (Offered c) → Among x.sent (Offered d) → c.id ≡ d.id → ⊥
   apart c d p q e =
       let n = new_there d q in
-      let old = k.numbered_there c p in
+      let old = k.numbered c (among_contains (messages es) (Offered c) p) in
       let same_number : c.id.number ≡ d.id.number = ap (λ (i : CommandId). i.number) e in
       let same_offers : (proposer_at c.id.proposer es).offers ≡ (proposer_at d.id.proposer es).offers = ap (λ (i : CommandId). (proposer_at i.proposer es).offers) e in
       omega (arith, n.next, old, same_number, same_offers)
@@ -142,12 +138,12 @@ module _ (config : Counts) (es : List Entry) (k : AreProposedOnce es) (x : Entry
         | inr b ↦ omega (arith, a.0, a.1, b.0, b.1, short)
       ]
     ];
-    numbered_there = λ c p. elim (among_append (messages es) x.sent (Offered c) p) [
-      | inl a ↦ let old = k.numbered_there c a in let grown = offers_grow c.id.proposer (proposer_at c.id.proposer es) x.event in omega (arith, old, grown)
+    numbered = λ c p. elim (among_append (messages es) x.sent (Offered c) (contains_among (messages es ++ x.sent) (Offered c) p)) [
+      | inl a ↦ let old = k.numbered c (among_contains (messages es) (Offered c) a) in let grown = offers_grow c.id.proposer (proposer_at c.id.proposer es) x.event in omega (arith, old, grown)
       | inr b ↦ (new_there c b).counted
     ];
   }
 
 pub proposed_once : (config : Counts) (es : List Entry) → Legal config es → AreProposedOnce es
-proposed_once config [] legal = record { once = λ i j c d p q e. absurd (cc); numbered_there = λ c p. elim p [ ] }
+proposed_once config [] legal = record { once = λ i j c d p q e. absurd (cc); numbered = λ c p. elim (contains_among [] (Offered c) p) [ ] }
 proposed_once config (x ∷ es) legal = more_once config es (proposed_once config es legal.0) x legal.1

@@ -109,7 +109,7 @@ pub record AcceptorFacts (config : Counts) (es : List Entry) (a : ℕ) (s : Acce
   pub none_above : (r : Round) (x : History) → earlier s.state.voted r ≡ true → IsVote config es a s.epoch r x → ⊥
   -- what it holds of a coordinator was sent by that coordinator in the round of the acceptor
   pub held_sent : (c : ℕ) (v : History) → value_at s.state.held c ≡ Some v → HasSent es c s.epoch s.state.round v
-  -- each vote that it sent (as P2b) is one of its votes, and each answer that it sent is true
+  -- each vote that it sent (as P2b) is one of its votes, and `AnswerFacts` holds of each answer that it sent
   pub sent_cast : (e : ℕ) (r : Round) (v : History) → Contains (messages es) (InEpoch e (Voted r a v)) → IsVote config es a e r v
   pub answers_true : (e : ℕ) (r q : Round) (v : History) → Contains (messages es) (InEpoch e (Answered r a q v)) → AnswerFacts config es e r a q v
 

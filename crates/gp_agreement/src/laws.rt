@@ -36,8 +36,8 @@ pub fn every_legal_run_has_the_facts()
     ensures { (config : Counts) → 0 < config.acceptors → (es : List Entry) → Legal config es → Facts config es }
 {}
 
-/// No epoch is greater than the number of entries: neither that of a node, nor one to which a message
-/// takes a node.
+/// No epoch is greater than the number of entries: neither that of a node, nor one to which a
+/// message takes a node.
 pub fn epochs_are_at_most_the_entries()
     ensures coordinators { (config : Counts) (es : List Entry) → Legal config es
         → (c : ℕ) → (coordinator_at config c es).epoch ≤ length es }
@@ -49,7 +49,7 @@ pub fn epochs_are_at_most_the_entries()
         → (k : ℕ) (m : Stamped) → slice_get (messages es) k ≡ Some m → leads_to m ≤ length es }
 {}
 
-/// A coordinator or an acceptor never returns to an earlier epoch, not even by a fall.
+/// A coordinator or an acceptor never returns to an earlier epoch, not even by a crash.
 pub fn durable_epochs_grow()
     ensures coordinators { (config : Counts) (c : ℕ) (later earlier : List Entry)
         → (coordinator_at config c earlier).epoch ≤ (coordinator_at config c (later ++ earlier)).epoch }

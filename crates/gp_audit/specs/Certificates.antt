@@ -37,11 +37,11 @@ pub record IsLeastQuorum (n : ℕ) (mode : Mode) (held : ℕ → Option History)
   pub whole : IsWholeQuorum n mode held c mask
   pub least : (m : ℕ) → IsWholeQuorum n mode held c m → mask ≤ m
 
--- the votes of round r that a learner in this state holds once it took this one
+-- the votes of round r that a learner in this state holds after it takes this one
 abbrev pub votes_then : LearnerInEpoch → Round → ℕ → History → ℕ → Option History
 votes_then s r a v = vote_of (votes_with s.state.votes r a v) r
 
--- learner l took the vote v of acceptor a in round r of epoch e while it was in e, and has not fallen since
+-- learner l took the vote v of acceptor a in round r of epoch e while it was in e, and has not crashed since
 pub record HasTaken (config : Counts) (es : List Entry) (l e : ℕ) (r : Round) (a : ℕ) (v : History) : Type 0 where
   pub later : List Entry
   pub entry : Entry
@@ -55,7 +55,7 @@ pub record HasTaken (config : Counts) (es : List Entry) (l e : ℕ) (r : Round) 
 
 -- ---- causes
 
--- a vote of round r of epoch e, in which learner l is, makes the quorum whole; each member has a vote of the round with c, which l took
+-- learner l is in epoch e, and the vote of round r that it takes completes the quorum; of each member, l took a vote of the round that has c
 pub record IsQuorumCause (config : Counts) (l : ℕ) (c : Command) (entry : Entry) (earlier : List Entry) (message e : ℕ) (r : Round) (mask : ℕ) : Type 0 where
   pub epoch : epoch_at config l earlier ≡ e
   pub acceptor : ℕ
@@ -64,7 +64,7 @@ pub record IsQuorumCause (config : Counts) (l : ℕ) (c : Command) (entry : Entr
   pub least : IsLeastQuorum config.acceptors r.mode (votes_then (learner_at config l earlier) r acceptor vote) c mask
   pub taken : (a : ℕ) → a < config.acceptors → bit mask a ≡ true → (v : History) × HasTaken config (entry ∷ earlier) l e r a v × (has v c ≡ true)
 
--- a Final of the epoch of learner l, whose value has c
+-- a Final of the epoch of learner l; its value has c
 pub record IsFinalCause (config : Counts) (l : ℕ) (c : Command) (earlier : List Entry) (message number : ℕ) : Type 0 where
   pub is : message ≡ number
   pub sender : ℕ
@@ -79,7 +79,7 @@ IsCause config l c entry earlier message (cause.Final number) = IsFinalCause con
 
 -- ---- certificates
 
--- p is the certificate of c: by its record, one of the present life of learner l, l came to hold c, and its cause is the message that l took there
+-- p is the certificate of c: learner l came to hold c by its record, has not crashed since, and took the message that is its cause in that record
 pub record IsProof (config : Counts) (es : List Entry) (l : ℕ) (c : Command) (p : Proof) : Type 0 where
   pub later : List Entry
   pub entry : Entry

@@ -16,26 +16,26 @@ use Rattle.gp_audit.specs.declared.proof.Proof.{Proof}
 use Rattle.gp_audit.specs.declared.proof.Cause.{Cause}
 use Rattle.gp_audit.specs.declared.proof.Cause.TheVariants as cause
 
--- a mask with its meet, if it has one, and then the others
+-- a mask with its meet, if it has one, before the others
 abbrev pub add_whole : ℕ → Option History → List (ℕ × History) → List (ℕ × History)
 add_whole m None qs = qs
 add_whole m (Some h) qs = (m, h) ∷ qs
 
--- those of the masks of n senders whose values are all there, each with the meet of these values
+-- those masks of n senders whose values are all there, each with the meet of these values
 abbrev pub whole_quorums : (ℕ → Option History) → ℕ → List ℕ → List (ℕ × History)
 whole_quorums f n [] = []
 whole_quorums f n (m ∷ ms) = add_whole m (quorum_meet f everyone n m) (whole_quorums f n ms)
 
--- the first of them whose meet has the command
+-- the first of these masks whose meet has the command
 abbrev pub first_with : List (ℕ × History) → Command → Option ℕ
 first_with [] c = None
 first_with (q ∷ qs) c = cond (has q.1 c) (Some q.0) (first_with qs c)
 
--- the proof of a command that came by this cause
+-- the proof of a command with this cause
 abbrev pub proof_of : ℕ → Command → Cause → Proof
 proof_of at c why = record { id = c.id; at = at; cause = why }
 
--- the cause of a command that came with a vote of a round, given the quorums that are whole
+-- the cause of a command that came with a vote of a round, given the quorums whose votes are all held
 abbrev pub vote_cause : ℕ → Round → List (ℕ × History) → Command → Option Cause
 vote_cause e r qs c = option_map (λ mask. cause.Quorum e r mask) (first_with qs c)
 
@@ -51,11 +51,11 @@ new_proofs known at why cs = filter_map (new_proof known at why) cs
 abbrev pub quorums_held : Votes → ℕ → Round → List (ℕ × History)
 quorums_held votes n r = whole_quorums (vote_of votes r) n (masks n (quorum_size n r.mode))
 
--- the quorums of round r that are whole once a learner took a vote
+-- the quorums of round r whose votes are all held after a learner takes a vote
 abbrev pub quorums_then : LearnerInEpoch → Round → ℕ → History → List (ℕ × History)
 quorums_then s r a v = quorums_held (votes_with s.state.votes r a v) s.state.config.acceptors r
 
--- the cause of a command that comes by message k, which a learner takes in this state
+-- the cause of a command that message k brings if a learner in this state takes it
 abbrev pub cause_in : LearnerInEpoch → ℕ → Stamped → Command → Option Cause
 cause_in s k (Offered d) c = None
 cause_in s k (InEpoch e (Proposed d)) c = None

@@ -1,4 +1,4 @@
--- What a replay of a learner keeps.
+-- What a replay of a learner holds, and how it changes.
 use Rattle.std.specs.Prelude.{◌≡◌, ◌⊎◌, ℕ, true, List, ◌++◌}
 use Rattle.std.specs.List.{Contains}
 use Rattle.gp_command.specs.declared.command.Command.{Command}
@@ -14,7 +14,7 @@ use Rattle.gp_audit.specs.declared.replay.Replay.{Replay}
 use Rattle.gp_audit.specs.Noting.{new_proofs, vote_cause, quorums_held, cause_in}
 use Rattle.gp_audit.specs.Certificates.{IsProof}
 
--- what is kept beside the learner is what the learner keeps
+-- the configuration, the epoch and the votes are those of the learner
 pub record IsInStep (r : Replay) : Type 0 where
   pub config : r.config ≡ r.learner.state.config
   pub epoch : r.epoch ≡ r.learner.epoch
@@ -27,7 +27,7 @@ pub record KeepsAllButEpoch (old new : Replay) : Type 0 where
   pub learner : new.learner ≡ old.learner
   pub proofs : new.proofs.items ≡ old.proofs.items
 
--- the proofs of those commands are added that were not known and are in the meet of a quorum whose votes of round r are all held, and nothing else changes
+-- the proofs of those commands were added that were not known and are in the meet of a quorum whose votes of round r are all held; nothing else changed
 pub record NotesVotes (old new : Replay) (at : ℕ) (r : Round) (known : History) : Type 0 where
   pub config : new.config ≡ old.config
   pub number : new.number ≡ old.number
@@ -38,7 +38,7 @@ pub record NotesVotes (old new : Replay) (at : ℕ) (r : Round) (known : History
   pub shown : history_of commands ≡ old.learner.learned
   pub noted : new.proofs.items ≡ old.proofs.items ++ new_proofs known at (vote_cause old.epoch r (quorums_held old.votes.entries old.config.acceptors r)) commands
 
--- the proofs of its new commands were added, which came by message k, m, at record `at`
+-- the proofs of its new commands were added, which message k, m, brought at record `at`
 pub record Notes (old new : Replay) (at k : ℕ) (m : Stamped) : Type 0 where
   pub commands : List Command
   pub shown : history_of commands ≡ new.learner.learned

@@ -11,17 +11,17 @@ use Rattle.gp_audit.specs.declared.proof.Cause.TheVariants as cause
 use Rattle.gp_audit.specs.declared.source.Source.{Source}
 use Rattle.gp_audit.specs.declared.source.Source.TheVariants.{Vote, Final}
 
--- the first of these quorums whose meet, of which this is a sequence, has the command
+-- the first of these quorums whose meet, given as a sequence, has the command
 abbrev pub first_in : List (ℕ × List Command) → Command → Option ℕ
 first_in [] c = None
 first_in (q ∷ qs) c = cond (has (history_of q.1) c) (Some q.0) (first_in qs c)
 
--- the cause of a new command, if it came by the source
+-- the cause of a new command, if the source brought it
 abbrev pub source_cause : Source → Command → Option Cause
 source_cause (Vote e r qs) c = option_map (λ mask. cause.Quorum e r mask) (first_in qs.items c)
 source_cause (Final k) c = Some (cause.Final k)
 
--- one identity
+-- the two identities are equal
 abbrev pub same_id : CommandId → CommandId → Bool
 same_id i j = nat_eq i.proposer j.proposer && nat_eq i.number j.number
 

@@ -15,8 +15,10 @@ use gp_index::History;
 use gp_world::World;
 use std::alloc::Global;
 
-/// The certificates of a learner of the world's configuration: for each command that it learned, in canonical
-/// order, the record of its present life by which it came to hold the command, and why.
+/// The certificates of a learner of the world's configuration. For each command that the learner
+/// has learned, in canonical order, a certificate names the record by which the learner came to
+/// hold the command since it last started, and the cause. `NoMemory` means that memory ran out, or
+/// that the learner was in epoch 2^32 - 1, the last one.
 pub fn certify(alloc: Global, world: &World, learner: u32) -> Result<Proofs, NoMemory>
     requires { learner < world.now.config.learners }
     ensures { IfOk result (λ proofs. AreProofs world.now.config (entries_of world.now) learner proofs) }
@@ -41,7 +43,7 @@ fn proofs_of(alloc: Global, commands: &History, proofs: &[Proof]) -> Result<Vec<
     Ok(found)
 }
 
-// The learner, after all records of the world.
+// The replay of the learner over all records of the world.
 fn replay_of(alloc: Global, world: &World, learner: u32) -> Result<Replay, NoMemory>
     ensures { IfOk result (λ r. IsReplayed world.now.config (entries_of world.now) learner r) }
 {

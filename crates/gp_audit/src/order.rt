@@ -7,7 +7,7 @@ use gp_command::NoMemory;
 use gp_history::Hist;
 use std::alloc::Global;
 
-/// The same history, its commands in canonical order.
+/// The same history, with its commands in canonical order.
 pub fn in_order<H: Hist>(alloc: Global, h: &H) -> Result<H, NoMemory>
     ensures { IfOk result (λ ordered. H.sequence ordered ≡ canonical (history_of (H.sequence h.now))) }
 {

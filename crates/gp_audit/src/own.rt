@@ -9,7 +9,7 @@ use gp_msg::{Event, Node};
 pub enum OwnEvent {
     /// The learner takes the message with this number.
     Takes(u64),
-    /// The learner falls.
+    /// The learner crashes.
     Falls,
     /// It happens at another node.
     Elsewhere,

@@ -8,10 +8,11 @@ use std::marker::Model;
 /// What a learner took when it came to hold a command.
 #[derive(Clone, Copy, Debug, PartialEq, Eq)]
 pub enum Cause {
-    /// A vote of a round of its epoch. The mask is the set of acceptors, bit i for acceptor i, of a quorum of
-    /// the round whose votes the learner holds, and whose meet has the command.
+    /// A vote of a round of its epoch. The mask has bit i for acceptor i. Its acceptors are a
+    /// quorum of the round. The learner holds a vote of each of them, and the meet of these votes
+    /// has the command.
     Quorum { epoch: u32, round: Round, mask: u8 },
-    /// The Final message with this number, from 0, of all that were sent.
+    /// The Final message with this number, counted from 0 over all messages that were sent.
     Final { message: u64 },
 }
 
@@ -20,9 +21,9 @@ pub enum Cause {
 pub struct Proof {
     /// The command.
     pub id: CommandId,
-    /// The number of the record, from 0, by which the learner came to hold it.
+    /// The number, from 0, of the record by which the learner came to hold it.
     pub at: u64,
-    /// What the learner took there.
+    /// What the learner took in that record.
     pub cause: Cause,
 }
 
@@ -42,7 +43,7 @@ impl Model for Proofs {
 }
 
 impl Proofs {
-    /// The proofs. It takes no memory.
+    /// The proofs.
     pub fn as_slice(&self) -> &[Proof]
         ensures { result.now ≡ self.now }
     {

@@ -8,17 +8,17 @@ ghost use Rattle.gp_learner.specs.Table.{vote_of};
 ghost use Rattle.gp_audit.specs.Noting.{whole_quorums};
 ghost use Rattle.gp_audit.specs.Sources.{first_in};
 
-use crate::held::{HeldVote, held_of};
 use gp_bounds::meet;
 use gp_command::{Command, NoMemory};
 use gp_history::Hist;
 use gp_index::History;
+use gp_learner::{HeldVote, held_of};
 use gp_round::{Round, Subsets, is_member};
 use std::alloc::Global;
 use std::collections::BTreeMap;
 
-/// The quorums of `size` of n acceptors of which the votes of a round are all held, each with the meet of
-/// these votes, in the order of their masks.
+/// The quorums of `size` out of n acceptors whose votes of a round are all held, in the order of
+/// their masks. Each comes with the meet of these votes.
 pub fn whole_quorums(
     alloc: Global,
     votes: &BTreeMap<(Round, u32), HeldVote>,
@@ -39,7 +39,7 @@ pub fn whole_quorums(
     Ok(quorums)
 }
 
-/// The first of these quorums whose meet has a command.
+/// The mask of the first of these quorums whose meet has the command, or `None` if there is none.
 pub fn first_in(quorums: &[(u8, History)], c: &Command) -> Option<u8>
     ensures { result ≡ first_in quorums.now c.now }
 {
@@ -51,7 +51,8 @@ pub fn first_in(quorums: &[(u8, History)], c: &Command) -> Option<u8>
     None
 }
 
-// The meet of the votes of a set of acceptors in a round, if they are all held and there is one.
+// The meet of the votes of a set of acceptors in a round, if all of them are held and the set is
+// not empty.
 fn meet_of(
     alloc: Global,
     votes: &BTreeMap<(Round, u32), HeldVote>,
@@ -74,7 +75,7 @@ fn meet_of(
     Ok(met)
 }
 
-// The meet with one vote more.
+// The meet with one more vote.
 fn and_vote(alloc: Global, met: Option<History>, vote: &History) -> Result<History, NoMemory>
     ensures { IfOk result (λ m. with_one (Some (history_of vote.now)) (Some (option_map history_of met)) ≡ Some (Some (history_of m))) }
 {

@@ -1,13 +1,13 @@
-//! A learner that takes again what it took.
+//! The replay of a learner, which takes again what it took.
 ghost use Rattle.std.specs.Prelude.{◌≡◌, ◌<◌, ◌+◌, ◌-◌, ◌^◌, ℕ, [], length, take, IfOk, OnOk};
 ghost use Rattle.gp_history.specs.History.{History};
 ghost use Rattle.gp_history.specs.Sequence.{history_of};
 ghost use Rattle.gp_msg.specs.Messages.{message_of, Voted, InEpoch, Final};
 ghost use Rattle.gp_learner.specs.Epochs as learner_epochs;
-ghost use Rattle.gp_run.specs.Runs.{entries_in};
+ghost use Rattle.gp_run.specs.Runs.{newest_first};
 ghost use Rattle.gp_audit.specs.Replays.{IsInStep, NotesVotes, KeepsAllButEpoch, Takes, IsReplayed};
 
-use crate::held::{HeldVote, hold_newer};
+use crate::held::hold_newer;
 use crate::own::{OwnEvent, own_event};
 use crate::proof::Proof;
 use crate::quorums::whole_quorums;
@@ -15,15 +15,15 @@ use crate::source::{Source, has_new, push_new};
 use gp_command::NoMemory;
 use gp_history::Hist;
 use gp_index::History;
-use gp_learner::Learner;
+use gp_learner::{HeldVote, Learner};
 use gp_msg::Msg;
 use gp_round::{Config, Round};
 use gp_world::World;
 use std::alloc::Global;
 use std::collections::BTreeMap;
 
-/// A learner that takes again what it took, with the votes that it holds and the proofs of the commands that
-/// it came to hold in its life.
+/// A learner that takes again what it took, with the votes that it holds, and the proofs of the
+/// commands that it came to hold since it last started.
 #[derive(Drop)]
 pub struct Replay {
     pub alloc: Global,
@@ -51,11 +51,11 @@ impl Replay {
         })
     }
 
-    /// What happened at the learner in a record of the world happens again.
+    /// Repeats what happened at the learner in a record of the world.
     pub fn step(&mut self, world: &World, at: usize) -> Result<(), NoMemory>
         requires there { at < length world.now.records }
-        requires before { IsReplayed world.now.config (entries_in (take at world.now.records)) self.old.number self.old }
-        ensures { OnOk result (IsReplayed world.now.config (entries_in (take (at + 1) world.now.records)) self.old.number self.new) }
+        requires before { IsReplayed world.now.config (newest_first (take at world.now.records)) self.old.number self.old }
+        ensures { OnOk result (IsReplayed world.now.config (newest_first (take (at + 1) world.now.records)) self.old.number self.new) }
     {
         match own_event(&world.records()[at].event, self.number) {
             OwnEvent::Takes(k) => match world.message(k) {
@@ -70,7 +70,7 @@ impl Replay {
         }
     }
 
-    // The learner falls, and its proofs are of a life that is over.
+    // The learner crashes, and its proofs are dropped.
     fn fall(&mut self)
         requires { IsInStep self.old }
         ensures step { IsInStep self.new }
@@ -84,7 +84,7 @@ impl Replay {
         self.proofs.clear();
     }
 
-    // The learner takes message k. An epoch that is the last of its type counts as out of memory.
+    // The learner takes message k. In the last epoch that fits the type, the result is `NoMemory`.
     fn take(&mut self, at: u64, k: u64, m: &Msg) -> Result<(), NoMemory>
         requires { IsInStep self.old }
         ensures takes { OnOk result (Takes self.old self.new at k (message_of m.now)) }

@@ -1,4 +1,4 @@
-//! What a learner took, as the cause of the commands that came by it.
+//! What a learner took, as the cause of the commands that it brought.
 ghost use Rattle.std.specs.Prelude.{◌≡◌, ◌++◌, ◌<◌, not, OnOk};
 ghost use Rattle.std.specs.List.{list_all};
 ghost use Rattle.gp_history.specs.History.{has};
@@ -16,7 +16,8 @@ use gp_round::Round;
 /// What a learner took.
 #[derive(Drop, Debug)]
 pub enum Source {
-    /// A vote of a round of its epoch. The quorums are those that are whole then, each with its meet.
+    /// A vote of a round of its epoch. The quorums are those whose votes are all held then, each
+    /// with the meet of its votes.
     Vote {
         epoch: u32,
         round: Round,
@@ -29,7 +30,7 @@ pub enum Source {
 }
 
 impl Source {
-    // Why a new command came by it, if it did.
+    // The cause of a new command, if this source brought it.
     fn cause(&self, c: &Command) -> Option<Cause>
         ensures { result ≡ source_cause self.now c.now }
     {
@@ -63,7 +64,8 @@ pub fn has_new(learned: &History, known: &History) -> bool
     false
 }
 
-/// Adds the proofs of those commands that were not known and came by the source, at this record.
+/// Appends the proofs, at this record, of those learned commands that were not known and that the
+/// source brought. If memory runs out, `proofs` may hold the first of them.
 pub fn push_new(
     learned: &History,
     known: &History,
@@ -82,7 +84,7 @@ pub fn push_new(
     Ok(())
 }
 
-// The proof of a command, if it was not known and came by the source.
+// The proof of a command, if it was not known and the source brought it.
 fn new_proof(c: &Command, known: &History, at: u64, source: &Source) -> Option<Proof>
     ensures { result ≡ new_proof (history_of known.now) at (source_cause source.now) c.now }
 {

@@ -12,7 +12,7 @@ use std::alloc::Global;
 use std::process::Abort;
 use std::test::Fail;
 
-// The proposer of a command that is its first one, the record, and the cause.
+// A proposer, whose first command has the certificate, the record, and the cause.
 type Row = (u32, u64, Cause);
 
 const BY_A0_AND_A1: Cause = Cause::Quorum {

@@ -1,4 +1,4 @@
-//! Certificates against the votes that the records have, which are counted here.
+//! Compares certificates with the votes in the records, which are counted here.
 use crate::scene::{
     CHECKPOINT_BETWEEN_PUTS, L0, ONE_PUT, Step, THE_NEXT_EPOCH, happens, two_learners,
 };
@@ -49,7 +49,7 @@ fn is_vote(
     }
 }
 
-// Whether learner 0 took such a vote in its present life, up to a record.
+// Whether learner 0 took such a vote after its last crash, up to a record.
 fn has_voted(world: &World, voter: u32, epoch: u32, round: Round, id: CommandId, at: u64) -> bool {
     let mut voted = false;
     let mut place = 0u64;
@@ -86,7 +86,7 @@ fn is_counted(world: &World, proof: &Proof) -> bool {
     members == 2
 }
 
-// Whether each certificate of learner 0 counts, and there are so many.
+// Whether each certificate of learner 0 counts, and there are this many.
 fn all_counted(alloc: Global, world: &World, many: usize) -> Result<bool, Fail> {
     if world.config().learners() == 0 {
         return Ok(false);

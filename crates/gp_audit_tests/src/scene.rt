@@ -73,7 +73,7 @@ pub fn two_learners(alloc: Global) -> Result<World, Fail> {
     Ok(World::new(alloc, Config::new(3, 1, 2)?)?)
 }
 
-/// The steps happen, one after another.
+/// Executes the steps, one after another.
 pub fn happens(world: &mut World, alloc: Global, steps: &[Step]) -> Result<(), Fail> {
     for step in steps {
         if world.records().len() > MANY {
@@ -118,7 +118,7 @@ pub const CHECKPOINT_BETWEEN_PUTS: [Step; 15] = [
     Step::Take(L0, 8),
 ];
 
-/// After it the put that is pending is learned in the next epoch.
+/// The steps after these, in which the put that is pending is learned in the next epoch.
 pub const THE_NEXT_EPOCH: [Step; 12] = [
     Step::Take(C0, 9),
     Step::Take(A0, 9),

@@ -21,11 +21,11 @@ use Rattle.gp_bank.specs.Effects.{covers, moved, bank_effect}
 abbrev pub credit : ℕ → Option ℕ → Option ℕ
 credit amount o = Some (min (unwrap_or o 0 + amount) (2 ^ 64 - 1))
 
--- a balance with the amount taken off
+-- a balance with the amount subtracted
 abbrev pub debit : ℕ → Option ℕ → Option ℕ
 debit amount o = option_map (λ balance. balance - amount) o
 
--- what is at the key behind the operation, of what was there, by whether its test holds
+-- what is at the key after the operation, given what was there and whether the operation's test holds
 abbrev pub step : BankOp → Bool → List ℕ → Option ℕ → Option ℕ
 step (Deposit key amount) holds q o = cond (same_key q key) (credit amount o) o
 step (Withdraw key amount) holds q o = cond holds (cond (same_key q key) (debit amount o) o) o
@@ -33,7 +33,7 @@ step (Transfer from into amount) holds q o = cond (same_key from into) o (cond h
 step (Balance key) holds q o = o
 step Checkpoint holds q o = o
 
--- whether its test holds
+-- the operation's test holds
 abbrev pub holds_in : Accounts → BankOp → Bool
 holds_in accounts (Deposit key amount) = true
 holds_in accounts (Withdraw key amount) = covers accounts key amount
@@ -41,9 +41,9 @@ holds_in accounts (Transfer from into amount) = covers accounts from amount
 holds_in accounts (Balance key) = true
 holds_in accounts Checkpoint = true
 
--- ---- what is at each key behind an operation
+-- ---- what is at each key after an operation
 
--- what is made of the value at an equal key is made of the value at the key
+-- the value at a key is the value at an equal key
 at_tied : (a : Accounts) (q key : List ℕ) (f : Option ℕ → Option ℕ) (z : Option ℕ) (b : Bool) → same_key q key ≡ b → cond b (f (value_at a key)) z ≡ cond b (f (value_at a q)) z
 at_tied a q key f z true e = ap (λ (k : List ℕ). f (value_at a k)) (sym (tied_keys q key e))
 at_tied a q key f z false e = refl
@@ -86,7 +86,7 @@ transferred_value a from into amount q true b e = refl
 transferred_value a from into amount q false true e = moved_value a from into amount q e
 transferred_value a from into amount q false false e = refl
 
--- what is at each key behind an operation is of what was at that key, and of whether its test holds
+-- what is at each key after an operation depends on what was at that key, and on whether the operation's test holds
 pub value_behind : (a : Accounts) (op : BankOp) (q : List ℕ) → value_at (bank_effect a op) q ≡ step op (holds_in a op) q (value_at a q)
 value_behind a (Deposit key amount) q = credited_value a key amount q
 value_behind a (Withdraw key amount) q = withdrawn_value a key amount q (covers a key amount)
@@ -96,15 +96,15 @@ value_behind a Checkpoint q = refl
 
 -- ---- how an operation touches a key
 
--- it leaves what is at the key
+-- it does not change what is at the key
 abbrev pub IsIdle : BankOp → List ℕ → Type 0
 IsIdle op q = (holds : Bool) (o : Option ℕ) → step op holds q o ≡ o
 
--- it adds to what is at the key, or leaves it
+-- it adds to what is at the key, or does not change it
 abbrev pub AddsAt : BankOp → List ℕ → Type 0
 AddsAt op q = (holds : Bool) → ((o : Option ℕ) → step op holds q o ≡ o) ⊎ ((amount : ℕ) × ((o : Option ℕ) → step op holds q o ≡ credit amount o))
 
--- how an operation uses a key, and the touch by which it says so
+-- how an operation uses a key, and the touch that declares this
 pub data Use (op : BankOp) (q : List ℕ) : Type 0 where
   Idle : IsIdle op q → Use op q
   Adds : Contains (bank_foot op) (touch q access.Add) → AddsAt op q → Use op q
@@ -132,7 +132,7 @@ withdraw_use : (key : List ℕ) (amount : ℕ) (q : List ℕ) (b : Bool) → sam
 withdraw_use key amount q true e = Writes (rw (tied_keys q key e) (0, omega arith, refl))
 withdraw_use key amount q false e = Idle (λ holds o. ap (λ (b : Bool). cond holds (cond b (debit amount o) o) o) e ∙ either_way holds o)
 
--- of keys that differ
+-- what a transfer makes of the value at a key, given whether its two keys are equal, whether its test holds, and whether the key is its first or its second one
 abbrev transfer_step : Bool → Bool → Bool → Bool → ℕ → Option ℕ → Option ℕ
 transfer_step s holds first second amount o = cond s o (cond holds (cond first (debit amount o) (cond second (credit amount o) o)) o)
 

@@ -1,4 +1,4 @@
--- Operations whose footprints do not clash commute, and so do commands that do not conflict.
+-- Operations whose footprints do not conflict commute, and so do commands that do not conflict.
 use Rattle.std.proofs.Common.{◌≡◌, ℕ, ◌+◌, ◌-◌, ◌^◌, Bool, true, false, not, ◌&&◌, ◌||◌, List, Option, Some, None, refl, sym, ap, ◌∙◌, inl, inr, ◌⊎◌, arith}
 use Rattle.std.specs.Prelude.{Contains, unwrap_or, min, nat_le}
 use Rattle.std.specs.Cmp.{eq_by_cmp_equiv}
@@ -25,7 +25,7 @@ use Rattle.gp_bank.specs.Accounts.{Accounts}
 use Rattle.gp_bank.specs.Effects.{granted, bank_effect, bank_reply, effect_if_some, reply_if_some, bank_rules}
 use Rattle.gp_bank.specs.Changes.{credit, step, holds_in, value_behind, Use, Idle, Adds, Writes, use_of, transfer_writes}
 
--- ---- touches that do not clash
+-- ---- touches that do not conflict
 
 module _ {X : Type 0} (p : X → Bool) where
   fails_at : (xs : List X) (x : X) (b : Bool) → p x ≡ b → Contains xs x → list_any p xs ≡ false → b ≡ false
@@ -35,7 +35,7 @@ module _ {X : Type 0} (p : X → Bool) where
   fails : (xs : List X) (x : X) → Contains xs x → list_any p xs ≡ false → p x ≡ false
   fails xs x there none = fails_at xs x (p x) refl there none
 
--- two touches of one key do not stand in footprints that do not clash, where their accesses clash
+-- footprints that do not conflict do not both touch one key with accesses that conflict
 apart_at : (first second : List Touch) (q : List ℕ) (x y : Access) → do_clash first second ≡ false → Contains first (touch q x) → Contains second (touch q y) → is_clash x y ≡ true → ⊥
 apart_at first second q x y apart here there clash =
     let row = fails (λ (t : Touch). list_any (touches_clash t) second) first (touch q x) here apart in
@@ -69,7 +69,7 @@ module _ (a b : BankOp) (apart : do_clash (bank_foot a) (bank_foot b) ≡ false)
   steps_commute q x y o (Writes here) (Adds there sums) = absurd (apart_at (bank_foot a) (bank_foot b) q access.Write access.Add apart here there refl)
   steps_commute q x y o (Writes here) (Writes there) = absurd (apart_at (bank_foot a) (bank_foot b) q access.Write access.Write apart here there refl)
 
-  -- what the second operation reads is not changed by the first
+  -- the first operation does not change what the second one reads
   kept_by : (s : Accounts) (q : List ℕ) (y : Access) → is_clash access.Add y ≡ true → is_clash access.Write y ≡ true → Contains (bank_foot b) (touch q y) → Use a q → value_at (bank_effect s a) q ≡ value_at s q
   kept_by s q y add write there (Idle still) = value_behind s a q ∙ still (holds_in s a) (value_at s q)
   kept_by s q y add write there (Adds here more) = absurd (apart_at (bank_foot a) (bank_foot b) q access.Add y apart here there add)
@@ -77,7 +77,7 @@ module _ (a b : BankOp) (apart : do_clash (bank_foot a) (bank_foot b) ≡ false)
 
 -- ---- operations commute
 
--- what an operation tests and reads, of the value at one key
+-- the first operation changes neither the test of the second one nor its reply
 test_kept : (a b : BankOp) → do_clash (bank_foot a) (bank_foot b) ≡ false → (s : Accounts) → (holds_in (bank_effect s a) b ≡ holds_in s b) × (bank_reply (bank_effect s a) b ≡ bank_reply s b)
 test_kept a (Deposit key amount) apart s = (refl, refl)
 test_kept a (Withdraw key amount) apart s =
@@ -100,7 +100,7 @@ behind_both : (a b : BankOp) → do_clash (bank_foot a) (bank_foot b) ≡ false 
 behind_both a b apart s q =
     value_behind (bank_effect s a) b q ∙ (λ i. step b ((test_kept a b apart s).0 i) q (value_behind s a q i))
 
--- operations whose footprints do not clash commute
+-- operations whose footprints do not conflict commute
 pub operations_commute : (s : Accounts) (a b : BankOp) → do_clash (bank_foot a) (bank_foot b) ≡ false → do_clash (bank_foot b) (bank_foot a) ≡ false → Swap s a b
 operations_commute s a b apart back = record {
   state = same_pairs (bank_effect (bank_effect s a) b) (bank_effect (bank_effect s b) a) (λ q.
@@ -127,7 +127,7 @@ feet_apart c d a b ea eb apart none =
     let second = op_drafted d.draft b eb in
     sym (λ i. do_clash (first i).foot (second i).foot) ∙ no_clash c d apart none
 
--- as of operations, where there may be none
+-- the same for operations that may be missing
 swap_options : (s : Accounts) (a b : Option BankOp) → ((x y : BankOp) → a ≡ Some x → b ≡ Some y → Swap s x y) → (effect_if_some (effect_if_some s a) b ≡ effect_if_some (effect_if_some s b) a) × (reply_if_some (effect_if_some s a) b ≡ reply_if_some s b)
 swap_options s None None h = (refl, refl)
 swap_options s None (Some y) h = (refl, refl)

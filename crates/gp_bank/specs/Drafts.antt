@@ -22,14 +22,14 @@ if_same : (b : Bool) (op other : BankOp) → cond b (Some op) None ≡ Some othe
 if_same true op other e = (refl, cc)
 if_same false op other e = absurd cc
 
--- a draft's operation is spelled by its body, and has it as its draft
+-- if a draft has an operation, its body spells the operation, and it is the draft of the operation
 pub drafted : (d : DraftView) (o : Option BankOp) (op : BankOp) → if_drafted d o ≡ Some op → (o ≡ Some op) × (d ≡ bank_draft_for op)
 drafted d None op e = absurd cc
 drafted d (Some x) op e =
     let found = if_same (same_draft d (bank_draft_for x)) x op e in
     (ap (λ (x : BankOp). Some x) found.1, drafts_equal d (bank_draft_for x) found.0 ∙ ap bank_draft_for found.1)
 
--- a draft is that of its operation
+-- a draft that has an operation is the draft of the operation
 pub op_drafted : (d : DraftView) (op : BankOp) → bank_op d ≡ Some op → d ≡ bank_draft_for op
 unfolding bank_op
 op_drafted d op e = (drafted d (bank_op_spelled (tokens_of d.body)) op e).1

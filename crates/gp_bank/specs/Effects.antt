@@ -1,4 +1,4 @@
--- What an operation does to accounts and what it replies, and the same of a command.
+-- What an operation does to accounts and what it replies, and the same for a command.
 use Rattle.std.specs.Prelude.{ℕ, Bool, nat_le, if◌then◌else◌, List, Option, Some, None}
 use Rattle.std.specs.FinMap.{empty}
 use Rattle.std.specs.Ordering.{eq_by_cmp}
@@ -16,11 +16,11 @@ use Rattle.gp_bank.specs.Accounts.{Accounts, balance_at, credited, debited}
 abbrev pub covers : Accounts → List ℕ → ℕ → Bool
 covers accounts key amount = nat_le amount (balance_at accounts key)
 
--- the amount goes from the first account to the second
+-- the accounts after the amount went from the first account to the second
 abbrev pub moved : Accounts → List ℕ → List ℕ → ℕ → Accounts
 moved accounts from into amount = debited (credited accounts into amount) from amount
 
--- the accounts behind an operation
+-- the accounts after an operation
 abbrev pub bank_effect : Accounts → BankOp → Accounts
 bank_effect accounts (Deposit key amount) = credited accounts key amount
 bank_effect accounts (Withdraw key amount) = if covers accounts key amount then debited accounts key amount else accounts
@@ -43,17 +43,17 @@ bank_reply accounts (Transfer from into amount) = granted (covers accounts from 
 bank_reply accounts (Balance key) = Value (balance_at accounts key)
 bank_reply accounts Checkpoint = Done
 
--- an operation's effect; where there is none, nothing changes
+-- the effect of an operation; if there is none, nothing changes
 abbrev pub effect_if_some : Accounts → Option BankOp → Accounts
 effect_if_some accounts None = accounts
 effect_if_some accounts (Some op) = bank_effect accounts op
 
--- an operation's reply; where there is none, as of an absent key
+-- the reply of an operation; if there is none, the reply of an absent key
 abbrev pub reply_if_some : Accounts → Option BankOp → Reply
 reply_if_some accounts None = Absent
 reply_if_some accounts (Some op) = bank_reply accounts op
 
--- the accounts behind a command
+-- the accounts after a command
 abbrev pub after_command : Accounts → Command → Accounts
 after_command accounts command = effect_if_some accounts (bank_op command.draft)
 

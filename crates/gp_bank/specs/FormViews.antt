@@ -1,4 +1,4 @@
--- A form without where its tokens lie in memory.
+-- A form without the place of its tokens in memory.
 use Rattle.gp_bank.specs.declared.form.BankForm as code
 use Rattle.gp_bank.specs.declared.form.BankForm.TheVariants as form
 use Rattle.gp_bank.specs.Forms.{BankForm, DepositForm, WithdrawForm, TransferForm, BalanceForm, CheckpointForm}

@@ -9,7 +9,7 @@ use Rattle.gp_store.specs.Forms.{key_of}
 use Rattle.gp_bank.specs.declared.op.BankOp.{BankOp}
 use Rattle.gp_bank.specs.declared.op.BankOp.TheVariants.{Deposit, Withdraw, Transfer, Balance, Checkpoint}
 
--- an operation's name, and the tokens that stand for its keys and its amount
+-- an operation's name, and the tokens of its keys and its amount
 pub data BankForm : Type 0 where
   DepositForm : List ℕ → List ℕ → BankForm
   WithdrawForm : List ℕ → List ℕ → BankForm
@@ -43,7 +43,7 @@ bank_form (name ∷ key ∷ amount ∷ []) = form_of_amount name key amount
 bank_form (name ∷ from ∷ into ∷ amount ∷ []) = form_of_transfer name from into amount
 bank_form _ = None
 
--- a fault where there is no number below 2^32
+-- a fault if there is no number below 2^32
 abbrev pub amount_or_fault : Option ℕ → Result ℕ OpFault
 amount_or_fault (Some n) = if nat_lt n (2 ^ 32) then Ok n else Err BadNumber
 amount_or_fault None = Err BadNumber
@@ -52,7 +52,7 @@ amount_or_fault None = Err BadNumber
 unfoldable pub amount_of : List ℕ → Result ℕ OpFault
 amount_of token = amount_or_fault (number_of token)
 
--- the tokens from left to right, and the first fault decides
+-- the tokens are read from left to right, and the first fault is the result
 unfoldable pub bank_op_of_form : BankForm → Result BankOp OpFault
 bank_op_of_form (DepositForm key amount) = do
   k ← key_of key

@@ -1,4 +1,4 @@
--- What the laws of accounts speak of.
+-- Definitions that the laws of accounts use.
 use Rattle.std.specs.Prelude.{◌≡◌, ◌≢◌, ◌≤◌, ◌++◌, ◌∷◌, ℕ, List, Some, Contains, IsTrue}
 use Rattle.gp_command.specs.declared.command.Command.{Command}
 use Rattle.gp_command.specs.declared.touch.Access.TheVariants.{Read}
@@ -16,18 +16,18 @@ use Rattle.gp_bank.specs.Effects.{covers, granted, bank_rules}
 abbrev pub LeavesAlone : BankOp → List ℕ → Type 0
 LeavesAlone op key = (t : Touch) → Contains (bank_foot op) t → t.access ≢ Read → t.key ≢ key
 
--- the amount is there, and goes to another account
+-- the first account has the amount, and the second is another account
 abbrev pub CanMove : Accounts → List ℕ → List ℕ → ℕ → Type 0
 CanMove accounts from into amount = (from ≢ into) × (amount ≤ balance_at accounts from)
 
--- in the canonical order of the history the command stands between these
+-- the command is between these in the canonical order of the history
 abbrev pub StandsBetween : History → List Command → Command → List Command → Type 0
 StandsBetween h before c behind = IsHistory h × (canonical h ≡ before ++ c ∷ behind)
 
--- the reply of the history is the grant of the amount, on the accounts that the commands before leave
+-- the reply to the command in the history says whether the account has the amount after the commands before
 abbrev pub IsGrantBehind : History → List Command → Command → List ℕ → ℕ → Type 0
 IsGrantBehind h before c key amount = reply_to bank_rules h c ≡ Some (granted (covers (state_after bank_rules before) key amount))
 
--- the two sequences stand for one history
+-- the two sequences are linear orders of one history
 abbrev pub AreOrdersOfOne : List Command → List Command → Type 0
 AreOrdersOfOne cs ds = IsTrue (no_repeat cs) × IsTrue (no_repeat ds) × (history_of cs ≡ history_of ds)

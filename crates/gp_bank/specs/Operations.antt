@@ -11,7 +11,7 @@ use Rattle.gp_store.specs.Operations.{touch}
 use Rattle.gp_bank.specs.declared.op.BankOp.{BankOp}
 use Rattle.gp_bank.specs.declared.op.BankOp.TheVariants.{Deposit, Withdraw, Transfer, Balance, Checkpoint}
 
--- its keys are keys, and its amount is below 2^32
+-- its keys are valid, and its amount is below 2^32
 abbrev pub IsBankOp : BankOp → Type 0
 IsBankOp (Deposit key amount) = IsTrue (is_key key) × (amount < 2 ^ 32)
 IsBankOp (Withdraw key amount) = IsTrue (is_key key) × (amount < 2 ^ 32)
@@ -31,12 +31,12 @@ bank_words Checkpoint = codes "checkpoint" ∷ []
 abbrev pub bank_text : BankOp → List ℕ
 bank_text op = joined (bank_words op)
 
--- it is ordered before or behind every other command
+-- it is ordered before or after every other command
 abbrev pub is_checkpoint : BankOp → Bool
 is_checkpoint Checkpoint = true
 is_checkpoint op = false
 
--- the first key is written and the second added to; one key alone is written
+-- the first key is written and the second one is added to; if they are equal, the key is only written
 abbrev pub transfer_foot : Ordering → List ℕ → List ℕ → List Touch
 transfer_foot Less from into = touch from access.Write ∷ touch into access.Add ∷ []
 transfer_foot Equal from into = touch from access.Write ∷ []

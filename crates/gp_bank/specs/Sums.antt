@@ -1,4 +1,4 @@
--- Sums of balances, and of the amounts that commands brought and took away.
+-- Sums of balances, and of the amounts that commands deposited and withdrew.
 use Rattle.std.specs.Prelude.{ℕ, List, Option, Some}
 use Rattle.std.specs.FinMap.{entries}
 use Rattle.std.specs.List.{sum_by}

@@ -15,10 +15,11 @@ use std::alloc::Global;
 use std::collections::BTreeMap;
 use std::marker::Model;
 
-/// Accounts with balances below 2^64. An account is there once an amount went to it, and stays.
+/// Accounts with balances below 2^64. An account is there after an amount has gone to it, and
+/// stays.
 ///
 /// A contract sees a bank as the finite map of keys and balances. As a machine it has no account at
-/// first, and a command whose draft is the draft of no operation changes nothing and is answered
+/// first. A command whose draft is the draft of no operation changes nothing, and its reply is
 /// `Absent`.
 #[derive(Drop)]
 pub struct Bank {
@@ -39,8 +40,7 @@ impl Model for Bank {
 }
 
 impl Bank {
-    /// All accounts that are there with their balances, in ascending order of the keys. It takes no
-    /// memory.
+    /// All accounts that are there, with their balances, in ascending order of the keys.
     pub fn accounts(&self) -> &BTreeMap<Key, u64>
         ensures { result.now.entries ≡ entries self.now }
     {
@@ -60,7 +60,7 @@ impl Bank {
         self.accounts.get(&key).copied()
     }
 
-    // Only a key that is not there can want memory.
+    // Memory can run out only if the key is not there.
     fn put(&mut self, key: Key, balance: u64) -> Result<(), NoMemory>
         ensures put { OnOk result (self.new ≡ insert self.old key balance) }
         ensures unchanged { OnErr result (self.new ≡ self.old) }
@@ -80,7 +80,7 @@ impl Bank {
         self.put(key, sum)
     }
 
-    // An account that is there wants no memory.
+    // Memory cannot run out, since only an account that is there is changed.
     fn debit(&mut self, key: Key, amount: u32)
         requires { IsTrue (covers self.old key amount) }
         ensures { self.new ≡ debited self.old key amount }

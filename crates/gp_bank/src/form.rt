@@ -1,4 +1,4 @@
-//! Operations on accounts read from tokens.
+//! Reading operations on accounts from tokens.
 ghost use Rattle.std.specs.Prelude.{◌≡◌, option_map};
 ghost use Rattle.gp_words.specs.Tokens.{texts};
 ghost use Rattle.gp_store.specs.Forms.{key_of};
@@ -10,7 +10,7 @@ use gp_command::Key;
 use gp_store::OpFault;
 use gp_words::number_of;
 
-/// An operation's name, and the tokens that stand for its keys and its amount.
+/// An operation's name, and the tokens of its keys and its amount.
 #[derive(Clone, Copy, Debug)]
 pub enum BankForm<'a> {
     /// `deposit K V`
@@ -25,8 +25,7 @@ pub enum BankForm<'a> {
     Checkpoint,
 }
 
-/// The form that has this name and this number of tokens: `None` where there is none. It takes no
-/// memory.
+/// The form that has this name and this number of tokens, or `None` if there is none.
 pub fn bank_form<'a>(tokens: &[&'a [u8]]) -> Option<BankForm<'a>>
     ensures { option_map form_view result ≡ bank_form (texts tokens.now) }
 {
@@ -86,9 +85,9 @@ fn form_of_transfer<'a>(
     }
 }
 
-/// The operation of a form. Its tokens are read from left to right, and the first fault is answered:
-/// `BadKey` for a token that stands for a key and is none, and `BadNumber` for one that stands for an
-/// amount and is no number from 0 to 4294967295, or not in its one spelling. It takes no memory.
+/// The operation of a form. Its tokens are read from left to right, and the first fault is
+/// returned: `BadKey` if a token in the place of a key is not a key, and `BadNumber` if a token in
+/// the place of an amount is not a number from 0 to 4294967295, or not in its one spelling.
 #[tactic(auto, unfolding(crate::specs::Forms::bank_op_of_form))]
 pub fn bank_op_of_form(form: BankForm<'_>) -> Result<BankOp, OpFault>
     ensures { result ≡ bank_op_of_form (form_view form.entry) }

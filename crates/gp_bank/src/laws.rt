@@ -23,7 +23,7 @@ ghost use Rattle.gp_bank.specs.Effects.{granted, bank_effect, bank_reply, after_
 ghost use Rattle.gp_bank.specs.Sums.{held, deposits, withdrawals};
 ghost use Rattle.gp_bank.specs.Laws.{LeavesAlone, CanMove, StandsBetween, IsGrantBehind, AreOrdersOfOne};
 
-/// The tokens of a spelling are the operation's words, and they are read again as the operation.
+/// The tokens of a spelling are the operation's words, and they are read back as the operation.
 pub fn a_spelling_is_read_again()
     ensures tokens { (op : BankOp) → IsBankOp op → tokens_of (bank_text op) ≡ bank_words op }
     ensures form { (op : BankOp) → bank_form (bank_words op) ≡ Some (form_for op) }
@@ -39,16 +39,16 @@ pub fn an_operation_has_one_spelling()
     ensures short { (op : BankOp) → IsBankOp op → length (bank_text op) ≤ 53 }
 {}
 
-/// A transfer writes its first key and adds to its second one. A transfer from a key to itself writes it
-/// alone.
+/// A transfer writes its first key and adds to its second one. A transfer from a key to itself only
+/// writes it.
 pub fn a_transfer_touches_both_its_keys()
     ensures written { (from into : List ℕ) (amount : ℕ) → Contains (bank_foot (Transfer from into amount)) (touch from Write) }
     ensures added { (from into : List ℕ) (amount : ℕ) → from ≢ into → Contains (bank_foot (Transfer from into amount)) (touch into Add) }
     ensures one { (key : List ℕ) (amount : ℕ) → bank_foot (Transfer key key amount) ≡ touch key Write ∷ [] }
 {}
 
-/// The draft of an operation is in the ranges of every draft, and of no other operation; and what is
-/// read from a draft is the operation whose draft it is.
+/// The draft of an operation is in the ranges of every draft, and is the draft of no other
+/// operation. If an operation is read from a draft, the draft is that of the operation.
 pub fn a_draft_is_of_one_operation()
     ensures draft { (op : BankOp) → IsBankOp op → IsDraft (bank_draft_for op) }
     ensures again { (op : BankOp) → IsBankOp op → bank_op (bank_draft_for op) ≡ Some op }
@@ -62,7 +62,9 @@ pub fn an_operation_keeps_to_its_footprint()
     ensures { (accounts : Accounts) (op : BankOp) (key : List ℕ) → LeavesAlone op key → value_at (bank_effect accounts op) key ≡ value_at accounts key }
 {}
 
-/// What is transferred is taken off one balance and added to another. No balance passes 2^64 - 1.
+/// A deposit adds the amount to the balance. A withdrawal and a transfer subtract it from the
+/// balance, if that is at least the amount, and a transfer adds it to another balance. No balance
+/// passes 2^64 - 1. A transfer to the same account changes nothing.
 pub fn balances_change_by_the_amount()
     ensures deposit { (accounts : Accounts) (key : List ℕ) (amount : ℕ) → balance_at (bank_effect accounts (Deposit key amount)) key ≡ min (balance_at accounts key + amount) (2 ^ 64 - 1) }
     ensures withdrawal { (accounts : Accounts) (key : List ℕ) (amount : ℕ) → amount ≤ balance_at accounts key → balance_at (bank_effect accounts (Withdraw key amount)) key ≡ balance_at accounts key - amount }
@@ -71,20 +73,21 @@ pub fn balances_change_by_the_amount()
     ensures to_itself { (accounts : Accounts) (key : List ℕ) (amount : ℕ) → bank_effect accounts (Transfer key key amount) ≡ accounts }
 {}
 
-/// A command with the draft of an operation does the operation, and every other command does nothing.
+/// A command with the draft of an operation does the operation. Every other command changes
+/// nothing, and its reply is `Absent`.
 pub fn a_command_does_its_operation()
     ensures done { (accounts : Accounts) (c : Command) (op : BankOp) → IsBankOp op → c.draft ≡ bank_draft_for op → (after_command accounts c ≡ bank_effect accounts op) × (reply_to_command accounts c ≡ bank_reply accounts op) }
     ensures nothing { (accounts : Accounts) (c : Command) → ((op : BankOp) → IsBankOp op → c.draft ≢ bank_draft_for op) → (after_command accounts c ≡ accounts) × (reply_to_command accounts c ≡ Absent) }
 {}
 
-/// Commands that do not conflict give the same accounts in both orders, and the same replies, whatever
-/// the accounts are.
+/// Two different commands that do not conflict give the same accounts and the same replies in both
+/// orders, whatever the accounts are.
 pub fn commands_without_conflict_commute()
     ensures { (accounts : Accounts) (c d : Command) → same c d ≡ false → conflict c d ≡ false → Commute bank_rules accounts c d }
 {}
 
-/// A withdrawal or a transfer of a history is granted exactly where the account has the amount when the
-/// commands before it in the canonical order have been run.
+/// A withdrawal or a transfer of a history is granted exactly if the account has the amount after
+/// the commands before it in the canonical order.
 pub fn a_grant_is_that_of_the_balance()
     ensures withdrawal { (h : History) (before behind : List Command) (c : Command) (key : List ℕ) (amount : ℕ) → StandsBetween h before c behind → bank_op c.draft ≡ Some (Withdraw key amount) → IsGrantBehind h before c key amount }
     ensures transfer { (h : History) (before behind : List Command) (c : Command) (from into : List ℕ) (amount : ℕ) → StandsBetween h before c behind → bank_op c.draft ≡ Some (Transfer from into amount) → IsGrantBehind h before c from amount }
@@ -97,7 +100,8 @@ pub fn what_is_deposited_is_held_or_withdrawn()
     ensures history { (h : History) → length (canonical h) < 2 ^ 32 → held (state_of bank_rules h) + withdrawals (replies_to bank_rules (canonical h)) ≡ deposits (canonical h) }
 {}
 
-/// Replicas that ran one history, each in an order of its own, have equal accounts and gave equal replies.
+/// Replicas that ran one history, each in its own order, have equal accounts and gave equal
+/// replies.
 pub fn replicas_of_one_history_agree()
     ensures accounts { (cs ds : List Command) → AreOrdersOfOne cs ds → state_after bank_rules cs ≡ state_after bank_rules ds }
     ensures replies { (cs ds : List Command) (c : Command) → AreOrdersOfOne cs ds → lookup (same c) (replies_to bank_rules cs) ≡ lookup (same c) (replies_to bank_rules ds) }

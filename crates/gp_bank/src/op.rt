@@ -8,21 +8,22 @@ ghost use Rattle.gp_bank.specs.Forms.{bank_op_spelled};
 use gp_command::{Key, NoMemory};
 use gp_words::push_number;
 
-/// What a command does to a bank, whose accounts have balances from 0 to 2^64 - 1. An account that is
-/// absent counts as one with balance 0.
+/// What a command does to a bank, whose accounts have balances from 0 to 2^64 - 1. An absent
+/// account counts as one with balance 0.
 #[derive(Clone, Copy, Debug, PartialEq, Eq)]
 pub enum BankOp {
-    /// The amount is added to the account's balance, which is 2^64 - 1 where the sum is greater. The
-    /// balance is not shown.
+    /// The amount is added to the account's balance. The balance becomes 2^64 - 1 if the sum is
+    /// greater. The reply does not show it.
     Deposit(Key, u32),
-    /// Where the account has at least the amount, the amount is taken off its balance.
+    /// If the account has at least the amount, the amount is subtracted from its balance.
     Withdraw(Key, u32),
-    /// Where the first account has at least the amount, the amount goes from it to the second one, whose
-    /// balance is 2^64 - 1 where the sum is greater. Nothing moves where the two are one.
+    /// If the first account has at least the amount, the amount goes from it to the second one. The
+    /// second balance becomes 2^64 - 1 if the sum is greater. Nothing moves if the two accounts are
+    /// the same.
     Transfer(Key, Key, u32),
-    /// The account's balance is shown.
+    /// The reply shows the account's balance.
     Balance(Key),
-    /// Nothing is done, and every other command is ordered before it or behind it.
+    /// Nothing is done. Every other command is ordered before it or after it.
     Checkpoint,
 }
 
@@ -34,9 +35,10 @@ impl BankOp {
     }
 }
 
-/// Appends the spelling of an operation, as `deposit K V`. Where memory runs out `to` holds what it held.
+/// Appends the spelling of an operation, such as `deposit K V`. If memory runs out, `to` stays as
+/// it was.
 ///
-/// The tokens of what was written are read again as the operation.
+/// The tokens of what was written are read back as the operation.
 pub fn write_bank_op(op: &BankOp, to: &mut Vec<u8>) -> Result<(), NoMemory>
     ensures written { OnOk result (to.new.items ≡ to.old.items ++ bank_text op.now) }
     ensures unchanged { OnErr result (to.new.items ≡ to.old.items) }
@@ -50,7 +52,7 @@ pub fn write_bank_op(op: &BankOp, to: &mut Vec<u8>) -> Result<(), NoMemory>
     written
 }
 
-// The same, but a part may stand there where memory runs out.
+// The same, but if memory runs out, a part of the spelling may have been appended.
 fn push_op(op: &BankOp, to: &mut Vec<u8>) -> Result<(), NoMemory>
     ensures written { OnOk result (to.new.items ≡ to.old.items ++ bank_text op.now) }
     ensures behind { OnErr result (take (length to.old.items) to.new.items ≡ to.old.items) }

@@ -1,4 +1,4 @@
-//! What a replica of the bank holds, and what came in and went out.
+//! The sum that a replica of the bank holds, and the sums of its deposits and withdrawals.
 ghost use Rattle.std.specs.Prelude.{◌≡◌, ◌<◌, ◌+◌, ◌^◌, length};
 ghost use Rattle.std.specs.List.{sum_by};
 ghost use Rattle.gp_history.specs.Sequence.{history_of};
@@ -15,10 +15,11 @@ use gp_history::Hist;
 use gp_replica::{Replica, Reply};
 use std::collections::BTreeMap;
 
-/// What the accounts of a replica hold, and the deposits and the granted withdrawals that it has run. It
-/// takes no memory.
+/// The sum of the balances of a replica, and the sums of the deposits and of the granted
+/// withdrawals that it has run.
 ///
-/// Fewer than 2^32 commands bring no balance past 2^64 - 1, so what was deposited was withdrawn or is held.
+/// Fewer than 2^32 commands bring no balance past 2^64 - 1, so what they deposited was withdrawn or
+/// is held.
 pub fn totals(replica: &Replica<Bank>) -> Totals
     ensures held { result.held ≡ held (state_of bank_rules (history_of replica.now)) }
     ensures deposits { result.deposits ≡ deposits replica.now }
@@ -59,7 +60,7 @@ fn sum_of(accounts: &BTreeMap<Key, u64>) -> u128
     sum
 }
 
-// One more balance.
+// The sum with one more balance.
 fn plus(sum: u128, balance: u64) -> u128
     requires { sum < 2 ^ 127 }
     ensures sum { result ≡ sum + balance }

@@ -43,7 +43,7 @@ fn does(alloc: Global, bank: &mut Bank, row: (Step, Reply)) -> Result<bool, Fail
     replies(bank, draft(alloc, step)?, reply)
 }
 
-// The balance of an account that is there.
+// The balance of an account that exists.
 fn balance(bank: &Bank, key: &[u8]) -> Result<Option<u64>, Fail> {
     Ok(bank.accounts().get(&Key::new(key)?).copied())
 }

@@ -5,7 +5,8 @@ ghost use Rattle.gp_bank.specs.Accounts.{Accounts, balance_at};
 ghost use Rattle.gp_bank.specs.Effects.{bank_effect};
 ghost use Rattle.gp_bank.specs.Laws.{CanMove};
 
-/// A deposit or a transfer that would pass the greatest balance comes to it, and one that just reaches it does too.
+/// A deposit or a transfer that would exceed the greatest balance leads to it, and so does one that
+/// just reaches it.
 pub fn what_would_pass_the_greatest_balance_comes_to_it()
     ensures at_it { (accounts : Accounts) (key : List ℕ) → balance_at accounts key ≡ 2 ^ 64 - 1 → balance_at (bank_effect accounts (Deposit key 1)) key ≡ 2 ^ 64 - 1 }
     ensures reached { (accounts : Accounts) (key : List ℕ) → balance_at accounts key ≡ 2 ^ 64 - 6 → balance_at (bank_effect accounts (Deposit key 5)) key ≡ 2 ^ 64 - 1 }

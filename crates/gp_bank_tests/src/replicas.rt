@@ -86,7 +86,7 @@ fn has_totals(replica: &Replica<Bank>, wanted: &Totals) -> bool {
     totals(replica) == *wanted
 }
 
-// Whether all that is done together was run.
+// Whether all commands that are run together were run.
 fn is_together(replica: &Replica<Bank>) -> Result<bool, Fail> {
     Ok(are_answered(replica) && has_totals(replica, &TOTALS) && holds_all(replica)?)
 }

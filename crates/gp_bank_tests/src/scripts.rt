@@ -33,7 +33,7 @@ l0 total 10 deposits 10 withdrawals 0
 events 17 messages 10
 ";
 
-// every operation but a checkpoint, with every reply, and a transfer of an account to itself
+// every operation except a checkpoint, with every reply, and a transfer of an account to itself
 const EIGHT_OPERATIONS: &[u8] = b"\
 nodes 3 1 1
 offer p0 deposit a 10
@@ -71,8 +71,8 @@ l0 total 7 deposits 10 withdrawals 3
 events 25 messages 14
 ";
 
-// two transfers from one account collide in a fast round, behind a deposit on which all agree; a single
-// round orders them, and the second is not granted
+// two transfers from one account collide in a fast round, after a deposit on which all agree; a
+// single round orders them, and the second is not granted
 const TRANSFERS_COLLIDE: &[u8] = b"\
 nodes 3 1 2
 begin c0 1 fast
@@ -129,9 +129,9 @@ l1 total 10 deposits 10 withdrawals 0
 events 38 messages 26
 ";
 
-// four accounts with 10 each, and four transfers that lead from each to the next and collide in a fast
-// round: every two neighbours in the ring stand in other orders at two acceptors, so only the deposits are
-// learned there; a single round orders the transfers, and the greatest is not granted
+// four accounts with 10 each, and four transfers that lead from each to the next and collide in a
+// fast round: every two neighbours in the ring have different orders at two acceptors, so only the
+// deposits are learned there; a single round orders the transfers, and the greatest is not granted
 const RING_OF_TRANSFERS: &[u8] = b"\
 nodes 3 1 2
 begin c0 1 fast
@@ -255,7 +255,7 @@ static REFUSED: [(&'static [u8], Reason); 8] = [
     ),
     // an operation of the key store
     (b"nodes 3 1 1\noffer p0 put a 5\n", Reason::BadLine),
-    // a transfer without an amount, by a proposer that is not there
+    // a transfer without an amount, by a proposer that does not exist
     (b"nodes 3 1 1\noffer p8 transfer a b\n", Reason::BadLine),
     // a node is read before a key, and a key before an amount
     (b"nodes 3 1 1\noffer p8 deposit A x\n", Reason::NoNode),

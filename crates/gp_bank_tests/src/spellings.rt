@@ -21,7 +21,7 @@ static SPELLED: [(Step, &'static [u8], bool, usize); 6] = [
     (Step::Checkpoint, b"checkpoint", true, 0),
 ];
 
-// Texts of a right form whose tokens are refused.
+// Texts of a valid form whose tokens are refused.
 static REFUSED: [(&'static [u8], OpFault); 4] = [
     (b"deposit a 4294967296", OpFault::BadNumber),
     (b"deposit A 4294967296", OpFault::BadKey),
@@ -29,7 +29,7 @@ static REFUSED: [(&'static [u8], OpFault); 4] = [
     (b"withdraw a 01", OpFault::BadNumber),
 ];
 
-// Texts of no form.
+// Texts without a valid form.
 static FORMLESS: [&'static [u8]; 4] = [b"deposit a", b"transfer a b", b"put a 5", b"balance"];
 
 fn is_spelled(alloc: Global, row: (Step, &[u8], bool, usize)) -> Result<bool, Fail> {

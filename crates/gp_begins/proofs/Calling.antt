@@ -5,7 +5,7 @@ use Rattle.gp_round.specs.Counts.{Counts}
 use Rattle.gp_round.specs.declared.round.Round.{Round}
 use Rattle.gp_msg.specs.declared.record.Record.{Record}
 use Rattle.gp_run.specs.Messages.{messages}
-use Rattle.gp_run.specs.Runs.{entries_in}
+use Rattle.gp_run.specs.Runs.{newest_first}
 use Rattle.gp_work.specs.Doing.{ProcessState}
 use Rattle.gp_collide.specs.Values.{HasIncompatibleValues}
 use Rattle.gp_collide.proofs.ClashesSeen.{clash_of_values}
@@ -32,14 +32,14 @@ module _ (p : ProcessState) (calls : List Call) (f : HasFollowed IsCalled p call
     pub call_is : c ≡ call_in e r
     pub few : called_for e done ≤ 1
     pub round_is : r ≡ round_at (suc (called_for e done))
-    pub clash : called_for e done ≡ 1 → HasIncompatibleValues (e, FIRST_ROUND) (messages (entries_in pre))
+    pub clash : called_for e done ≡ 1 → HasIncompatibleValues (e, FIRST_ROUND) (messages (newest_first pre))
 
   module _ (pre : List Record) (done left : List Call) (r : Round) (n : NextCall p calls f pre done left r) (turn : IsInTurn done (leader_at config pre)) where
     abbrev may : IsCalled config leader done n.meant.seen (Some n.call)
     may = n.meant.may
 
-    clash_seen : IsTrue may.clashed → HasIncompatibleValues (may.epoch, FIRST_ROUND) (messages (entries_in pre))
-    clash_seen told = clashed_since p calls f pre done left r n may.epoch FIRST_ROUND (clash_of_values (may.epoch, FIRST_ROUND) (messages (entries_in n.meant.seen)) (may.clash.0 told))
+    clash_seen : IsTrue may.clashed → HasIncompatibleValues (may.epoch, FIRST_ROUND) (messages (newest_first pre))
+    clash_seen told = clashed_since p calls f pre done left r n may.epoch FIRST_ROUND (clash_of_values (may.epoch, FIRST_ROUND) (messages (newest_first n.meant.seen)) (may.clash.0 told))
 
     pub decided : Decided pre done n.call r (leader_at config pre).epoch
     decided =

@@ -8,7 +8,7 @@ use Rattle.gp_msg.specs.declared.event.Event.{Event}
 use Rattle.gp_msg.specs.declared.event.Event.TheVariants.{Begin, Take}
 use Rattle.gp_msg.specs.declared.record.Record.{Record}
 use Rattle.gp_run.specs.Messages.{messages}
-use Rattle.gp_run.specs.Runs.{entries_in}
+use Rattle.gp_run.specs.Runs.{newest_first}
 use Rattle.gp_rules.specs.Own.{own_events}
 use Rattle.gp_work.specs.Doing.{ProcessState}
 use Rattle.gp_collide.specs.Values.{HasIncompatibleValues}
@@ -44,7 +44,7 @@ module _ (p : ProcessState) (calls : List Call) (f : HasFollowed IsCalled p call
   record IsNextAt (k e : ℕ) (r : Round) : Type 0 where
     few : called_for e (stage p calls f k).done ≤ 1
     round_is : r ≡ round_at (suc (called_for e (stage p calls f k).done))
-    clash : called_for e (stage p calls f k).done ≡ 1 → HasIncompatibleValues (e, FIRST_ROUND) (messages (entries_in (take k X)))
+    clash : called_for e (stage p calls f k).done ≡ 1 → HasIncompatibleValues (e, FIRST_ROUND) (messages (newest_first (take k X)))
 
   next_at : (k e : ℕ) (r : Round) → BeginsAt config X k e r → IsNextAt k e r
   next_at k e r b =
@@ -75,7 +75,7 @@ module _ (p : ProcessState) (calls : List Call) (f : HasFollowed IsCalled p call
     | inr t ↦ elim t [ inl same ↦ same | inr more ↦ absurd (not_again j i e r more b a) ]
   ]
 
-  begins_behind : (place e : ℕ) → BeginsAt config X place e clash_round → HasIncompatibleValues (e, FIRST_ROUND) (messages (entries_in (take place X)))
+  begins_behind : (place e : ℕ) → BeginsAt config X place e clash_round → HasIncompatibleValues (e, FIRST_ROUND) (messages (newest_first (take place X)))
   begins_behind place e b = let n = next_at place e clash_round b in n.clash (only_second (called_for e (stage p calls f place).done) n.few (sym n.round_is))
 
   -- ---- the end
@@ -117,16 +117,16 @@ module _ (p : ProcessState) (calls : List Call) (f : HasFollowed IsCalled p call
     first_is_begun : IsBegun config X e FIRST_ROUND
     first_is_begun = elim enough [ inl one ↦ made 1 (omega arith) (omega (arith, one.0)) | inr two ↦ made 1 (omega arith) (omega (arith, two)) ]
 
-    clash_stands : IsBegun config X e clash_round → HasIncompatibleValues (e, FIRST_ROUND) (messages (entries_in X))
+    clash_stands : IsBegun config X e clash_round → HasIncompatibleValues (e, FIRST_ROUND) (messages (newest_first X))
     clash_stands b =
-        subst (λ l. HasIncompatibleValues (e, FIRST_ROUND) (messages (entries_in l))) (take-append-drop b.0 X)
+        subst (λ l. HasIncompatibleValues (e, FIRST_ROUND) (messages (newest_first l))) (take-append-drop b.0 X)
         (incompatible_since (e, FIRST_ROUND) (take b.0 X) (drop b.0 X) (begins_behind b.0 e b.1))
 
-    clash_is_answered : 0 < config.acceptors → HasIncompatibleValues (e, FIRST_ROUND) (messages (entries_in X)) → IsBegun config X e clash_round
+    clash_is_answered : 0 < config.acceptors → HasIncompatibleValues (e, FIRST_ROUND) (messages (newest_first X)) → IsBegun config X e clash_round
     clash_is_answered some two = elim enough [
       | inl one ↦
-          let seen = values_clash (e, FIRST_ROUND) (messages (entries_in X)) (are_histories config some (entries_in X) f.legal e FIRST_ROUND) (each_grows config some (entries_in X) f.legal e FIRST_ROUND) two in
-          let told : end.clashed ≡ true = (subst (λ n. IsTrue end.clashed ↔ HasClash (watched (n, FIRST_ROUND) (messages (entries_in X)))) same_epoch end.clash).1 seen in
+          let seen = values_clash (e, FIRST_ROUND) (messages (newest_first X)) (are_histories config some (newest_first X) f.legal e FIRST_ROUND) (each_grows config some (newest_first X) f.legal e FIRST_ROUND) two in
+          let told : end.clashed ≡ true = (subst (λ n. IsTrue end.clashed ↔ HasClash (watched (n, FIRST_ROUND) (messages (newest_first X)))) same_epoch end.clash).1 seen in
           absurd (let wrong : true ≡ false = sym told ∙ one.1 in cc)
       | inr more ↦ made 2 (omega arith) more
     ]

@@ -12,7 +12,7 @@ use Rattle.gp_msg.specs.declared.record.Record.{Record}
 use Rattle.gp_msg.specs.Messages.{Entry}
 use Rattle.gp_run.specs.Messages.{messages}
 use Rattle.gp_run.specs.Legal.{Legal}
-use Rattle.gp_run.specs.Runs.{entries_in}
+use Rattle.gp_run.specs.Runs.{newest_first}
 use Rattle.gp_work.specs.Doing.{ProcessState}
 use Rattle.gp_collide.specs.Values.{HasIncompatibleValues}
 use Rattle.gp_collide.specs.Watched.{watched}
@@ -110,13 +110,13 @@ module _ (p : ProcessState) (calls : List Call) (f : HasFollowed IsAdapted p cal
     follows : MayFollow (last_for may.epoch done) may.clashed r
     follows = subst (MayFollow (last_for may.epoch done) may.clashed) (sym n.round_is) may.may.1
 
-    clash_seen : may.clashed ≡ true → HasIncompatibleValues (may.epoch, or_zero (last_for may.epoch done)) (messages (entries_in pre))
+    clash_seen : may.clashed ≡ true → HasIncompatibleValues (may.epoch, or_zero (last_for may.epoch done)) (messages (newest_first pre))
     clash_seen told = clashed_since p calls f pre done left r n may.epoch (or_zero (last_for may.epoch done))
-        (clash_of_values (may.epoch, or_zero (last_for may.epoch done)) (messages (entries_in n.meant.seen)) (may.clash.0 told))
+        (clash_of_values (may.epoch, or_zero (last_for may.epoch done)) (messages (newest_first n.meant.seen)) (may.clash.0 told))
 
     never_single : 0 < config.acceptors → (or_zero (last_for may.epoch done)).mode ≡ Single → may.clashed ≡ true → ⊥
     never_single some single told =
-        no_clash_of_single config some (entries_in n.meant.seen) (seen_legal p calls f done n.call n.meant) may.epoch (or_zero (last_for may.epoch done)) single (may.clash.0 told)
+        no_clash_of_single config some (newest_first n.meant.seen) (seen_legal p calls f done n.call n.meant) may.epoch (or_zero (last_for may.epoch done)) single (may.clash.0 told)
 
   -- the round that begins at place k is the last one of its epoch from then on, and in other epochs none begins there
   begun : (k : ℕ) (x : Record) → slice_get X k ≡ Some x → x.node ≡ leader → (r : Round) → x.event ≡ Begin LEADER r → (done left : List Call) (n : NextCall p calls f (take k X) done left r)

@@ -15,13 +15,13 @@ use Rattle.gp_msg.specs.Messages.{entry_of, EpochPart, Coordinators}
 use Rattle.gp_coordinator.specs.Epochs as coordinator
 use Rattle.gp_coordinator.specs.Epochs.{CoordinatorInEpoch}
 use Rattle.gp_run.specs.Messages.{messages}
-use Rattle.gp_msg.specs.Nodes.{node_of}
+use Rattle.gp_msg.specs.Nodes.{node_of, same_node}
 use Rattle.gp_run.specs.States.{coordinator_at}
 use Rattle.gp_run.specs.Legal.{Legal, Follows, fits}
-use Rattle.gp_run.specs.Runs.{entries_in}
+use Rattle.gp_run.specs.Runs.{newest_first}
 use Rattle.gp_run.proofs.Choices.{left_true, right_true}
-use Rattle.gp_rules.specs.Own.{same_node, own_events}
-use Rattle.gp_rules.specs.Owning.{same_tells}
+use Rattle.gp_rules.specs.Own.{own_events}
+use Rattle.gp_rules.specs.SameNodes.{same_tells}
 use Rattle.gp_rules.specs.Cores.{part_in}
 use Rattle.gp_rules.proofs.Runs.{core_is}
 use Rattle.gp_work.specs.Doing.{ProcessState}
@@ -46,7 +46,7 @@ some_is e = cc
 
 -- the leader after these records
 abbrev pub leader_at : Counts → List Record → CoordinatorInEpoch
-leader_at config pre = coordinator_at config LEADER (entries_in pre)
+leader_at config pre = coordinator_at config LEADER (newest_first pre)
 
 module _ {answers : Answers} (p : ProcessState) (calls : List Call) (f : HasFollowed answers p calls) where
   abbrev config : Counts
@@ -95,10 +95,10 @@ module _ {answers : Answers} (p : ProcessState) (calls : List Call) (f : HasFoll
       let cut : take (length done) calls ≡ done = ap (take (length done)) (sym all) ∙ take_place done (c ∷ rest) in
       meant done c (subst (λ before. HasBegun answers p before c) cut (f.begun (length done) c there))
 
-  pub stands_here : (pre : List Record) → Legal config (entries_in pre) → StandsIn config leader pre (leader_at config pre).epoch (leader_at config pre).state.round
-  stands_here pre legal = ap part_in (core_is config leader (entries_in pre) legal)
+  pub stands_here : (pre : List Record) → Legal config (newest_first pre) → StandsIn config leader pre (leader_at config pre).epoch (leader_at config pre).state.round
+  stands_here pre legal = ap part_in (core_is config leader (newest_first pre) legal)
 
-  pub stands_there : (pre : List Record) (e : ℕ) (own : Round) → Legal config (entries_in pre) → StandsIn config leader pre e own → ((leader_at config pre).epoch ≡ e) × ((leader_at config pre).state.round ≡ own)
+  pub stands_there : (pre : List Record) (e : ℕ) (own : Round) → Legal config (newest_first pre) → StandsIn config leader pre e own → ((leader_at config pre).epoch ≡ e) × ((leader_at config pre).state.round ≡ own)
   stands_there pre e own legal stands =
       let part : coordinator.durable (leader_at config pre) ≡ record { epoch = e; part = Coordinators own } = some_is (sym (stands_here pre legal) ∙ stands) in
       let round : Coordinators (leader_at config pre).state.round ≡ Coordinators own = ap (λ (k : EpochPart). k.part) part in
@@ -110,13 +110,13 @@ module _ {answers : Answers} (p : ProcessState) (calls : List Call) (f : HasFoll
   owner_below n c r h = ltb-true c n (right_true (is_between 1 1000000 r.count) (nat_lt c n) (left_true (is_between 1 1000000 r.count && nat_lt c n) (nat_eq r.lead (lead_of r.mode c)) h))
 
   module _ (pre post : List Record) (x : Record) (split : X ≡ pre ++ x ∷ post) where
-    legal_here : Legal config (entries_in (pre ++ x ∷ post))
-    legal_here = subst (λ rs. Legal config (entries_in rs)) split f.legal
+    legal_here : Legal config (newest_first (pre ++ x ∷ post))
+    legal_here = subst (λ rs. Legal config (newest_first rs)) split f.legal
 
-    pub legal_pre : Legal config (entries_in pre)
+    pub legal_pre : Legal config (newest_first pre)
     legal_pre = legal_before config pre (x ∷ post) legal_here
 
-    pub follows_pre : Follows config (entries_in pre) (entry_of x)
+    pub follows_pre : Follows config (newest_first pre) (entry_of x)
     follows_pre = follows_there config pre post x legal_here
 
     -- the events of a node, round the one at this place
@@ -134,7 +134,7 @@ module _ {answers : Answers} (p : ProcessState) (calls : List Call) (f : HasFoll
         of_c = follows_pre.own_node ∙ ap node_of is
 
         below : c < config.coordinators
-        below = owner_below config.coordinators c r (sym (ap (fits config (entries_in pre)) is) ∙ follows_pre.event_fits)
+        below = owner_below config.coordinators c r (sym (ap (fits config (newest_first pre)) is) ∙ follows_pre.event_fits)
 
         other : others_in (own_events (Coordinator c) X) ≡ [] → ⊥
         other none = elim (same_tells (Coordinator c) x.node) [
@@ -163,7 +163,7 @@ module _ {answers : Answers} (p : ProcessState) (calls : List Call) (f : HasFoll
     pub round_is : r ≡ call.round
     pub meant : Meant done call
     pub gap : Gap leader pre meant.seen
-    pub legal : Legal config (entries_in pre)
+    pub legal : Legal config (newest_first pre)
 
   pub next_call : (pre post : List Record) (x : Record) → X ≡ pre ++ x ∷ post → (r : Round) → x.node ≡ leader → x.event ≡ Begin LEADER r → (done left : List Call) → done ++ left ≡ calls
       → others_in (own_events leader pre) ≡ begins leader (rounds done) → others_in (own_events leader (x ∷ post)) ≡ begins leader (rounds left) → NextCall pre done left r
@@ -190,12 +190,12 @@ module _ {answers : Answers} (p : ProcessState) (calls : List Call) (f : HasFoll
     stood e own stands = stands_there pre e own n.legal (stands_still config leader n.meant.seen n.gap.gap pre e own n.gap.split n.gap.same stands)
 
     -- the values that were seen when the call was made are still there
-    pub clashed_since : (e : ℕ) (q : Round) → HasIncompatibleValues (e, q) (messages (entries_in n.meant.seen)) → HasIncompatibleValues (e, q) (messages (entries_in pre))
-    clashed_since e q h = subst (λ l. HasIncompatibleValues (e, q) (messages (entries_in l))) (sym n.gap.split) (incompatible_since (e, q) n.meant.seen n.gap.gap h)
+    pub clashed_since : (e : ℕ) (q : Round) → HasIncompatibleValues (e, q) (messages (newest_first n.meant.seen)) → HasIncompatibleValues (e, q) (messages (newest_first pre))
+    clashed_since e q h = subst (λ l. HasIncompatibleValues (e, q) (messages (newest_first l))) (sym n.gap.split) (incompatible_since (e, q) n.meant.seen n.gap.gap h)
 
   -- the records that were seen when a call was made are a legal run
-  pub seen_legal : (done : List Call) (c : Call) (m : Meant done c) → Legal config (entries_in m.seen)
-  seen_legal done c m = legal_before config m.seen m.more (subst (λ rs. Legal config (entries_in rs)) m.split f.legal)
+  pub seen_legal : (done : List Call) (c : Call) (m : Meant done c) → Legal config (newest_first m.seen)
+  seen_legal done c m = legal_before config m.seen m.more (subst (λ rs. Legal config (newest_first rs)) m.split f.legal)
 
   -- ---- a place where a round is begun
 

@@ -11,7 +11,7 @@ use Rattle.gp_msg.specs.declared.record.Record.{Record}
 use Rattle.gp_msg.specs.Messages.{Proposed, Asked, Answered, Sent, Voted, Stamped, Offered, InEpoch, Final, Entry}
 use Rattle.gp_run.specs.Messages.{messages}
 use Rattle.gp_run.specs.Legal.{Legal}
-use Rattle.gp_run.specs.Runs.{entries_in}
+use Rattle.gp_run.specs.Runs.{newest_first}
 use Rattle.gp_run.proofs.Telling.{messages-append}
 use Rattle.gp_rules.specs.Still.{entries_append}
 use Rattle.gp_cstructs.proofs.Lists.{get_among, among_contains}
@@ -87,8 +87,8 @@ incompatible_more r ms more h = record {
 }
 
 -- two values that the messages of some records have stand among those of more records
-pub incompatible_since : (r : EpochRound) (seen more : List Record) → HasIncompatibleValues r (messages (entries_in seen)) → HasIncompatibleValues r (messages (entries_in (seen ++ more)))
-incompatible_since r seen more h = subst (HasIncompatibleValues r) sent (incompatible_more r (messages (entries_in seen)) (messages (entries_in more)) h)
+pub incompatible_since : (r : EpochRound) (seen more : List Record) → HasIncompatibleValues r (messages (newest_first seen)) → HasIncompatibleValues r (messages (newest_first (seen ++ more)))
+incompatible_since r seen more h = subst (HasIncompatibleValues r) sent (incompatible_more r (messages (newest_first seen)) (messages (newest_first more)) h)
   where
-    sent : messages (entries_in seen) ++ messages (entries_in more) ≡ messages (entries_in (seen ++ more))
-    sent = sym (ap messages (entries_append seen more) ∙ messages-append (entries_in more) (entries_in seen))
+    sent : messages (newest_first seen) ++ messages (newest_first more) ≡ messages (newest_first (seen ++ more))
+    sent = sym (ap messages (entries_append seen more) ∙ messages-append (newest_first more) (newest_first seen))

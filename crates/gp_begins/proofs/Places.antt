@@ -10,10 +10,12 @@ use Rattle.gp_msg.specs.declared.event.Event.TheVariants.{Offer, Begin, Take, Fa
 use Rattle.gp_msg.specs.declared.record.Record.{Record}
 use Rattle.gp_msg.specs.Messages.{Entry, entry_of}
 use Rattle.gp_run.specs.Legal.{Legal, Follows}
-use Rattle.gp_run.specs.Runs.{entries_in}
+use Rattle.gp_run.specs.Runs.{newest_first}
 use Rattle.gp_run.proofs.Telling.{entries-push}
-use Rattle.gp_rules.specs.Own.{same_node, own, own_events, event_in}
-use Rattle.gp_rules.specs.Owning.{same_tells, own_append}
+use Rattle.gp_rules.specs.Own.{own, own_events, event_in}
+use Rattle.gp_msg.specs.Nodes.{same_node}
+use Rattle.gp_rules.specs.SameNodes.{same_tells}
+use Rattle.gp_rules.proofs.OwnRecords.{own_append}
 use Rattle.gp_rules.specs.Still.{entries_append}
 use Rattle.gp_phase.specs.Deeds.{besides, others_in}
 
@@ -56,12 +58,12 @@ legal_rest : (config : Counts) (xs ys : List Entry) → Legal config (xs ++ ys) 
 legal_rest config [] ys l = l
 legal_rest config (x ∷ xs) ys l = legal_rest config xs ys l.0
 
-pub legal_before : (config : Counts) (pre post : List Record) → Legal config (entries_in (pre ++ post)) → Legal config (entries_in pre)
-legal_before config pre post l = legal_rest config (entries_in post) (entries_in pre) (subst (Legal config) (entries_append pre post) l)
+pub legal_before : (config : Counts) (pre post : List Record) → Legal config (newest_first (pre ++ post)) → Legal config (newest_first pre)
+legal_before config pre post l = legal_rest config (newest_first post) (newest_first pre) (subst (Legal config) (entries_append pre post) l)
 
-pub follows_there : (config : Counts) (pre post : List Record) (x : Record) → Legal config (entries_in (pre ++ x ∷ post)) → Follows config (entries_in pre) (entry_of x)
+pub follows_there : (config : Counts) (pre post : List Record) (x : Record) → Legal config (newest_first (pre ++ x ∷ post)) → Follows config (newest_first pre) (entry_of x)
 follows_there config pre post x l =
-    let here : Legal config (entries_in (pre ++ x ∷ [])) = legal_before config (pre ++ x ∷ []) post (subst (λ r. Legal config (entries_in r)) (sym (append_assoc pre (x ∷ []) post)) l) in
+    let here : Legal config (newest_first (pre ++ x ∷ [])) = legal_before config (pre ++ x ∷ []) post (subst (λ r. Legal config (newest_first r)) (sym (append_assoc pre (x ∷ []) post)) l) in
     (subst (Legal config) (entries-push pre x) here).1
 
 -- ---- the events of one node

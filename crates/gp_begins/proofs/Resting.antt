@@ -8,7 +8,7 @@ use Rattle.gp_msg.specs.declared.event.Event.{Event}
 use Rattle.gp_msg.specs.declared.event.Event.TheVariants.{Begin, Take}
 use Rattle.gp_msg.specs.declared.record.Record.{Record}
 use Rattle.gp_run.specs.Messages.{messages}
-use Rattle.gp_run.specs.Runs.{entries_in}
+use Rattle.gp_run.specs.Runs.{newest_first}
 use Rattle.gp_rules.specs.Own.{own_events}
 use Rattle.gp_work.specs.Doing.{ProcessState}
 use Rattle.gp_collide.specs.Values.{HasIncompatibleValues}
@@ -39,13 +39,13 @@ module _ (p : ProcessState) (calls : List Call) (f : HasFollowed IsAdapted p cal
   last_of e = subst (λ cs. IsLastOf config X (length X) e (last_for e cs)) (all_done p calls f (IsUpToDate p calls f) (up_to_date p calls f) (course p calls f (length X))) ((course p calls f (length X)).holds e)
 
   -- no values of the round that was begun last are incompatible, if it may rest
-  calm_of : 0 < config.acceptors → (q : Round) → (IsTrue end.clashed ↔ HasClash (watched (end.epoch, q) (messages (entries_in X)))) → end.clashed ≡ false → HasIncompatibleValues (end.epoch, q) (messages (entries_in X)) → ⊥
+  calm_of : 0 < config.acceptors → (q : Round) → (IsTrue end.clashed ↔ HasClash (watched (end.epoch, q) (messages (newest_first X)))) → end.clashed ≡ false → HasIncompatibleValues (end.epoch, q) (messages (newest_first X)) → ⊥
   calm_of some q clash none two =
-      let seen = values_clash (end.epoch, q) (messages (entries_in X)) (are_histories config some (entries_in X) f.legal end.epoch q) (each_grows config some (entries_in X) f.legal end.epoch q) two in
+      let seen = values_clash (end.epoch, q) (messages (newest_first X)) (are_histories config some (newest_first X) f.legal end.epoch q) (each_grows config some (newest_first X) f.legal end.epoch q) two in
       let wrong : true ≡ false = sym (clash.1 seen) ∙ none in
       cc
 
-  by_last : 0 < config.acceptors → (o : Option Round) → MayRest o end.clashed → (IsTrue end.clashed ↔ HasClash (watched (end.epoch, or_zero o) (messages (entries_in X))))
+  by_last : 0 < config.acceptors → (o : Option Round) → MayRest o end.clashed → (IsTrue end.clashed ↔ HasClash (watched (end.epoch, or_zero o) (messages (newest_first X))))
       → IsLastOf config X (length X) end.epoch o → BeginsInCourse config X
   by_last some None rest clash last = absurd rest
   by_last some (Some q) rest clash last = record {

@@ -12,7 +12,7 @@ use Rattle.gp_coordinator.specs.Epochs.{CoordinatorInEpoch}
 use Rattle.gp_run.specs.Messages.{messages}
 use Rattle.gp_msg.specs.Nodes.{node_of}
 use Rattle.gp_run.specs.States.{coordinator_at, coordinator_acts}
-use Rattle.gp_run.specs.Runs.{entries_in}
+use Rattle.gp_run.specs.Runs.{newest_first}
 use Rattle.gp_run.proofs.Choices.{with_message}
 use Rattle.gp_run.proofs.Others.{coordinator_rests}
 use Rattle.gp_run.proofs.Telling.{entries-push}
@@ -48,7 +48,7 @@ module _ (p : ProcessState) (calls : List Call) (f : HasFollowed IsCalled p call
   -- before place k the leader has begun what was called, and nothing else, and its round is the highest of its epoch
   pub record IsOrderly (k : ℕ) (done : List Call) (pre : List Record) : Type 0 where
     pub turn : IsInTurn done (leader_at config pre)
-    pub asked : AreAsked done (messages (entries_in pre))
+    pub asked : AreAsked done (messages (newest_first pre))
     pub past : (i e : ℕ) (r : Round) → i < k → BeginsAt config X i e r → IsTurnOf done e r
     pub made : (e n : ℕ) → 0 < n → n ≤ called_for e done → IsBegun config X e (round_at n)
 
@@ -83,32 +83,32 @@ module _ (p : ProcessState) (calls : List Call) (f : HasFollowed IsCalled p call
     split : X ≡ pre ++ x ∷ post
     split = split_place X k x there
 
-    turn_push : (done : List Call) → IsInTurn done (coordinator_acts LEADER state (messages (entries_in pre)) x.event).0 → IsInTurn done (leader_at config (pre ++ x ∷ []))
+    turn_push : (done : List Call) → IsInTurn done (coordinator_acts LEADER state (messages (newest_first pre)) x.event).0 → IsInTurn done (leader_at config (pre ++ x ∷ []))
     turn_push done h = subst (λ es. IsInTurn done (coordinator_at config LEADER es)) (sym (entries-push pre x)) h
 
     -- what is asked for was asked for before, or is a round that the leader begins now
-    asked_push : (done : List Call) → AreAsked done (messages (entries_in pre)) → ((r : Round) → x.event ≡ Begin LEADER r → (0 < called_for state.epoch done) × IsOfTurn r) → AreAsked done (messages (entries_in (pre ++ x ∷ [])))
-    asked_push done h now e r m = elim (asked_or_begun config (entries_in pre) (entry_of x) e r (follows_pre p calls f pre post x split) (subst (λ es. Among (messages es) (InEpoch e (Asked r))) (entries-push pre x) m)) [
+    asked_push : (done : List Call) → AreAsked done (messages (newest_first pre)) → ((r : Round) → x.event ≡ Begin LEADER r → (0 < called_for state.epoch done) × IsOfTurn r) → AreAsked done (messages (newest_first (pre ++ x ∷ [])))
+    asked_push done h now e r m = elim (asked_or_begun config (newest_first pre) (entry_of x) e r (follows_pre p calls f pre post x split) (subst (λ es. Among (messages es) (InEpoch e (Asked r))) (entries-push pre x) m)) [
       | inl before ↦ h e r before
       | inr b ↦
           let by : b.c ≡ LEADER = no_other p calls f pre post x split b.c r b.event_is in
           let t = now r (b.event_is ∙ ap (λ c. Begin c r) by) in
-          let same : state.epoch ≡ e = ap (λ c. (coordinator_at config c (entries_in pre)).epoch) (sym by) ∙ b.epoch_is in
+          let same : state.epoch ≡ e = ap (λ c. (coordinator_at config c (newest_first pre)).epoch) (sym by) ∙ b.epoch_is in
           (subst (λ n. 0 < called_for n done) same t.0, t.1)
     ]
 
     -- ---- nothing is begun
 
-    turn_stays : (done : List Call) → IsQuiet x → IsOrderly k done pre → IsInTurn done (coordinator_acts LEADER state (messages (entries_in pre)) x.event).0
+    turn_stays : (done : List Call) → IsQuiet x → IsOrderly k done pre → IsInTurn done (coordinator_acts LEADER state (messages (newest_first pre)) x.event).0
     turn_stays done (inl other) s =
-        subst (IsInTurn done) (sym (ap (λ (u : CoordinatorInEpoch × Option Stamped). u.0) (coordinator_rests LEADER state (messages (entries_in pre)) x.event (λ same. other (sym (of_event ∙ same)))))) s.turn
+        subst (IsInTurn done) (sym (ap (λ (u : CoordinatorInEpoch × Option Stamped). u.0) (coordinator_rests LEADER state (messages (newest_first pre)) x.event (λ same. other (sym (of_event ∙ same)))))) s.turn
       where
         of_event : x.node ≡ node_of x.event
         of_event = (follows_pre p calls f pre post x split).own_node
     turn_stays done (inr t) s =
-        subst (λ e. IsInTurn done (coordinator_acts LEADER state (messages (entries_in pre)) e).0) (sym t.1)
-        (with_message (λ (u : CoordinatorInEpoch × Option Stamped). IsInTurn done u.0) (state, None) (coordinator.take state) (slice_get (messages (entries_in pre)) t.0) s.turn
-        (λ m at_j. in_turn_took done (messages (entries_in pre)) s.asked state s.turn m (get_among (messages (entries_in pre)) t.0 m at_j)))
+        subst (λ e. IsInTurn done (coordinator_acts LEADER state (messages (newest_first pre)) e).0) (sym t.1)
+        (with_message (λ (u : CoordinatorInEpoch × Option Stamped). IsInTurn done u.0) (state, None) (coordinator.take state) (slice_get (messages (newest_first pre)) t.0) s.turn
+        (λ m at_j. in_turn_took done (messages (newest_first pre)) s.asked state s.turn m (get_among (messages (newest_first pre)) t.0 m at_j)))
 
     quiet : IsQuiet x → ((r : Round) → x.event ≡ Begin LEADER r → ⊥) → (done : List Call) → IsOrderly k done pre → IsOrderly (suc k) done (pre ++ x ∷ [])
     quiet is none done s = record {
@@ -173,8 +173,8 @@ module _ (p : ProcessState) (calls : List Call) (f : HasFollowed IsCalled p call
 
       begun : IsOrderly (suc k) (before ++ n.call ∷ []) (pre ++ x ∷ [])
       begun = subst (λ c. IsOrderly (suc k) (before ++ c ∷ []) (pre ++ x ∷ [])) (sym choice.call_is) (record {
-        turn = turn_push done (subst (λ e. IsInTurn done (coordinator_acts LEADER state (messages (entries_in pre)) e).0) (sym is) (in_turn_begun before state r choice.few choice.round_is s.turn));
-        asked = asked_push done (asked_more before (call ∷ []) (messages (entries_in pre)) s.asked)
+        turn = turn_push done (subst (λ e. IsInTurn done (coordinator_acts LEADER state (messages (newest_first pre)) e).0) (sym is) (in_turn_begun before state r choice.few choice.round_is s.turn));
+        asked = asked_push done (asked_more before (call ∷ []) (messages (newest_first pre)) s.asked)
             (λ q again. (let o = one_more in omega arith, subst IsOfTurn ((begin_event (sym is ∙ again)).1) (subst IsOfTurn (sym choice.round_is) (turn_is (suc (called_for state.epoch before)) (omega arith)))));
         past = past_then;
         made = made_then;

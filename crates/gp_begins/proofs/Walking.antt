@@ -8,9 +8,9 @@ use Rattle.gp_msg.specs.declared.node.Node.TheVariants.{Proposer}
 use Rattle.gp_msg.specs.declared.event.Event.{Event}
 use Rattle.gp_msg.specs.declared.event.Event.TheVariants.{Offer, Begin, Take, Fall}
 use Rattle.gp_msg.specs.declared.record.Record.{Record}
-use Rattle.gp_msg.specs.Nodes.{node_of}
-use Rattle.gp_rules.specs.Own.{same_node, own_events}
-use Rattle.gp_rules.specs.Owning.{same_tells}
+use Rattle.gp_msg.specs.Nodes.{node_of, same_node}
+use Rattle.gp_rules.specs.Own.{own_events}
+use Rattle.gp_rules.specs.SameNodes.{same_tells}
 use Rattle.gp_work.specs.Doing.{ProcessState}
 use Rattle.gp_phase.specs.declared.caller.Call.{Call}
 use Rattle.gp_phase.specs.Deeds.{others_in, begins}

@@ -1,4 +1,4 @@
-//! The rounds that a run begins whose leader followed its calls.
+//! The rounds that a run begins if its leader followed its calls.
 #![tactic(auto)]
 
 pub mod laws;

@@ -1,4 +1,4 @@
-//! Compatibility.
+//! Compatibility of histories.
 ghost use Rattle.std.specs.Prelude.{◌≡◌, ◌↔◌, ◌≤◌, ◌<◌, take, length, IsTrue, Some};
 ghost use Rattle.std.specs.List.{list_all};
 ghost use Rattle.gp_history.specs.Sequence.{history_of, place_in};
@@ -10,7 +10,6 @@ use gp_history::Hist;
 use gp_history::walks::{common_start, is_behind};
 
 /// Whether two histories are compatible: some history has both as prefixes.
-/// It takes no memory.
 pub fn compatible<H: Hist>(a: &H, b: &H) -> bool
     ensures { IsTrue result ↔ IsCompatible (history_of (H.sequence a.now)) (history_of (H.sequence b.now)) }
 {
@@ -18,7 +17,7 @@ pub fn compatible<H: Hist>(a: &H, b: &H) -> bool
     from == a.len() || all_beside(a, b, from)
 }
 
-// Whether each command of the second goes beside the first.
+// Whether each command of the second history fits the first, as `goes_beside` says of one.
 fn all_beside<H: Hist>(a: &H, b: &H, from: usize) -> bool
     requires alike { take from (H.sequence a.now) ≡ take from (H.sequence b.now) }
     requires within { from ≤ length (H.sequence b.now) }
@@ -33,8 +32,8 @@ fn all_beside<H: Hist>(a: &H, b: &H, from: usize) -> bool
     true
 }
 
-// Whether a command of the second goes beside the first: what comes before it is the same in both,
-// and where the first lacks it, it conflicts with nothing that the second lacks.
+// Whether a command of the second history fits the first: if the first has it, the commands before
+// it are the same in both; otherwise it conflicts with no command that only the first has.
 fn goes_beside<H: Hist>(a: &H, b: &H, j: usize, d: &Command, from: usize) -> bool
     requires alike { take from (H.sequence a.now) ≡ take from (H.sequence b.now) }
     requires there { place_in (H.sequence b.now) d.now ≡ Some j }
@@ -47,7 +46,7 @@ fn goes_beside<H: Hist>(a: &H, b: &H, j: usize, d: &Command, from: usize) -> boo
     }
 }
 
-// Whether no command of the first alone conflicts with this one.
+// Whether no command that only the first history has conflicts with this one.
 fn all_apart<H: Hist>(a: &H, b: &H, d: &Command, from: usize) -> bool
     requires { take from (H.sequence a.now) ≡ take from (H.sequence b.now) }
     ensures { result ≡ list_all (is_apart (history_of (H.sequence b.now)) d.now) (H.sequence a.now) }

@@ -1,4 +1,4 @@
-//! Joins.
+//! Joins of histories.
 ghost use Rattle.std.specs.Prelude.{◌≡◌, IfOk, map};
 ghost use Rattle.gp_history.specs.Sequence.{history_of};
 ghost use Rattle.gp_history.specs.Bounds.{join, join_all};
@@ -8,16 +8,19 @@ use gp_history::Hist;
 use gp_history::walks::common_start;
 use std::alloc::Global;
 
-/// The first history, and then what the second has more, in the canonical order of the second.
+/// The first history, and then the commands that only the second has, in the canonical order of the
+/// second. `NoMemory` if memory runs out.
 ///
-/// It is defined for every pair. If the two are compatible it is their least upper bound.
+/// It is defined for every pair. If the two are compatible, it is their least upper bound (law
+/// `the_join_is_the_least_upper_bound`).
 pub fn join<H: Hist>(_alloc: Global, a: &H, b: &H) -> Result<H, NoMemory>
     ensures { IfOk result (λ j. history_of (H.sequence j) ≡ join (history_of (H.sequence a.now)) (history_of (H.sequence b.now))) }
 {
     join_onto(a.copy()?, b)
 }
 
-/// The join of both, made of the first itself. Where memory runs out the first is dropped.
+/// The join of both histories. If memory runs out, the error is `NoMemory`, and the first history
+/// is dropped.
 pub fn join_onto<H: Hist>(mut a: H, b: &H) -> Result<H, NoMemory>
     ensures { IfOk result (λ j. history_of (H.sequence j) ≡ join (history_of (H.sequence a)) (history_of (H.sequence b.now))) }
 {
@@ -30,10 +33,10 @@ pub fn join_onto<H: Hist>(mut a: H, b: &H) -> Result<H, NoMemory>
     Ok(a)
 }
 
-/// The join of all elements, from the empty history on.
+/// The join of all elements, starting with the empty history. `NoMemory` if memory runs out.
 ///
-/// Where each two of them are compatible it is the least upper bound of all, in whatever order the
-/// list stands.
+/// If every two of them are compatible, it is the least upper bound of all, in whatever order the
+/// list has them (law `many_that_are_compatible_in_pairs_have_a_least_upper_bound`).
 pub fn join_all<H: Hist>(alloc: Global, list: &[H]) -> Result<H, NoMemory>
     ensures { IfOk result (λ j. history_of (H.sequence j) ≡ join_all (map (λ h. history_of (H.sequence h)) list.now)) }
 {

@@ -1,4 +1,5 @@
-//! Bounds of histories: compatibility, meets and joins, and the laws that consensus rests on.
+//! Bounds of histories: compatibility, meets and joins, and their laws, which the proof of
+//! agreement uses.
 #![tactic(auto)]
 
 mod compatibles;

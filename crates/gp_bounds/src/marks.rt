@@ -1,4 +1,4 @@
-//! Which commands of a history have a mark that no other one has.
+//! Which commands of a history have a footprint mark that no other command has.
 ghost use Rattle.std.specs.Prelude.{◌≡◌, ◌≢◌, ◌<◌, take, length, true, IsTrue, Some};
 ghost use Rattle.std.specs.List.{list_all};
 ghost use Rattle.gp_history.specs.History.{has};
@@ -12,8 +12,8 @@ use gp_history::{Hist, walks};
 // The number of entries in which marks are counted.
 const ENTRIES: usize = 4_096;
 
-/// How often the entries of marks stand in a history from a place on: an entry is 0, 1 or, if it stands
-/// twice or more, 2.
+/// How many commands of a history, from a place on, have their mark in each entry: 0, 1, or 2 if
+/// there are two or more.
 #[derive(Drop)]
 pub struct MarkCounts {
     pub counts: [u8; ENTRIES],
@@ -21,7 +21,7 @@ pub struct MarkCounts {
 }
 
 impl MarkCounts {
-    /// The counts of a history from a place on. It takes no memory.
+    /// The counts of a history from a place on.
     #[tactic(auto, using(crate::proofs::Counting::none_counted))]
     pub fn of<H: Hist>(h: &H, from: usize) -> MarkCounts
         ensures { AreCounted (H.sequence h.now) from (length (H.sequence h.now)) result.counts result.are_all_marked }
@@ -40,7 +40,7 @@ impl MarkCounts {
         }
     }
 
-    // Whether the counts show that a command conflicts with no other one that was counted.
+    // Whether the counts show that a command conflicts with no other command that was counted.
     fn is_alone(&self, d: &Command) -> bool
         ensures { result ≡ true → IsAlone d.now self.now.counts self.now.are_all_marked }
     {
@@ -48,7 +48,7 @@ impl MarkCounts {
     }
 }
 
-// A count, and one more: it stays 2 from there on.
+// The count after one more: once it is 2, it stays 2.
 fn one_more(count: u8) -> u8
     ensures some { result ≢ 0 }
     ensures again { count ≢ 0 → result ≡ 2 }
@@ -74,9 +74,9 @@ fn entry_of(c: &Command) -> usize
     (c.draft().mark() % 4_096) as usize
 }
 
-/// Whether all that comes before `d` in `a` was kept and comes before it in `b`.
-/// The first `from` commands of both are alike and kept; `d` stands at `i` in `a` and at `j` in `b`.
-/// The counts are those of `a` from there on.
+/// Whether all commands before `d` in `a` were kept, and are before it in `b`. The first `from`
+/// commands of both are the same, and were kept. `d` is at place `i` of `a` and at place `j` of
+/// `b`. The counts are those of `a` from place `from` on.
 pub fn is_behind<H: Hist>(
     counts: &MarkCounts,
     a: &H,

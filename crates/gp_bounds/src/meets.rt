@@ -1,4 +1,4 @@
-//! Meets.
+//! Meets of histories.
 ghost use Rattle.std.specs.Prelude.{◌≡◌, ◌&&◌, ◌<◌, ◌≤◌, ◌^◌, take, length, map, IfOk, IsTrue, Some};
 ghost use Rattle.std.specs.Option.{option_map};
 ghost use Rattle.std.specs.List.{list_all};
@@ -14,7 +14,7 @@ use gp_history::Hist;
 use gp_history::walks::common_start;
 use std::alloc::Global;
 
-/// The greatest history that is a prefix of both.
+/// The greatest history that is a prefix of both. `NoMemory` if memory runs out.
 pub fn meet<H: Hist>(alloc: Global, a: &H, b: &H) -> Result<H, NoMemory>
     ensures { IfOk result (λ m. history_of (H.sequence m) ≡ meet (history_of (H.sequence a.now)) (history_of (H.sequence b.now))) }
 {
@@ -30,8 +30,8 @@ pub fn meet<H: Hist>(alloc: Global, a: &H, b: &H) -> Result<H, NoMemory>
     meet_behind(alloc, a, b, from)
 }
 
-// The greatest history that is a prefix of both, whose first `from` commands are alike. It is apart
-// from `meet` for its large tables.
+// The meet of two histories whose first `from` commands are the same. It is a function of its own
+// because its tables are large.
 #[inline(never)]
 fn meet_behind<H: Hist>(alloc: Global, a: &H, b: &H, from: usize) -> Result<H, NoMemory>
     requires alike { take from (H.sequence a.now) ≡ take from (H.sequence b.now) }
@@ -54,8 +54,8 @@ fn meet_behind<H: Hist>(alloc: Global, a: &H, b: &H, from: usize) -> Result<H, N
     Ok(kept)
 }
 
-// Whether a command of the first stays in the meet: the second has it, and what comes before it in
-// either stayed and comes before it in both.
+// Whether a command of `a` stays in the meet: `b` has it, and all commands before it in either were
+// kept and are before it in both.
 fn stays<H: Hist>(
     a_counts: &MarkCounts,
     b_counts: &MarkCounts,
@@ -83,7 +83,8 @@ fn stays<H: Hist>(
     }
 }
 
-/// The meet of the elements whose places are bits of the mask, bit i standing for place i.
+/// The meet of the elements whose places are bits of the mask: bit i names place i. The mask must
+/// not be 0, and must name no place after the end of the list. `NoMemory` if memory runs out.
 pub fn meet_all<H: Hist>(alloc: Global, list: &[H], mask: u8) -> Result<H, NoMemory>
     requires some { 0 < mask }
     requires within { mask < 2 ^ length list.now }
@@ -103,7 +104,7 @@ pub fn meet_all<H: Hist>(alloc: Global, list: &[H], mask: u8) -> Result<H, NoMem
     }
 }
 
-// The meet with one more, or that one alone.
+// The meet with one more history, or that history alone.
 fn and_meet<H: Hist>(alloc: Global, so_far: Option<H>, h: &H) -> Result<H, NoMemory>
     ensures { IfOk result (λ m. history_of (H.sequence m) ≡ and_meet (option_map (λ x. history_of (H.sequence x)) so_far) (history_of (H.sequence h.now))) }
 {

@@ -7,7 +7,7 @@ use Rattle.gp_round.specs.declared.round.Round.{Round}
 use Rattle.gp_msg.specs.declared.node.Node.TheVariants.{Coordinator}
 use Rattle.gp_msg.specs.declared.record.Record.{Record}
 use Rattle.gp_run.specs.Messages.{messages}
-use Rattle.gp_run.specs.Runs.{entries_in}
+use Rattle.gp_run.specs.Runs.{newest_first}
 use Rattle.gp_collide.specs.Watched.{EpochRound, watched}
 use Rattle.gp_collide.specs.Clashes.{HasClash}
 use Rattle.gp_phase.specs.declared.caller.Call.{Call}
@@ -19,7 +19,7 @@ use Rattle.gp_caller.specs.Adapting.{IsAdapted, Follows, MayCall, last_for, or_z
 adapted_one : (config : Counts) (calls : List Call) (seen : List Record) (e : ℕ) (own : Round) (s : SightState) → StandsIn config (Coordinator LEADER) seen e own → s.watch.round ≡ (e, or_zero (last_for e calls)) → SawAll s seen
     → (call : Option Call) → Follows s.watch calls call → IsAdapted config (Coordinator LEADER) calls seen call
 adapted_one config calls seen e own s stands over saw call f =
-    let watch_is : s.watch ≡ watched (e, or_zero (last_for e calls)) (messages (entries_in seen)) = saw ∙ ap (λ r. watched r (messages (entries_in seen))) over in record {
+    let watch_is : s.watch ≡ watched (e, or_zero (last_for e calls)) (messages (newest_first seen)) = saw ∙ ap (λ r. watched r (messages (newest_first seen))) over in record {
       epoch = e;
       own = own;
       stands = stands;

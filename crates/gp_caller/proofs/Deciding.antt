@@ -12,9 +12,9 @@ use Rattle.gp_round.specs.declared.round.Round.{Round}
 use Rattle.gp_msg.specs.declared.node.Node.{Node}
 use Rattle.gp_msg.specs.declared.node.Node.TheVariants.{Coordinator}
 use Rattle.gp_msg.specs.declared.record.Record.{Record}
-use Rattle.gp_run.specs.Runs.{entries_in}
+use Rattle.gp_run.specs.Runs.{newest_first}
 use Rattle.gp_rules.specs.Own.{own}
-use Rattle.gp_rules.specs.Owning.{own_append}
+use Rattle.gp_rules.proofs.OwnRecords.{own_append}
 use Rattle.gp_rules.specs.Cores.{core_at, part_in}
 use Rattle.gp_rules.specs.Still.{core_still, entries_append}
 use Rattle.gp_cell.proofs.Posting.{nothing_own}
@@ -34,8 +34,8 @@ empty_rest xs (y ∷ ys) e = absurd (let n = ap length e in let l = length-appen
 pub stands_still : (config : Counts) (n : Node) (ps more qs : List Record) (e : ℕ) (r : Round) → qs ≡ ps ++ more → own n qs ≡ own n ps → StandsIn config n ps e r → StandsIn config n qs e r
 stands_still config n ps more qs e r grown same stands =
     let nothing : own n more ≡ [] = empty_rest (own n ps) (own n more) (sym (ap (own n) grown ∙ own_append n ps more) ∙ same) in
-    let still : core_at config n (entries_in qs) ≡ core_at config n (entries_in ps) =
-    ap (λ rs. core_at config n (entries_in rs)) grown ∙ ap (core_at config n) (entries_append ps more) ∙ core_still config n (entries_in more) (entries_in ps) (nothing_own n more nothing) in
+    let still : core_at config n (newest_first qs) ≡ core_at config n (newest_first ps) =
+    ap (λ rs. core_at config n (newest_first rs)) grown ∙ ap (core_at config n) (entries_append ps more) ∙ core_still config n (newest_first more) (newest_first ps) (nothing_own n more nothing) in
     ap part_in still ∙ stands
 
 -- ---- the watch is over the first round of the epoch
@@ -52,7 +52,7 @@ round_of w n e is at = is ∙ (λ i. ((sym (ap (λ (p : ℕ × Round). p.0) is) 
 decided_one : (config : Counts) (calls : List Call) (seen : List Record) (e : ℕ) (own : Round) (s : CallerState) → StandsIn config (Coordinator LEADER) seen e own → s.calls ≡ calls → s.sight.watch.round ≡ (e, FIRST_ROUND) → SawAll s.sight seen
     → (call : Option Call) → Decides s own call → IsCalled config (Coordinator LEADER) calls seen call
 decided_one config calls seen e own s stands calls_is round_is saw call d =
-    let watch_is : s.sight.watch ≡ watched (e, FIRST_ROUND) (messages (entries_in seen)) = saw ∙ ap (λ r. watched r (messages (entries_in seen))) round_is in record {
+    let watch_is : s.sight.watch ≡ watched (e, FIRST_ROUND) (messages (newest_first seen)) = saw ∙ ap (λ r. watched r (messages (newest_first seen))) round_is in record {
       epoch = e;
       own = own;
       stands = stands;

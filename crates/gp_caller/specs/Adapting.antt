@@ -11,7 +11,7 @@ use Rattle.gp_round.specs.declared.round.Round.{Round}
 use Rattle.gp_msg.specs.declared.node.Node.{Node}
 use Rattle.gp_msg.specs.declared.record.Record.{Record}
 use Rattle.gp_run.specs.Messages.{messages}
-use Rattle.gp_run.specs.Runs.{entries_in}
+use Rattle.gp_run.specs.Runs.{newest_first}
 use Rattle.gp_collide.specs.Watched.{Watched, watched}
 use Rattle.gp_collide.specs.Clashes.{HasClash}
 use Rattle.gp_adapt.specs.Courses.{CourseState}
@@ -38,40 +38,40 @@ abbrev pub or_zero : Option Round → Round
 or_zero None = round_zero
 or_zero (Some r) = r
 
--- in which modes a round may follow one of this mode: a multi round behind a clash of a fast one, a single round behind a clash of a multi one, and a fast round behind any other. A single round gives way to another one if it clashed, which none does in a legal run
+-- in which mode a round may follow one of this mode: multi after a collision in a fast round, single after a collision in a multi round, and fast after any round that is not fast. A single round may also follow a single round that has collided, which none does in a legal run
 abbrev pub NextMode : Mode → Bool → Mode → Type 0
 NextMode Fast clashed next = (clashed ≡ true) × (next ≡ Multi)
 NextMode Multi clashed next = ((clashed ≡ true) × (next ≡ Single)) ⊎ (next ≡ Fast)
 NextMode Single clashed next = ((clashed ≡ true) × (next ≡ Single)) ⊎ (next ≡ Fast)
 
--- the round is the leader's, and next to another one
+-- the round is the leader's, and its count is the one after that of another round
 pub record IsNext (q : Round) (clashed : Bool) (r : Round) : Type 0 where
   pub count : r.count ≡ q.count + 1
   pub lead : r.lead ≡ lead_of r.mode LEADER
   pub mode : NextMode q.mode clashed r.mode
 
--- the round may be called behind the one that was called last, by whether that has clashed. The first one of an epoch is fast
+-- the round may be called after the one that was called last, given whether that one has collided. The first round of an epoch is fast
 abbrev pub MayFollow : Option Round → Bool → Round → Type 0
 MayFollow None clashed r = r ≡ FIRST_FAST_ROUND
 MayFollow (Some q) clashed r = IsNext q clashed r
 
--- no round need be called behind the one that was called last: it has not clashed, or no count is left
+-- no round need be called after the one that was called last: it has not collided, or no count is left
 abbrev pub MayRest : Option Round → Bool → Type 0
 MayRest None clashed = ⊥
 MayRest (Some q) clashed = q.count < LAST_COUNT → clashed ≡ false
 
--- what may be called, in an epoch, behind the round that was called last for it
+-- what may be called, in an epoch, after the round that was called last for it
 abbrev pub MayCall : ℕ → Option Round → Bool → Option Call → Type 0
 MayCall e last clashed None = MayRest last clashed
 MayCall e last clashed (Some c) = (c.epoch ≡ e) × MayFollow last clashed c.round
 
--- what may be called, after these calls, for a coordinator that has seen these records: it depends on its epoch, on the round that was called last for it, and on whether the values of that round have clashed
+-- what may be called, after these calls, for a coordinator that has seen these records: it depends on the coordinator's epoch, on the round that was called last for that epoch, and on whether that round has collided
 pub record IsAdapted (config : Counts) (node : Node) (calls : List Call) (seen : List Record) (call : Option Call) : Type 0 where
   pub epoch : ℕ
   pub own : Round
   pub stands : StandsIn config node seen epoch own
   pub clashed : Bool
-  pub clash : IsTrue clashed ↔ HasClash (watched (epoch, or_zero (last_for epoch calls)) (messages (entries_in seen)))
+  pub clash : IsTrue clashed ↔ HasClash (watched (epoch, or_zero (last_for epoch calls)) (messages (newest_first seen)))
   pub may : MayCall epoch (last_for epoch calls) clashed call
 
 -- the watch is over the round that was called last for its epoch
@@ -86,18 +86,18 @@ pub record Follows (w : Watched) (calls : List Call) (call : Option Call) : Type
 
 -- ---- the course that a caller remembers
 
--- how many clashes lead to a round of this mode
+-- how many collisions lead to a round of this mode
 abbrev pub clashes_before : Mode → ℕ
 clashes_before Fast = 0
 clashes_before Multi = 1
 clashes_before Single = 2
 
--- the course is that of an epoch in which this round was called last: the mode is that of its clashes, unless no count was left for another round
+-- the course is that of an epoch in which this round was called last: the mode of the round is the one for the number of collisions, unless no count was left for another round
 abbrev pub IsInCourse : CourseState → Option Round → Type 0
 IsInCourse s None = s ≡ courses.opening CALM
 IsInCourse s (Some r) = (s.calm ≡ CALM) × (s.begun ≡ true) × (0 < r.count) × (r.count < LAST_COUNT → s.clashes ≡ clashes_before r.mode)
 
--- it fits the round in one way
+-- there is at most one proof of it
 pub in_course_prop : (s : CourseState) (o : Option Round) → IsProp (IsInCourse s o)
 in_course_prop s None = Coded-set course_code s (courses.opening CALM)
 in_course_prop s (Some r) = hlevel props

@@ -7,7 +7,7 @@ use Rattle.gp_round.specs.declared.round.Round.{Round}
 use Rattle.gp_msg.specs.declared.node.Node.{Node}
 use Rattle.gp_msg.specs.declared.record.Record.{Record}
 use Rattle.gp_run.specs.Messages.{messages}
-use Rattle.gp_run.specs.Runs.{entries_in}
+use Rattle.gp_run.specs.Runs.{newest_first}
 use Rattle.gp_collide.specs.Watched.{watched, opening}
 use Rattle.gp_collide.specs.Clashes.{HasClash}
 use Rattle.gp_phase.specs.declared.caller.Call.{Call}
@@ -46,16 +46,16 @@ call_in e r = record { epoch = e; round = r }
 abbrev pub highest_for : ℕ → Round → Round
 highest_for begun own = cond (nat_eq begun 0) round_zero own
 
--- what is called, after these calls, for a coordinator that has seen these records: it depends on its epoch and round, and on whether the values of the first round of the epoch have clashed
+-- what is called, after these calls, for a coordinator that has seen these records: it depends on the coordinator's epoch and round, and on whether the first round of that epoch has collided
 pub record IsCalled (config : Counts) (node : Node) (calls : List Call) (seen : List Record) (call : Option Call) : Type 0 where
   pub epoch : ℕ
   pub own : Round
   pub stands : StandsIn config node seen epoch own
   pub clashed : Bool
-  pub clash : IsTrue clashed ↔ HasClash (watched (epoch, FIRST_ROUND) (messages (entries_in seen)))
+  pub clash : IsTrue clashed ↔ HasClash (watched (epoch, FIRST_ROUND) (messages (newest_first seen)))
   pub call_is : call ≡ option_map (call_in epoch) (next_round (highest_for (called_for epoch calls) own) clashed (called_for epoch calls))
 
--- the next call of a caller, where this is the coordinator's round in the epoch of the watch
+-- the next call of a caller; `own` is the coordinator's round in the epoch of the watch
 pub record Decides (s : CallerState) (own : Round) (call : Option Call) : Type 0 where
   pub clashed : Bool
   pub clash : IsTrue clashed ↔ HasClash s.sight.watch

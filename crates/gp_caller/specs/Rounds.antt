@@ -13,7 +13,7 @@ multi_above r = record { count = r.count + 1; mode = Multi; lead = 0 }
 abbrev pub single_above : Round → Round
 single_above r = record { count = r.count + 1; mode = Single; lead = LEADER }
 
--- the next round above the highest one, by whether the first one has clashed and how many were begun
+-- the next round above the highest one, given whether the first one has collided and how many have begun
 abbrev pub next_round : Round → Bool → ℕ → Option Round
 next_round highest clashed begun =
     cond (nat_lt highest.count LAST_COUNT)

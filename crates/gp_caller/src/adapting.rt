@@ -25,17 +25,19 @@ use std::sync::Wait;
 
 /// Calls the rounds of a run that adapts, for coordinator 0.
 ///
-/// In each epoch that the coordinator enters, the first round is the fast round with count 1. A watch over the round last
-/// called sees every message. Once a fast round has clashed, the multi round above it is called; once a multi round has
-/// clashed, the single round above it. Behind a round that is not fast, and that has not clashed when it was asked `CALM`
-/// times, the fast round above it is called (Camargos, Schmidt, Pedone, *Multicoordinated Paxos*, 2007).
+/// In each epoch that the coordinator enters, the first round is the fast round with count 1. A
+/// watch over the round that was called last sees every message. After a collision in a fast round
+/// the multi round above it is called, and after a collision in a multi round the single round
+/// above it. If a round is not fast, and `CALM` looks have found no collision in it, the fast round
+/// above it is called (Camargos, Schmidt, Pedone, *Multicoordinated Paxos*, 2007).
 ///
-/// It keeps the facts that the watch is over the round that it says, that what it remembers fits the round last called for
-/// the epoch, and that its closure answers the mode after the clashes that it is told.
+/// Its invariants: the watch is over `round` of `epoch`; what `adapt` remembers fits the round that
+/// was called last for the epoch; and `adapt` is that of coordinator 0, with a closure that returns
+/// the mode for the number of collisions.
 #[derive(Drop)]
 pub struct AdaptiveCaller {
     alloc: Global,
-    /// It says when the next round begins, and which.
+    /// It decides when the next round begins, and which one.
     pub adapt: Adapt,
     epoch: u32,
     // the round that the watch is over
@@ -51,7 +53,8 @@ pub struct AdaptiveCaller {
 }
 
 impl AdaptiveCaller {
-    /// It has called no round and seen no message. The closure answers the mode of each round by the clashes before it.
+    /// A caller that has called no round and seen no message. The closure returns the mode of each
+    /// round for the number of collisions before it.
     pub fn new(
         alloc: Global,
         config: Config,
@@ -76,7 +79,8 @@ impl AdaptiveCaller {
         })
     }
 
-    // Has a watch over the round that was called last for this epoch, or over round zero if none was.
+    // Makes the watch one over the round that was called last for this epoch, or over round zero if
+    // none was.
     fn enter(&mut self, epoch: u32) -> Result<(), NoMemory>
         ensures rest { (self.new.adapt.config ≡ self.old.adapt.config) × (self.new.calls.items ≡ self.old.calls.items) }
         ensures over { OnOk result (self.new.sight.watch.round ≡ (epoch, or_zero (last_for epoch self.old.calls.items))) }
@@ -94,8 +98,8 @@ impl AdaptiveCaller {
         Ok(())
     }
 
-    // Begins anew in this epoch. A coordinator never comes back to an epoch that it left, so no round was called for it
-    // before; if one was, this is refused as if memory ran out.
+    // Starts anew in this epoch. A coordinator never comes back to an epoch that it left, so no
+    // round was called for the epoch before. If one was, this is refused as if memory ran out.
     fn change(&mut self, epoch: u32, last: Option<Round>) -> Result<(), NoMemory>
         requires { last ≡ last_for epoch self.old.calls.items }
         ensures rest { (self.new.adapt.config ≡ self.old.adapt.config) × (self.new.calls.items ≡ self.old.calls.items) }
@@ -113,7 +117,7 @@ impl AdaptiveCaller {
         Ok(())
     }
 
-    // The next call, where the watch is over the round that was called last for its epoch.
+    // The next call, given that the watch is over the round that was called last for its epoch.
     fn decide(&mut self) -> Result<Option<Call>, NoMemory>
         requires over { IsOverLast self.old.sight.watch self.old.calls.items }
         ensures rest { (self.new.adapt.config ≡ self.old.adapt.config) × (self.new.sight ≡ self.old.sight) }

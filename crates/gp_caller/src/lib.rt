@@ -1,5 +1,6 @@
-//! The rounds that coordinator 0 begins in a run: in each epoch a multi round, and a single round once the values of that
-//! round have clashed; or, in a run that adapts, fast rounds, and after clashes multi and then single rounds.
+//! The rounds that coordinator 0 begins in a run: in each epoch a multi round, and a single round
+//! after a collision in it; or, in a run that adapts, fast rounds, and after collisions multi and
+//! then single rounds.
 #![tactic(auto)]
 
 mod adapting;

@@ -10,25 +10,25 @@ use gp_round::{LAST_COUNT, Mode, Round};
 /// The coordinator that begins the rounds of a run.
 pub const LEADER: u32 = 0;
 
-/// The round that is begun first in an epoch.
+/// The first round of an epoch.
 pub const FIRST_ROUND: Round = Round {
     count: 1,
     mode: Mode::Multi,
     lead: 0,
 };
 
-/// The round that is begun first in an epoch of a run that adapts.
+/// The first round of an epoch in a run that adapts.
 pub const FIRST_FAST_ROUND: Round = Round {
     count: 1,
     mode: Mode::Fast,
     lead: LEADER,
 };
 
-/// With so many calls without a clash, a run that adapts comes back to fast rounds.
+/// After this many looks without a collision, a run that adapts comes back to fast rounds.
 pub const CALM: u32 = 2;
 
-/// The mode of the next round of a run that adapts: fast without a clash, multi after one, and single after more. It takes
-/// no memory.
+/// The mode of the next round of a run that adapts: fast if there was no collision, multi after
+/// one, and single after more.
 pub fn mode_after(scene: &Scene) -> Mode
     ensures { result ≡ mode_after scene.now.clashes }
 {
@@ -39,9 +39,9 @@ pub fn mode_after(scene: &Scene) -> Mode
     }
 }
 
-/// The round above the highest one that the leader begins, if it begins one: a multi round if none was begun in its epoch, and
-/// its single round if one was begun, which has clashed. There is no third one, and none above the last count. It takes no
-/// memory.
+/// The round above the highest one that the leader begins, if it begins one: a multi round if it
+/// has begun none in its epoch, and its single round if it has begun one, which has collided. There
+/// is no third round in an epoch, and none above the last count.
 pub fn next_round(highest: Round, clashed: bool, begun: u32) -> Option<Round>
     ensures answer { result ≡ next_round highest clashed begun }
     ensures owned { (coordinators : ℕ) → 0 < coordinators → IfSome result (λ r. is_owner coordinators LEADER r ≡ true) }

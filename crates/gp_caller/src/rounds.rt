@@ -21,14 +21,15 @@ use std::alloc::Global;
 use std::marker::Model;
 use std::sync::Wait;
 
-// With so many calls the next one is refused, as if memory ran out.
+// After this many calls the next one is refused as if memory ran out.
 const MOST_CALLS: usize = 4_294_967_295;
 
 /// Calls the rounds of a run for coordinator 0.
 ///
-/// In each epoch that the coordinator enters, the first round is the multi round with count 1. A watch over that round sees
-/// every message. Once it has clashed, the single round above the coordinator's own round is called, and no further one in
-/// that epoch (Camargos, Schmidt, Pedone, *Multicoordinated Paxos*, 2007).
+/// In each epoch that the coordinator enters, the first round is the multi round with count 1. A
+/// watch over that round sees every message. After a collision in it the single round above the
+/// coordinator's own round is called, and no further round in that epoch (Camargos, Schmidt,
+/// Pedone, *Multicoordinated Paxos*, 2007).
 ///
 /// A contract sees the configuration, the calls, and what the watch saw.
 #[derive(Drop)]
@@ -56,7 +57,7 @@ impl Model for RoundCaller {
 }
 
 impl RoundCaller {
-    /// It has called no round and seen no message.
+    /// A caller that has called no round and seen no message.
     pub fn new(alloc: Global, config: Config) -> Result<RoundCaller, NoMemory>
         ensures made { IfOk result (λ c. c ≡ new_caller config) }
         ensures knows { IfOk result (λ c. (seen : List Record) → Saw c.sight seen) }
@@ -71,14 +72,14 @@ impl RoundCaller {
         })
     }
 
-    /// Its calls, the oldest first. It takes no memory.
+    /// Its calls, the oldest first.
     pub fn calls(&self) -> &[Call]
         ensures { result.now ≡ self.now.calls }
     {
         &self.calls
     }
 
-    // Has a watch over the first round of this epoch.
+    // Makes the watch one over the first round of this epoch.
     fn enter(&mut self, epoch: u32) -> Result<(), NoMemory>
         ensures rest { (self.new.config ≡ self.old.config) × (self.new.calls ≡ self.old.calls) }
         ensures entered { OnOk result (self.new.sight ≡ entered self.old.sight epoch) }
@@ -91,7 +92,7 @@ impl RoundCaller {
         Ok(())
     }
 
-    // The next call, where this is the coordinator's round in the epoch of the watch.
+    // The next call. `own` is the coordinator's round in the epoch of the watch.
     fn decide(&mut self, own: Round) -> Result<Option<Call>, NoMemory>
         requires few { length self.old.calls < 2 ^ 32 }
         ensures rest { (self.new.config ≡ self.old.config) × (self.new.sight ≡ self.old.sight) }

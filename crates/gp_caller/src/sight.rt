@@ -5,7 +5,7 @@ ghost use Rattle.gp_wire.specs.Known.{records};
 ghost use Rattle.gp_cell.specs.Cells.{IsSameBut};
 ghost use Rattle.gp_cell.specs.Passing.{GoesOn};
 ghost use Rattle.gp_msg.specs.Messages.{message_of};
-ghost use Rattle.gp_collide.specs.Watched.{opening, seen};
+ghost use Rattle.gp_collide.specs.Watched.{opening, after_message};
 ghost use Rattle.gp_collide.specs.Clashes.{HasClash};
 ghost use Rattle.gp_caller.specs.Sights.{Saw, SawAll};
 ghost use Rattle.gp_rules.specs.Own.{own};
@@ -50,7 +50,8 @@ impl Sight {
         Ok(Sight { watch, looked: 0 })
     }
 
-    /// Shows the watch each message that it has not seen. The cell has turns at the wire, and nothing else of it changes.
+    /// Shows the watch each message that it has not seen. The cell has turns at the wire, and
+    /// nothing else of the cell changes.
     pub(crate) fn look<D: Disk, W: Wait>(
         &mut self,
         rt: &W,
@@ -75,7 +76,7 @@ impl Sight {
         unreachable!()
     }
 
-    // Shows the watch one more message, and answers whether there was one.
+    // Shows the watch one more message, and returns whether there was one.
     fn look_at_one<D: Disk, W: Wait>(
         &mut self,
         rt: &W,
@@ -105,9 +106,9 @@ impl Sight {
         }
     }
 
-    // Shows the watch the message behind those that it saw.
+    // Shows the watch the message after those that it saw.
     fn show(&mut self, message: &Msg) -> Result<(), NoMemory>
-        ensures shown { OnOk result (self.new ≡ record { watch = seen self.old.watch (message_of message.now); looked = self.old.looked + 1 }) }
+        ensures shown { OnOk result (self.new ≡ record { watch = after_message self.old.watch (message_of message.now); looked = self.old.looked + 1 }) }
         ensures unchanged { OnErr result (self.new ≡ self.old) }
     {
         let Some(next) = self.looked.checked_add(1) else {
@@ -118,7 +119,7 @@ impl Sight {
         Ok(())
     }
 
-    /// Whether two values of the round that it saw are incompatible. It takes no memory.
+    /// Whether two values of the round that it saw are incompatible.
     pub(crate) fn clashed(&self) -> bool
         ensures { IsTrue result ↔ HasClash self.now.watch }
     {

@@ -1,4 +1,4 @@
-//! Where a coordinator stands.
+//! The epoch and the round of a coordinator.
 ghost use Rattle.std.specs.Prelude.{◌≡◌, None};
 ghost use Rattle.gp_msg.specs.declared.node.Node.TheVariants.{Coordinator};
 ghost use Rattle.gp_wire.specs.Known.{records};
@@ -9,7 +9,7 @@ use gp_edge::Disk;
 use gp_msg::Durable;
 use gp_round::Round;
 
-/// The epoch and the round of a coordinator that is up: those of the last entry of its log. It takes no memory.
+/// The epoch and the round of coordinator `number`, which is up.
 pub fn standing<D: Disk>(cell: &Cell<D>, number: u32) -> (u32, Round)
     requires node { cell.now.node ≡ Coordinator number }
     requires up { cell.now.down ≡ None }

@@ -20,7 +20,7 @@ use Rattle.gp_cell.proofs.Owning.{acts_same}
 use Rattle.gp_cell.proofs.Offering.{offers_after}
 use Rattle.gp_work.specs.declared.moves.Move.{Move}
 use Rattle.gp_work.specs.declared.moves.Move.TheVariants.{Offer, Begin, Take}
-use Rattle.gp_rules.specs.Own.{same_node}
+use Rattle.gp_msg.specs.Nodes.{same_node}
 use Rattle.gp_work.specs.Moves.{event_of, Fits, HasRoom}
 use Rattle.gp_rules.specs.declared.roles.Core.{Core}
 use Rattle.gp_rules.specs.declared.roles.Core.TheVariants.{Proposer, Coordinator, Acceptor, Learner}

@@ -7,7 +7,7 @@ use Rattle.gp_msg.specs.declared.node.Node.{Node}
 use Rattle.gp_msg.specs.declared.durable.Durable.{Durable}
 use Rattle.gp_msg.specs.Messages.{EpochPart, part_of}
 use Rattle.gp_run.specs.Messages.{messages}
-use Rattle.gp_run.specs.Runs.{entries_in}
+use Rattle.gp_run.specs.Runs.{newest_first}
 use Rattle.gp_run.proofs.Telling.{messages-append}
 use Rattle.gp_edge.specs.Disks.{IfRevealed, LeavesOnly, Only}
 use Rattle.gp_vlog.specs.Bodies.{LogEntry, entry_with}
@@ -119,10 +119,10 @@ writes old new before after d (Err e) a b h = tt
 
 -- ---- the part after the move
 
-pub after_is : (config : Counts) (n : Node) (core : Core) (p q : PassState) (mv : Move) (plan : Plan) → IsThoughtAt config n core (records p) mv plan → GoesOn p q → part_in plan.next ≡ part_in (acts n core (messages (entries_in (records q))) (event_of n mv)).0
+pub after_is : (config : Counts) (n : Node) (core : Core) (p q : PassState) (mv : Move) (plan : Plan) → IsThoughtAt config n core (records p) mv plan → GoesOn p q → part_in plan.next ≡ part_in (acts n core (messages (newest_first (records q))) (event_of n mv)).0
 after_is config n core p q mv plan t g =
-    ap part_in (next_core config n core (records p) mv plan t (messages (entries_in g.more)))
-    ∙ ap (λ ms. part_in (acts n core ms (event_of n mv)).0) (sym (ap (λ l. messages (entries_in l)) g.grown ∙ ap messages (entries_append (records p) g.more) ∙ messages-append (entries_in g.more) (entries_in (records p))))
+    ap part_in (next_core config n core (records p) mv plan t (messages (newest_first g.more)))
+    ∙ ap (λ ms. part_in (acts n core ms (event_of n mv)).0) (sym (ap (λ l. messages (newest_first l)) g.grown ∙ ap messages (entries_append (records p) g.more) ∙ messages-append (newest_first g.more) (newest_first (records p))))
 
 up_same : (t : Option ℕ) → IsUpTo t t
 up_same None = tt
@@ -143,10 +143,10 @@ same_goes p q e = record {
 pub step_leaves : {D : Type 0} (content : D → Option (List ℕ)) (moment : D → ℕ) (since : D → ℕ → List ℕ → Type 0) (o q : CellState D) (log : Option (LogState D)) (pass : PassState) (mv : Move) (plan : Plan)
     → q.config ≡ o.config → q.node ≡ o.node → q.core ≡ o.core → q.log ≡ o.log → IsThoughtAt q.config q.node q.core (records q.pass) mv plan → GoesOn q.pass pass
     → LeavesOneOf content moment since (part_in (opening q.config q.node)) (part_in q.core) (part_in plan.next) q.log log
-    → LeavesOneOf content moment since (part_in (opening o.config o.node)) (part_in o.core) (part_in (acts o.node o.core (messages (entries_in (records pass))) (event_of o.node mv)).0) o.log log
+    → LeavesOneOf content moment since (part_in (opening o.config o.node)) (part_in o.core) (part_in (acts o.node o.core (messages (newest_first (records pass))) (event_of o.node mv)).0) o.log log
 step_leaves {D} content moment since o q log pass mv plan config node core same t g h =
-    let after = after_is q.config q.node q.core q.pass pass mv plan t g ∙ (λ i. part_in (acts (node i) (core i) (messages (entries_in (records pass))) (event_of (node i) mv)).0) in
-    moved (part_in (opening q.config q.node)) (part_in (opening o.config o.node)) (part_in q.core) (part_in o.core) (part_in plan.next) (part_in (acts o.node o.core (messages (entries_in (records pass))) (event_of o.node mv)).0) q.log o.log
+    let after = after_is q.config q.node q.core q.pass pass mv plan t g ∙ (λ i. part_in (acts (node i) (core i) (messages (newest_first (records pass))) (event_of (node i) mv)).0) in
+    moved (part_in (opening q.config q.node)) (part_in (opening o.config o.node)) (part_in q.core) (part_in o.core) (part_in plan.next) (part_in (acts o.node o.core (messages (newest_first (records pass))) (event_of o.node mv)).0) q.log o.log
     (λ i. part_in (opening (config i) (node i))) (ap part_in core) after same h
   where
     moved : (f g b c a z : Option EpochPart) (x y : Option (LogState D)) → f ≡ g → b ≡ c → a ≡ z → x ≡ y → LeavesOneOf content moment since f b a x log → LeavesOneOf content moment since g c z y log

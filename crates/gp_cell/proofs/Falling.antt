@@ -24,7 +24,7 @@ use Rattle.gp_run.specs.Messages.{messages, on_message}
 use Rattle.gp_msg.specs.Nodes.{node_of, is_present, may_keep}
 use Rattle.gp_run.specs.States.{coordinator_kept, acceptor_kept}
 use Rattle.gp_run.specs.Legal.{fits}
-use Rattle.gp_run.specs.Runs.{entries_in}
+use Rattle.gp_run.specs.Runs.{newest_first}
 use Rattle.gp_wire.specs.Known.{PassState, records}
 use Rattle.gp_work.specs.declared.moves.Move.{Move}
 use Rattle.gp_work.specs.declared.moves.Move.TheVariants.{Offer, Begin, Take}
@@ -113,11 +113,11 @@ unfolding IsCoordinators
 coordinator_kind s None = (s.epoch, s.state.round, refl)
 coordinator_kind s (Some m) = ((coordinator.take s m).0.epoch, (coordinator.take s m).0.state.round, refl)
 
-coordinator_left : (s : CoordinatorInEpoch) (ms : List Stamped) (what : Option Kept) → IsCoordinators (coordinator_kept s ms what)
+coordinator_after_crash : (s : CoordinatorInEpoch) (ms : List Stamped) (what : Option Kept) → IsCoordinators (coordinator_kept s ms what)
 unfolding IsCoordinators
-coordinator_left s ms None = (s.epoch, s.state.round, refl)
-coordinator_left s ms (Some (kept.Begin r)) = ((coordinator.begin s r).0.epoch, (coordinator.begin s r).0.state.round, refl)
-coordinator_left s ms (Some (kept.Take k)) = coordinator_kind s (slice_get ms k)
+coordinator_after_crash s ms None = (s.epoch, s.state.round, refl)
+coordinator_after_crash s ms (Some (kept.Begin r)) = ((coordinator.begin s r).0.epoch, (coordinator.begin s r).0.state.round, refl)
+coordinator_after_crash s ms (Some (kept.Take k)) = coordinator_kind s (slice_get ms k)
 
 IsAcceptors : EpochPart → Type 0
 IsAcceptors p = (e : ℕ) × (r : Round) × (q : Round) × (v : History) × (p ≡ record { epoch = e; part = Acceptors r q v })
@@ -127,11 +127,11 @@ unfolding IsAcceptors
 acceptor_kind s None = (s.epoch, s.state.round, s.state.voted, s.state.vote, refl)
 acceptor_kind s (Some m) = ((acceptor.take s m).0.epoch, (acceptor.take s m).0.state.round, (acceptor.take s m).0.state.voted, (acceptor.take s m).0.state.vote, refl)
 
-acceptor_left : (s : AcceptorInEpoch) (ms : List Stamped) (what : Option Kept) → IsAcceptors (acceptor_kept s ms what)
+acceptor_after_crash : (s : AcceptorInEpoch) (ms : List Stamped) (what : Option Kept) → IsAcceptors (acceptor_kept s ms what)
 unfolding IsAcceptors
-acceptor_left s ms None = (s.epoch, s.state.round, s.state.voted, s.state.vote, refl)
-acceptor_left s ms (Some (kept.Begin r)) = (s.epoch, s.state.round, s.state.voted, s.state.vote, refl)
-acceptor_left s ms (Some (kept.Take k)) = acceptor_kind s (slice_get ms k)
+acceptor_after_crash s ms None = (s.epoch, s.state.round, s.state.voted, s.state.vote, refl)
+acceptor_after_crash s ms (Some (kept.Begin r)) = (s.epoch, s.state.round, s.state.voted, s.state.vote, refl)
+acceptor_after_crash s ms (Some (kept.Take k)) = acceptor_kind s (slice_get ms k)
 
 fell_coordinators : (s : CoordinatorInEpoch) (p : EpochPart) → IsCoordinators p → coordinator.durable (coordinator.fall s p) ≡ p
 unfolding IsCoordinators
@@ -144,8 +144,8 @@ fell_acceptors s p k = subst (λ x. acceptor.durable (acceptor.fall s x) ≡ x) 
 fell_part : (core : Core) (ms : List Stamped) (what : Option Kept) (part : EpochPart) → left_by core ms what ≡ Some part → part_in (fell core part) ≡ Some part
 fell_part (Proposer s) ms what part e = cc
 fell_part (Learner s) ms what part e = cc
-fell_part (Coordinator s) ms what part e = let same : coordinator_kept s ms what ≡ part = cc in ap Some (fell_coordinators s part (subst IsCoordinators same (coordinator_left s ms what)))
-fell_part (Acceptor s) ms what part e = let same : acceptor_kept s ms what ≡ part = cc in ap Some (fell_acceptors s part (subst IsAcceptors same (acceptor_left s ms what)))
+fell_part (Coordinator s) ms what part e = let same : coordinator_kept s ms what ≡ part = cc in ap Some (fell_coordinators s part (subst IsCoordinators same (coordinator_after_crash s ms what)))
+fell_part (Acceptor s) ms what part e = let same : acceptor_kept s ms what ≡ part = cc in ap Some (fell_acceptors s part (subst IsAcceptors same (acceptor_after_crash s ms what)))
 
 may : (config : Counts) (n : Node) (ms : List Stamped) (mv : Move) → IsLogged n → Fits config n mv → IsNamed mv (named ms mv) → may_keep config (length ms) n (kept_of mv) ≡ true
 may config (node.Proposer p) ms mv l f s = absurd l
@@ -245,7 +245,7 @@ logged_by (node.Learner p) (Learner s) part h e = absurd (let wrong : None ≡ S
 
 module _ {D : Type 0} (config : Counts) (n : Node) (core : Core) (log : Option (LogState D)) (p : PassState) (posted : ℕ) where
   role : (down : Option Move) → IsSound config n core log p posted down → HasRole n core
-  role down s = subst (HasRole n) (sym s.core_is) (core_role config n (entries_in (records p)))
+  role down s = subst (HasRole n) (sym s.core_is) (core_role config n (newest_first (records p)))
 
   pub ready_log : (down : Option Move) (next : Core) (part : EpochPart) → IsSound config n core log p posted down → down ≡ None → HasRole n next → part_in next ≡ Some part → IsFitLog log
   ready_log down next part s up h e = let here = part_there n core (logged_by n next part h e) (role down s) in
@@ -268,7 +268,7 @@ module _ {D : Type 0} (config : Counts) (n : Node) (core : Core) (log : Option (
   }
 
   -- the node goes down in a move
-  pub sound_down : (down now : Option Move) (other : Option (LogState D)) (mv : Move) → IsSound config n core log p posted down → now ≡ Some mv → IsLogged n → HasLog other → Fits config n mv → IsNamed mv (named (messages (entries_in (records p))) mv) → IsSound config n core other p posted now
+  pub sound_down : (down now : Option Move) (other : Option (LogState D)) (mv : Move) → IsSound config n core log p posted down → now ≡ Some mv → IsLogged n → HasLog other → Fits config n mv → IsNamed mv (named (messages (newest_first (records p))) mv) → IsSound config n core other p posted now
   sound_down down now other mv s e logged there fits stands = record {
     node_is = s.node_is;
     present = s.present;
@@ -276,13 +276,13 @@ module _ {D : Type 0} (config : Counts) (n : Node) (core : Core) (log : Option (
     posted_is = s.posted_is;
     lawful = s.lawful;
     log_is = λ up. absurd (let wrong : None ≡ Some mv = sym up ∙ e in cc);
-    down_is = λ m f. let same : mv ≡ m = cc in subst (λ x. WentDown config n other (messages (entries_in (records p))) x) same (record { logged = logged; there = there; fits = fits; stands = stands });
+    down_is = λ m f. let same : mv ≡ m = cc in subst (λ x. WentDown config n other (messages (newest_first (records p))) x) same (record { logged = logged; there = there; fits = fits; stands = stands });
   }
 
   module _ (down : Option Move) (mv : Move) (plan : Plan) (part : EpochPart) (what : Option Kept) (s : IsSound config n core log p posted down) (logged : IsLogged n) (f : Fits config n mv)
-      (q : IsPlan n core (messages (entries_in (records p))) mv plan) (keeps : KeepsMove core plan.next mv part what) where
+      (q : IsPlan n core (messages (newest_first (records p))) mv plan) (keeps : KeepsMove core plan.next mv part what) where
     ms : List Stamped
-    ms = messages (entries_in (records p))
+    ms = messages (newest_first (records p))
 
     left_is : (more : List Stamped) → left_by core (ms ++ more) what ≡ Some part
     unfolding ms
@@ -294,7 +294,7 @@ module _ {D : Type 0} (config : Counts) (n : Node) (core : Core) (log : Option (
           ∙ ap part_in (sym q.next) ∙ k.1
     ]
 
-    pub fall_next : (more : List Stamped) → fell core part ≡ (acts n core (messages (entries_in (records p)) ++ more) (Fall n what)).0
+    pub fall_next : (more : List Stamped) → fell core part ≡ (acts n core (messages (newest_first (records p)) ++ more) (Fall n what)).0
     unfolding ms
     fall_next more = ap (λ (x : Core × Option Stamped). x.0) (sym (fall_acts n core (ms ++ more) what part logged (role down s) (left_is more)))
 
@@ -315,14 +315,14 @@ module _ {D : Type 0} (config : Counts) (n : Node) (core : Core) (log : Option (
     unfolding ms
     sends_none = ap (λ l. (acts n core l (Fall n what)).1) (sym (append-nil ms)) ∙ ap (λ (x : Core × Option Stamped). x.1) (fall_acts n core (ms ++ []) what part logged (role down s) (left_is []))
 
-    pub fall_lawful : (x : Record) → x.node ≡ n → x.event ≡ Fall n what → x.out ≡ [] → IsLawful config (entries_in (records p)) (entry_of x)
+    pub fall_lawful : (x : Record) → x.node ≡ n → x.event ≡ Fall n what → x.out ≡ [] → IsLawful config (newest_first (records p)) (entry_of x)
     unfolding ms
     fall_lawful x at event out = record {
       own_node = at ∙ sym (ap node_of event);
-      event_fits = ap (fits config (entries_in (records p))) event ∙ both (is_present config n) (may_keep config (length ms) n what) s.present may_fall;
+      event_fits = ap (fits config (newest_first (records p))) event ∙ both (is_present config n) (may_keep config (length ms) n what) s.present may_fall;
       own_messages = ap (map message_of) out ∙ ap option_to_list (sym sends_none)
-          ∙ (λ i. option_to_list (acts (sym at i) (core_here i) (messages (entries_in (records p))) (sym event i)).1);
+          ∙ (λ i. option_to_list (acts (sym at i) (core_here i) (messages (newest_first (records p))) (sym event i)).1);
     }
       where
-        core_here : core ≡ core_at config x.node (entries_in (records p))
-        core_here = s.core_is ∙ ap (λ m. core_at config m (entries_in (records p))) (sym at)
+        core_here : core ≡ core_at config x.node (newest_first (records p))
+        core_here = s.core_is ∙ ap (λ m. core_at config m (newest_first (records p))) (sym at)

@@ -5,9 +5,9 @@ use Rattle.gp_round.specs.Counts.{Counts}
 use Rattle.gp_msg.specs.declared.node.Node.{Node}
 use Rattle.gp_msg.specs.declared.record.Record.{Record}
 use Rattle.gp_msg.specs.Messages.{entry_of}
-use Rattle.gp_run.specs.Runs.{entries_in}
+use Rattle.gp_run.specs.Runs.{newest_first}
 use Rattle.gp_rules.specs.Own.{own}
-use Rattle.gp_rules.specs.Owning.{same_tells}
+use Rattle.gp_rules.specs.SameNodes.{same_tells}
 use Rattle.gp_rules.specs.Lawful.{IsLawful}
 use Rattle.gp_cell.specs.Cells.{OwnLawful}
 
@@ -55,13 +55,13 @@ module _ (config : Counts) (n : Node) where
       (stands_in rs more ahead x rest split)
 
   -- a record that is lawful after the list may follow
-  pub lawful_one : (rs : List Record) (y : Record) → OwnLawful config n rs → IsLawful config (entries_in rs) (entry_of y) → OwnLawful config n (rs ++ y ∷ [])
+  pub lawful_one : (rs : List Record) (y : Record) → OwnLawful config n rs → IsLawful config (newest_first rs) (entry_of y) → OwnLawful config n (rs ++ y ∷ [])
   lawful_one rs y lawful one ahead x rest split is = ⊎_elim
       (λ (s : (left : List Record) × (rs ≡ ahead ++ x ∷ left)). lawful ahead x s.0 s.1 is)
       (λ (s : (front : List Record) × (ahead ≡ rs ++ front) × (y ∷ [] ≡ front ++ x ∷ rest)). last s.0 s.1 s.2)
       (stands_in rs (y ∷ []) ahead x rest split)
     where
-      last : (front : List Record) → ahead ≡ rs ++ front → y ∷ [] ≡ front ++ x ∷ rest → IsLawful config (entries_in ahead) (entry_of x)
-      last [] at e = subst (λ l. IsLawful config (entries_in l) (entry_of x)) (sym (at ∙ append-nil rs)) (subst (λ z. IsLawful config (entries_in rs) (entry_of z)) (ap (first_or y) e) one)
+      last : (front : List Record) → ahead ≡ rs ++ front → y ∷ [] ≡ front ++ x ∷ rest → IsLawful config (newest_first ahead) (entry_of x)
+      last [] at e = subst (λ l. IsLawful config (newest_first l) (entry_of x)) (sym (at ∙ append-nil rs)) (subst (λ z. IsLawful config (newest_first rs) (entry_of z)) (ap (first_or y) e) one)
       last (z ∷ []) at e = cc
       last (z ∷ w ∷ front) at e = cc

@@ -6,8 +6,8 @@ use Rattle.gp_msg.specs.declared.node.Node.{Node}
 use Rattle.gp_msg.specs.declared.record.Record.{Record}
 use Rattle.gp_msg.specs.Messages.{Stamped, EpochPart, Entry, entry_of}
 use Rattle.gp_run.specs.Messages.{messages}
-use Rattle.gp_run.specs.Runs.{entries_in}
-use Rattle.gp_msg.specs.Nodes.{is_present}
+use Rattle.gp_run.specs.Runs.{newest_first}
+use Rattle.gp_msg.specs.Nodes.{is_present, same_node}
 use Rattle.gp_run.proofs.Telling.{messages-append}
 use Rattle.gp_wire.specs.declared.view.Post.{Post}
 use Rattle.gp_wire.specs.Lists.{Has}
@@ -15,9 +15,10 @@ use Rattle.gp_wire.specs.Rule.{IsBelow, Begins, items, post_of}
 use Rattle.gp_wire.specs.Known.{PassState, records, record_of, old_of}
 use Rattle.gp_wire.specs.Passes.{HadTurn, nothing, only}
 use Rattle.gp_work.specs.declared.moves.Move.{Move}
-use Rattle.gp_rules.specs.Own.{same_node, own}
+use Rattle.gp_rules.specs.Own.{own}
 use Rattle.gp_work.specs.Doing.{IsUpTo}
-use Rattle.gp_rules.specs.Owning.{same_tells, own_append, own_foreign}
+use Rattle.gp_rules.specs.SameNodes.{same_tells}
+use Rattle.gp_rules.proofs.OwnRecords.{own_append, own_foreign}
 use Rattle.gp_rules.specs.declared.roles.Core.{Core}
 use Rattle.gp_rules.specs.Cores.{opening, acts, core_at, part_in}
 use Rattle.gp_rules.specs.Lawful.{IsLawful}
@@ -61,10 +62,10 @@ grown p q x t =
     ∙ map-append record_of (p.seen ++ t.more) (post_of x t.turn ∷ [])
     ∙ ap (λ l. l ++ x ∷ []) (map-append record_of p.seen t.more)
 
-others : (p q : PassState) (x : Record) (n : Node) (t : HadTurn p q (only x)) → Has n p.holds → AreOthers n (entries_in (items t.more))
+others : (p q : PassState) (x : Record) (n : Node) (t : HadTurn p q (only x)) → Has n p.holds → AreOthers n (newest_first (items t.more))
 others p q x n t h = foreign_others n p.holds t.more h t.foreign
 
-entries_ahead : (p q : PassState) (x : Record) (t : HadTurn p q (only x)) → entries_in (ahead p q x t) ≡ entries_in (items t.more) ++ entries_in (records p)
+entries_ahead : (p q : PassState) (x : Record) (t : HadTurn p q (only x)) → newest_first (ahead p q x t) ≡ newest_first (items t.more) ++ newest_first (records p)
 unfolding ahead
 entries_ahead p q x t = entries_append (records p) (items t.more)
 
@@ -79,12 +80,12 @@ own_posted p q x n t h e =
     ∙ (λ i. (own_append n (records p) (items t.more) ∙ ap (λ l. own n (records p) ++ l) (own_foreign n p.holds t.more h t.foreign) ∙ append-nil (own n (records p))) i ++ own_one n x e i)
 
 -- the record is lawful after all that the pass has then seen
-lawful_ahead : (config : Counts) (n : Node) (p q : PassState) (x : Record) → Has n p.holds → (t : HadTurn p q (only x)) → x.node ≡ n → IsLawful config (entries_in (records p)) (entry_of x)
-    → IsLawful config (entries_in (ahead p q x t)) (entry_of x)
+lawful_ahead : (config : Counts) (n : Node) (p q : PassState) (x : Record) → Has n p.holds → (t : HadTurn p q (only x)) → x.node ≡ n → IsLawful config (newest_first (records p)) (entry_of x)
+    → IsLawful config (newest_first (ahead p q x t)) (entry_of x)
 lawful_ahead config n p q x h t e l = subst (λ es. IsLawful config es (entry_of x)) (sym (entries_ahead p q x t))
-    (lawful_still config (entries_in (items t.more)) (entries_in (records p)) (entry_of x) l (subst (λ m. AreOthers m (entries_in (items t.more))) (sym e) (others p q x n t h)))
+    (lawful_still config (newest_first (items t.more)) (newest_first (records p)) (entry_of x) l (subst (λ m. AreOthers m (newest_first (items t.more))) (sym e) (others p q x n t h)))
 
-pub posts_one : (config : Counts) (n : Node) (p q : PassState) (x : Record) → Has n p.holds → HadTurn p q (only x) → x.node ≡ n → IsLawful config (entries_in (records p)) (entry_of x)
+pub posts_one : (config : Counts) (n : Node) (p q : PassState) (x : Record) → Has n p.holds → HadTurn p q (only x) → x.node ≡ n → IsLawful config (newest_first (records p)) (entry_of x)
     → PostsOne config n (records p) (records q) x.event
 posts_one config n p q x h t e l = record {
   more = items t.more;
@@ -98,31 +99,31 @@ posts_one config n p q x h t e l = record {
 }
 
 own_lawful_posted : (config : Counts) (n : Node) (p q : PassState) (x : Record) → Has n p.holds → (t : HadTurn p q (only x)) → x.node ≡ n → OwnLawful config n (records p)
-    → IsLawful config (entries_in (records p)) (entry_of x) → OwnLawful config n (records q)
+    → IsLawful config (newest_first (records p)) (entry_of x) → OwnLawful config n (records q)
 own_lawful_posted config n p q x h t e own_lawful l = subst (OwnLawful config n) (sym (grown p q x t)) (lawful_one config n (ahead p q x t) x
     (subst (OwnLawful config n) (sym (ahead_is p q x t)) (lawful_more config n (records p) (items t.more) own_lawful (own_foreign n p.holds t.more h t.foreign)))
     (lawful_ahead config n p q x h t e l))
 
-core_posted : (config : Counts) (n : Node) (p q : PassState) (x : Record) (core next : Core) → Has n p.holds → (t : HadTurn p q (only x)) → x.node ≡ n → core ≡ core_at config n (entries_in (records p))
-    → ((more : List Stamped) → next ≡ (acts n core (messages (entries_in (records p)) ++ more) x.event).0) → next ≡ core_at config n (entries_in (records q))
+core_posted : (config : Counts) (n : Node) (p q : PassState) (x : Record) (core next : Core) → Has n p.holds → (t : HadTurn p q (only x)) → x.node ≡ n → core ≡ core_at config n (newest_first (records p))
+    → ((more : List Stamped) → next ≡ (acts n core (messages (newest_first (records p)) ++ more) x.event).0) → next ≡ core_at config n (newest_first (records q))
 core_posted config n p q x core next h t e is plan = sym (
-    ap (λ rs. core_at config n (entries_in rs)) (grown p q x t)
+    ap (λ rs. core_at config n (newest_first rs)) (grown p q x t)
     ∙ ap (core_at config n) (entries_append (ahead p q x t) (x ∷ []))
     ∙ own_acts
     ∙ ap (λ es. (acts n (core_at config n es) (messages es) x.event).0) (entries_ahead p q x t)
-    ∙ (λ i. (acts n (core_still config n (entries_in (items t.more)) (entries_in (records p)) (others p q x n t h) i) (messages-append (entries_in (items t.more)) (entries_in (records p)) i) x.event).0)
-    ∙ ap (λ c. (acts n c (messages (entries_in (records p)) ++ messages (entries_in (items t.more))) x.event).0) (sym is)
-    ∙ sym (plan (messages (entries_in (items t.more)))))
+    ∙ (λ i. (acts n (core_still config n (newest_first (items t.more)) (newest_first (records p)) (others p q x n t h) i) (messages-append (newest_first (items t.more)) (newest_first (records p)) i) x.event).0)
+    ∙ ap (λ c. (acts n c (messages (newest_first (records p)) ++ messages (newest_first (items t.more))) x.event).0) (sym is)
+    ∙ sym (plan (messages (newest_first (items t.more)))))
   where
-    own_acts : core_at config n (entry_of x ∷ entries_in (ahead p q x t)) ≡ (acts n (core_at config n (entries_in (ahead p q x t))) (messages (entries_in (ahead p q x t))) x.event).0
+    own_acts : core_at config n (entry_of x ∷ newest_first (ahead p q x t)) ≡ (acts n (core_at config n (newest_first (ahead p q x t))) (messages (newest_first (ahead p q x t))) x.event).0
     own_acts = elim (same_tells n x.node) [
-      | inl s ↦ ap (λ b. cond b (acts n (core_at config n (entries_in (ahead p q x t))) (messages (entries_in (ahead p q x t))) x.event).0 (core_at config n (entries_in (ahead p q x t)))) s.0
+      | inl s ↦ ap (λ b. cond b (acts n (core_at config n (newest_first (ahead p q x t))) (messages (newest_first (ahead p q x t))) x.event).0 (core_at config n (newest_first (ahead p q x t)))) s.0
       | inr s ↦ absurd (s.1 (sym e))
     ]
 
 pub sound_posted : {D : Type 0} (config : Counts) (n : Node) (core next : Core) (log : Option (LogState D)) (p q : PassState) (x : Record) (posted : ℕ) (down now : Option Move)
     → IsSound config n core log p posted down → Has p.node p.holds → (t : HadTurn p q (only x)) → x.node ≡ n
-    → IsLawful config (entries_in (records p)) (entry_of x) → ((more : List Stamped) → next ≡ (acts n core (messages (entries_in (records p)) ++ more) x.event).0)
+    → IsLawful config (newest_first (records p)) (entry_of x) → ((more : List Stamped) → next ≡ (acts n core (messages (newest_first (records p)) ++ more) x.event).0)
     → Keeps (part_in (opening config n)) (part_in next) log → now ≡ None → IsSound config n next log q (posted + 1) now
 sound_posted config n core next log p q x posted down now s h t e may plan kept up = let mine : Has n p.holds = subst (λ m. Has m p.holds) s.node_is h in record {
   node_is = ap (λ (y : PassState). y.node) t.after ∙ s.node_is;
@@ -152,12 +153,12 @@ count_within config n core log p q x posted down s h t e =
 
 -- ---- two passes that met
 
-pub nothing_own : (n : Node) (rs : List Record) → own n rs ≡ [] → AreOthers n (entries_in rs)
+pub nothing_own : (n : Node) (rs : List Record) → own n rs ≡ [] → AreOthers n (newest_first rs)
 nothing_own n [] e = tt
 nothing_own n (r ∷ rs) e = elim (same_tells n r.node) [
   | inl t ↦ absurd (let wrong : r ∷ own n rs ≡ [] = sym (ap (λ b. cond b (r ∷ own n rs) (own n rs)) t.0) ∙ e in cc)
   | inr t ↦ let rest : own n rs ≡ [] = sym (ap (λ b. cond b (r ∷ own n rs) (own n rs)) t.0) ∙ e in
-      subst (AreOthers n) (sym (entries_append (r ∷ []) rs)) (join n (entries_in rs) (entry_of r ∷ []) (nothing_own n rs rest) ((λ same. t.1 (sym same)), tt))
+      subst (AreOthers n) (sym (entries_append (r ∷ []) rs)) (join n (newest_first rs) (entry_of r ∷ []) (nothing_own n rs rest) ((λ same. t.1 (sym same)), tt))
 ]
   where
     join : (n : Node) (xs ys : List Entry) → AreOthers n xs → AreOthers n ys → AreOthers n (xs ++ ys)
@@ -176,7 +177,7 @@ sound_longer config n core log p q rest posted down s same split mine =
     let none : own n (items rest) ≡ [] = back_empty (own n (records p)) (own n (items rest)) (sym (ap (own n) list ∙ own_append n (records p) (items rest)) ∙ mine) in record {
       node_is = same ∙ s.node_is;
       present = s.present;
-      core_is = s.core_is ∙ sym (ap (λ rs. core_at config n (entries_in rs)) list ∙ ap (core_at config n) (entries_append (records p) (items rest)) ∙ core_still config n (entries_in (items rest)) (entries_in (records p)) (nothing_own n (items rest) none));
+      core_is = s.core_is ∙ sym (ap (λ rs. core_at config n (newest_first rs)) list ∙ ap (core_at config n) (entries_append (records p) (items rest)) ∙ core_still config n (newest_first (items rest)) (newest_first (records p)) (nothing_own n (items rest) none));
       posted_is = s.posted_is ∙ ap length (sym mine);
       lawful = subst (OwnLawful config n) (sym list) (lawful_more config n (records p) (items rest) s.lawful none);
       log_is = s.log_is;
@@ -195,7 +196,7 @@ pub sound_new : {D : Type 0} (config : Counts) (n : Node) (core : Core) (log : O
 sound_new config n core log p here mine none kept e = record {
   node_is = mine;
   present = here;
-  core_is = e ∙ sym (ap (core_at config n) (sym (append-nil (entries_in (records p)))) ∙ core_still config n (entries_in (records p)) [] (nothing_own n (records p) none));
+  core_is = e ∙ sym (ap (core_at config n) (sym (append-nil (newest_first (records p)))) ∙ core_still config n (newest_first (records p)) [] (nothing_own n (records p) none));
   posted_is = ap length (sym none);
   lawful = none_lawful config n (records p) none;
   log_is = λ _. subst (λ c. Keeps (part_in (opening config n)) (part_in c) log) (sym e) kept;

@@ -3,7 +3,7 @@ use Rattle.std.proofs.Common.{◌≡◌, ◌≢◌, ℕ, [], ◌++◌, refl, sym
 use Rattle.std.specs.Prelude.{IfErr}
 use Rattle.gp_msg.specs.Messages.{EpochPart}
 use Rattle.gp_run.specs.Messages.{messages}
-use Rattle.gp_run.specs.Runs.{entries_in}
+use Rattle.gp_run.specs.Runs.{newest_first}
 use Rattle.std.proofs.lemmas.List.{append-nil}
 use Rattle.gp_vlog.specs.Logs.{LogState}
 use Rattle.gp_wire.specs.Known.{records}
@@ -46,11 +46,11 @@ written_cause {T} old new next mv part (Err (Full size needed)) down a b h = let
 
 -- ---- a step whose write was refused
 
-part_now : {D : Type 0} (old : CellState D) (mv : Move) (plan : Plan) → IsThought old mv plan → part_in plan.next ≡ part_in (acts old.node old.core (messages (entries_in (records old.pass))) (event_of old.node mv)).0
+part_now : {D : Type 0} (old : CellState D) (mv : Move) (plan : Plan) → IsThought old mv plan → part_in plan.next ≡ part_in (acts old.node old.core (messages (newest_first (records old.pass))) (event_of old.node mv)).0
 part_now old mv plan t =
     ap part_in (t.next [])
-    ∙ ap (λ e. part_in (acts old.node old.core (messages (entries_in (records old.pass)) ++ []) e).0) t.plan.event_is
-    ∙ ap (λ ms. part_in (acts old.node old.core ms (event_of old.node mv)).0) (append-nil (messages (entries_in (records old.pass))))
+    ∙ ap (λ e. part_in (acts old.node old.core (messages (newest_first (records old.pass)) ++ []) e).0) t.plan.event_is
+    ∙ ap (λ ms. part_in (acts old.node old.core ms (event_of old.node mv)).0) (append-nil (messages (newest_first (records old.pass))))
 
 pub step_cause : {D : Type 0} (first old new : CellState D) (mv : Move) (plan : Plan) (f : StepFault) → old.node ≡ first.node → old.core ≡ first.core → old.log ≡ first.log → new.config ≡ old.config → new.node ≡ old.node → new.core ≡ old.core → new.pass ≡ old.pass
     → IsThought old mv plan → WriteCause old new plan.next mv f → StepCause first new mv f
@@ -63,7 +63,7 @@ step_cause first old new mv plan Disk at is log config node core pass t h = let 
     log = x.log;
     log_is = sym log ∙ x.log_is;
     part = x.part;
-    part_is = (λ i. part_in (acts (sym at i) (sym is i) (messages (entries_in (records (pass i)))) (event_of (sym at i) mv)).0) ∙ sym (part_now old mv plan t) ∙ x.part_is;
+    part_is = (λ i. part_in (acts (sym at i) (sym is i) (messages (newest_first (records (pass i)))) (event_of (sym at i) mv)).0) ∙ sym (part_now old mv plan t) ∙ x.part_is;
     changes = λ e. x.changes (ap part_in is ∙ e);
     room = x.room;
   },
@@ -80,8 +80,8 @@ step_cause {D} first old new mv plan (Full size needed) at is log config node co
       log = o.log;
       log_is = o.same ∙ o.log_is;
       part = o.part;
-      after = ap (λ ms. part_in (acts old.node old.core ms (event_of old.node mv)).0) (sym (append-nil (messages (entries_in (records old.pass)))))
-          ∙ ap (λ e. part_in (acts old.node old.core (messages (entries_in (records old.pass)) ++ []) e).0) (sym event)
+      after = ap (λ ms. part_in (acts old.node old.core ms (event_of old.node mv)).0) (sym (append-nil (messages (newest_first (records old.pass)))))
+          ∙ ap (λ e. part_in (acts old.node old.core (messages (newest_first (records old.pass)) ++ []) e).0) (sym event)
           ∙ ap part_in (sym (t.next [])) ∙ o.after;
       changes = o.changes;
       size_is = h.1;

@@ -11,7 +11,7 @@ use Rattle.gp_msg.specs.declared.record.Record.{Record}
 use Rattle.gp_msg.specs.declared.durable.Durable.{Durable}
 use Rattle.gp_msg.specs.Messages.{Stamped, EpochPart, part_of}
 use Rattle.gp_run.specs.Messages.{messages}
-use Rattle.gp_run.specs.Runs.{entries_in}
+use Rattle.gp_run.specs.Runs.{newest_first}
 use Rattle.gp_run.proofs.Telling.{messages-append}
 use Rattle.gp_vlog.specs.Logs.{LogState}
 use Rattle.gp_wire.specs.Known.{PassState, records}
@@ -33,11 +33,11 @@ use Rattle.gp_cell.proofs.Falling.{fall_lawful, fall_next, fall_part}
 use Rattle.gp_cell.proofs.Going.{posts_after}
 
 -- the next core is what the event of the move makes of the core
-pub next_core : (config : Counts) (n : Node) (core : Core) (seen : List Record) (mv : Move) (plan : Plan) → IsThoughtAt config n core seen mv plan → (more : List Stamped) → plan.next ≡ (acts n core (messages (entries_in seen) ++ more) (event_of n mv)).0
-next_core config n core seen mv plan t more = t.next more ∙ ap (λ e. (acts n core (messages (entries_in seen) ++ more) e).0) t.plan.event_is
+pub next_core : (config : Counts) (n : Node) (core : Core) (seen : List Record) (mv : Move) (plan : Plan) → IsThoughtAt config n core seen mv plan → (more : List Stamped) → plan.next ≡ (acts n core (messages (newest_first seen) ++ more) (event_of n mv)).0
+next_core config n core seen mv plan t more = t.next more ∙ ap (λ e. (acts n core (messages (newest_first seen) ++ more) e).0) t.plan.event_is
 
-next_now : (config : Counts) (n : Node) (core : Core) (seen : List Record) (mv : Move) (plan : Plan) → IsThoughtAt config n core seen mv plan → plan.next ≡ (acts n core (messages (entries_in seen)) (event_of n mv)).0
-next_now config n core seen mv plan t = next_core config n core seen mv plan t [] ∙ ap (λ ms. (acts n core ms (event_of n mv)).0) (append-nil (messages (entries_in seen)))
+next_now : (config : Counts) (n : Node) (core : Core) (seen : List Record) (mv : Move) (plan : Plan) → IsThoughtAt config n core seen mv plan → plan.next ≡ (acts n core (messages (newest_first seen)) (event_of n mv)).0
+next_now config n core seen mv plan t = next_core config n core seen mv plan t [] ∙ ap (λ ms. (acts n core ms (event_of n mv)).0) (append-nil (messages (newest_first seen)))
 
 module _ {D : Type 0} (config : Counts) (n : Node) (core : Core) (log : Option (LogState D)) (p : PassState) (posted : ℕ) (down : Option Move) (mv : Move) (plan : Plan) (part : EpochPart)
     (s : IsSound config n core log p posted down) (logged : IsLogged n) (f : Fits config n mv) (t : IsThoughtAt config n core (records p) mv plan) where
@@ -57,7 +57,7 @@ module _ {D : Type 0} (config : Counts) (n : Node) (core : Core) (log : Option (
   judged (Ok o) h = falls_if o h
   judged (Err e) h = tt
 
-  pub fits_none : (r : Result (Option (Option Kept)) NoMemory) → IfOk r (λ o. o ≡ None → FitsNone core plan.next part) → IfOk r (λ o. o ≡ None → FitsNone core (acts n core (messages (entries_in (records p))) (event_of n mv)).0 part)
+  pub fits_none : (r : Result (Option (Option Kept)) NoMemory) → IfOk r (λ o. o ≡ None → FitsNone core plan.next part) → IfOk r (λ o. o ≡ None → FitsNone core (acts n core (messages (newest_first (records p))) (event_of n mv)).0 part)
   fits_none (Ok o) h = λ e. subst (λ c. FitsNone core c part) (next_now config n core (records p) mv plan t) (h e)
   fits_none (Err e) h = tt
 
@@ -70,7 +70,7 @@ revives c mv x next part what f at event out e kept = record {
   part = part;
   event_is = event;
   lawful = f.lawful x at event out;
-  next_is = λ more. e ∙ f.next more ∙ ap (λ y. (acts c.node c.core (messages (entries_in (records c.pass)) ++ more) y).0) (sym event);
+  next_is = λ more. e ∙ f.next more ∙ ap (λ y. (acts c.node c.core (messages (newest_first (records c.pass)) ++ more) y).0) (sym event);
   keeps = f.keeps;
   after = ap part_in e ∙ f.after;
   kept = subst (λ o. Keeps (part_in (opening c.config c.node)) o c.log) (sym (ap part_in e ∙ f.after)) kept;
@@ -83,7 +83,7 @@ pub changed_old : {D : Type 0} (c : CellState D) (mv : Move) (f : Found) (o : Op
 changed_old c mv f o e old is = (e ∙ is.entry, inl (is.old old))
 
 -- neither part fitted
-pub changed_other : {D : Type 0} (c : CellState D) (mv : Move) (f : Found) (o : Option Durable) → o ≡ found_entry f → FitsNone c.core (acts c.node c.core (messages (entries_in (records c.pass))) (event_of c.node mv)).0 (part_of f.part)
+pub changed_other : {D : Type 0} (c : CellState D) (mv : Move) (f : Found) (o : Option Durable) → o ≡ found_entry f → FitsNone c.core (acts c.node c.core (messages (newest_first (records c.pass))) (event_of c.node mv)).0 (part_of f.part)
     → IsFound (part_in (opening c.config c.node)) c.log f → FallCause c mv (rise.Changed o)
 changed_other c mv f o e none is = (e ∙ is.entry, inr (part_of f.part, is.ends, none))
 
@@ -114,10 +114,10 @@ rises config n core log mid p q down new mv x next went later same rev posts cor
   what = rev.what;
   part = rev.part;
   posts = posts_after config n p q new.pass x.event (Fall n rev.what) later same rev.event_is posts;
-  keeps = subst (λ ms. KeepsMove core (acts n core ms (event_of n mv)).0 mv rev.part rev.what) (sym ahead_sent) (rev.keeps (messages (entries_in posts.more)));
+  keeps = subst (λ ms. KeepsMove core (acts n core ms (event_of n mv)).0 mv rev.part rev.what) (sym ahead_sent) (rev.keeps (messages (newest_first posts.more)));
   found = subst (λ l. Keeps (part_in (opening config n)) (Some rev.part) l) (sym log_is) (subst (λ o. Keeps (part_in (opening config n)) o mid) rev.after rev.kept);
   after = ap part_in core_is ∙ rev.after;
 }
   where
-    ahead_sent : messages (entries_in posts.ahead) ≡ messages (entries_in (records q)) ++ messages (entries_in posts.more)
-    ahead_sent = ap (λ l. messages (entries_in l)) posts.begins ∙ ap messages (entries_append (records q) posts.more) ∙ messages-append (entries_in posts.more) (entries_in (records q))
+    ahead_sent : messages (newest_first posts.ahead) ≡ messages (newest_first (records q)) ++ messages (newest_first posts.more)
+    ahead_sent = ap (λ l. messages (newest_first l)) posts.begins ∙ ap messages (entries_append (records q) posts.more) ∙ messages-append (newest_first posts.more) (newest_first (records q))

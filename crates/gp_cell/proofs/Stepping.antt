@@ -10,7 +10,7 @@ use Rattle.gp_msg.specs.Messages.{Stamped, Entry, entry_of}
 use Rattle.gp_run.specs.Messages.{messages}
 use Rattle.gp_msg.specs.Nodes.{node_of, is_present}
 use Rattle.gp_run.specs.Legal.{fits}
-use Rattle.gp_run.specs.Runs.{entries_in}
+use Rattle.gp_run.specs.Runs.{newest_first}
 use Rattle.gp_wire.specs.Known.{PassState, records}
 use Rattle.gp_work.specs.declared.moves.Move.{Move}
 use Rattle.gp_work.specs.declared.moves.Move.TheVariants.{Offer, Begin, Take}
@@ -68,26 +68,26 @@ named_more ms more (Take k) h = get_front ms more k (get_within ms k h)
 
 module _ {D : Type 0} (config : Counts) (n : Node) (core : Core) (log : Option (LogState D)) (p : PassState) (posted : ℕ) (down : Option Move) (mv : Move) (plan : Plan) where
   role : IsSound config n core log p posted down → HasRole n core
-  role s = subst (HasRole n) (sym s.core_is) (core_role config n (entries_in (records p)))
+  role s = subst (HasRole n) (sym s.core_is) (core_role config n (newest_first (records p)))
 
-  pub plan_lawful : IsSound config n core log p posted down → Fits config n mv → IsPlan n core (messages (entries_in (records p))) mv plan → IsLawful config (entries_in (records p)) (entry_of plan.made)
+  pub plan_lawful : IsSound config n core log p posted down → Fits config n mv → IsPlan n core (messages (newest_first (records p))) mv plan → IsLawful config (newest_first (records p)) (entry_of plan.made)
   plan_lawful s f q = record {
     own_node = q.node_is ∙ sym (ap node_of q.event_is ∙ node_is config n mv f);
-    event_fits = ap (fits config (entries_in (records p))) q.event_is ∙ plan_fits config n (entries_in (records p)) mv s.present f q.stands;
-    own_messages = q.sent ∙ ap (λ r. option_to_list r.1) (sym (acts_planned config n core mv (messages (entries_in (records p))) (role s) f))
-        ∙ (λ i. option_to_list (acts (sym q.node_is i) (core_here s q i) (messages (entries_in (records p))) (sym q.event_is i)).1);
+    event_fits = ap (fits config (newest_first (records p))) q.event_is ∙ plan_fits config n (newest_first (records p)) mv s.present f q.stands;
+    own_messages = q.sent ∙ ap (λ r. option_to_list r.1) (sym (acts_planned config n core mv (messages (newest_first (records p))) (role s) f))
+        ∙ (λ i. option_to_list (acts (sym q.node_is i) (core_here s q i) (messages (newest_first (records p))) (sym q.event_is i)).1);
   }
     where
-      core_here : IsSound config n core log p posted down → (q : IsPlan n core (messages (entries_in (records p))) mv plan) → core ≡ core_at config plan.made.node (entries_in (records p))
-      core_here s q = s.core_is ∙ ap (λ m. core_at config m (entries_in (records p))) (sym q.node_is)
+      core_here : IsSound config n core log p posted down → (q : IsPlan n core (messages (newest_first (records p))) mv plan) → core ≡ core_at config plan.made.node (newest_first (records p))
+      core_here s q = s.core_is ∙ ap (λ m. core_at config m (newest_first (records p))) (sym q.node_is)
 
-  pub plan_next : IsSound config n core log p posted down → Fits config n mv → IsPlan n core (messages (entries_in (records p))) mv plan
-      → (more : List Stamped) → plan.next ≡ (acts n core (messages (entries_in (records p)) ++ more) plan.made.event).0
+  pub plan_next : IsSound config n core log p posted down → Fits config n mv → IsPlan n core (messages (newest_first (records p))) mv plan
+      → (more : List Stamped) → plan.next ≡ (acts n core (messages (newest_first (records p)) ++ more) plan.made.event).0
   plan_next s f q more =
       q.next
-      ∙ ap (λ o. (planned core mv o).0) (sym (named_more (messages (entries_in (records p))) more mv q.stands))
-      ∙ ap (λ r. r.0) (sym (acts_planned config n core mv (messages (entries_in (records p)) ++ more) (role s) f))
-      ∙ ap (λ e. (acts n core (messages (entries_in (records p)) ++ more) e).0) (sym q.event_is)
+      ∙ ap (λ o. (planned core mv o).0) (sym (named_more (messages (newest_first (records p))) more mv q.stands))
+      ∙ ap (λ r. r.0) (sym (acts_planned config n core mv (messages (newest_first (records p)) ++ more) (role s) f))
+      ∙ ap (λ e. (acts n core (messages (newest_first (records p)) ++ more) e).0) (sym q.event_is)
 
-  pub plan_role : IsSound config n core log p posted down → Fits config n mv → IsPlan n core (messages (entries_in (records p))) mv plan → HasRole n plan.next
-  plan_role s f q = subst (HasRole n) (sym (plan_next s f q [])) (acts_role n core (messages (entries_in (records p)) ++ []) plan.made.event (role s))
+  pub plan_role : IsSound config n core log p posted down → Fits config n mv → IsPlan n core (messages (newest_first (records p))) mv plan → HasRole n plan.next
+  plan_role s f q = subst (HasRole n) (sym (plan_next s f q [])) (acts_role n core (messages (newest_first (records p)) ++ []) plan.made.event (role s))

@@ -9,10 +9,10 @@ use Rattle.gp_msg.specs.declared.message.Msg.{Msg}
 use Rattle.gp_msg.specs.declared.record.Record.{Record}
 use Rattle.gp_msg.specs.Messages.{Stamped, message_of}
 use Rattle.gp_run.specs.Messages.{messages}
-use Rattle.gp_run.specs.Runs.{entries_in}
+use Rattle.gp_run.specs.Runs.{newest_first}
 use Rattle.gp_run.proofs.Telling.{message-entries}
 use Rattle.gp_vlog.specs.Logs.{LogState}
-use Rattle.gp_wire.specs.Messages.{messages_in}
+use Rattle.gp_msg.specs.Records.{messages_in}
 use Rattle.gp_wire.specs.Known.{PassState, records}
 use Rattle.gp_work.specs.declared.moves.Move.{Move}
 use Rattle.gp_work.specs.declared.moves.Move.TheVariants.{Offer, Begin, Take}
@@ -23,7 +23,7 @@ use Rattle.gp_cell.specs.Plans.{planned, named, IsNamed, Names}
 use Rattle.gp_cell.specs.Cells.{IsSound, IsPlan, IsThoughtAt}
 use Rattle.gp_cell.proofs.Stepping.{plan_lawful, plan_next, plan_role}
 
-named_is : (rs : List Record) (k : ℕ) (m : Msg) → slice_get (messages_in rs) k ≡ Some m → slice_get (messages (entries_in rs)) k ≡ Some (message_of m)
+named_is : (rs : List Record) (k : ℕ) (m : Msg) → slice_get (messages_in rs) k ≡ Some m → slice_get (messages (newest_first rs)) k ≡ Some (message_of m)
 named_is rs k m h = message-entries rs k ∙ ap (option_map message_of) h
 
 -- the message that a move takes is there
@@ -33,13 +33,13 @@ named_there ms (Begin r) m h = tt
 named_there ms (Take k) None h = h
 named_there ms (Take k) (Some m) h = tt
 
-stands : (rs : List Record) (mv : Move) (m : Option Msg) → Names (messages_in rs) mv m → IsNamed mv (named (messages (entries_in rs)) mv)
+stands : (rs : List Record) (mv : Move) (m : Option Msg) → Names (messages_in rs) mv m → IsNamed mv (named (messages (newest_first rs)) mv)
 stands rs (Offer d) m h = tt
 stands rs (Begin r) m h = tt
 stands rs (Take k) None h = absurd h
 stands rs (Take k) (Some m) h = subst (IsNamed (Take k)) (sym (named_is rs k m h)) tt
 
-planned_named : (rs : List Record) (core : Core) (mv : Move) (m : Option Msg) → Names (messages_in rs) mv m → planned core mv (option_map message_of m) ≡ planned core mv (named (messages (entries_in rs)) mv)
+planned_named : (rs : List Record) (core : Core) (mv : Move) (m : Option Msg) → Names (messages_in rs) mv m → planned core mv (option_map message_of m) ≡ planned core mv (named (messages (newest_first rs)) mv)
 planned_named rs core (Offer d) m h = refl
 planned_named rs core (Begin r) m h = refl
 planned_named rs core (Take k) None h = absurd h
@@ -52,7 +52,7 @@ pub thinks : {D : Type 0} (config : Counts) (n : Node) (core : Core) (log : Opti
 thinks config n core log p posted down mv m (Err e) s f h next sent node event = tt
 thinks config n core log p posted down mv m (Ok q) s f h next sent node event =
     let same = planned_named (records p) core mv m h in
-    let plan : IsPlan n core (messages (entries_in (records p))) mv q = record {
+    let plan : IsPlan n core (messages (newest_first (records p))) mv q = record {
       next = next ∙ ap (λ (x : Core × Option Stamped). x.0) same;
       sent = sent ∙ ap (λ (x : Core × Option Stamped). option_to_list x.1) same;
       node_is = node;

@@ -1,4 +1,4 @@
--- What a log was found to have.
+-- What was found in a log.
 use Rattle.std.specs.Prelude.{◌≡◌, ◌⊎◌, ℕ, true, false, cond, nat_eq, List, Option, Some, None}
 use Rattle.gp_msg.specs.declared.durable.Durable.{Durable}
 use Rattle.gp_vlog.specs.declared.fault.OpenFault.TheVariants as opening
@@ -8,7 +8,7 @@ use Rattle.gp_work.specs.declared.faults.RiseFault.{RiseFault}
 use Rattle.gp_work.specs.declared.faults.RiseFault.TheVariants.{NoMemory, Disk, NotLog, Changed}
 use Rattle.gp_msg.specs.Messages.{EpochPart, part_of}
 use Rattle.gp_run.specs.Messages.{messages}
-use Rattle.gp_run.specs.Runs.{entries_in}
+use Rattle.gp_run.specs.Runs.{newest_first}
 use Rattle.gp_wire.specs.Known.{records}
 use Rattle.gp_work.specs.declared.moves.Move.{Move}
 use Rattle.gp_work.specs.Moves.{event_of}
@@ -28,7 +28,7 @@ BreaksWhere limit content Disk = Unit {0}
 BreaksWhere limit content (NotLog at) = BreaksAt (nat_eq limit) content (opening.NotLog at)
 BreaksWhere limit content (Changed found) = Unit {0}
 
--- the same, of the log of a node
+-- the same for the log of a node
 abbrev pub LogBreaksWhere : {D : Type 0} → (D → Option (List ℕ)) → Option (LogState D) → RiseFault → Type 0
 LogBreaksWhere content None fault = Unit {0}
 LogBreaksWhere content (Some log) fault = BreaksWhere log.limit (content log.disk) fault
@@ -49,7 +49,7 @@ abbrev pub EndsWith : {D : Type 0} → Option EpochPart → Option (LogState D) 
 EndsWith (Some first) (Some log) part = last_or first log.entries ≡ part
 EndsWith _ _ part = ⊥
 
--- what was found of a log
+-- what was found in a log
 pub record IsFound {D : Type 0} (first : Option EpochPart) (log : Option (LogState D)) (f : Found) : Type 0 where
   pub ends : EndsWith first log (part_of f.part)
   pub kept : f.is_old ≡ false → Keeps first (Some (part_of f.part)) log
@@ -60,22 +60,22 @@ pub record IsFound {D : Type 0} (first : Option EpochPart) (log : Option (LogSta
 abbrev pub HasOtherLog : {D : Type 0} → CellState D → Move → Type 0
 HasOtherLog c mv =
     IsOldLog c.log
-    ⊎ ((part : EpochPart) × EndsWith (part_in (opening c.config c.node)) c.log part × FitsNone c.core (acts c.node c.core (messages (entries_in (records c.pass))) (event_of c.node mv)).0 part)
+    ⊎ ((part : EpochPart) × EndsWith (part_in (opening c.config c.node)) c.log part × FitsNone c.core (acts c.node c.core (messages (newest_first (records c.pass))) (event_of c.node mv)).0 part)
 
--- why a fall was not made
+-- why no record of a crash was made
 abbrev pub FallCause : {D : Type 0} → CellState D → Move → RiseFault → Type 0
 FallCause c mv NoMemory = Unit {0}
 FallCause c mv Disk = ⊥
 FallCause c mv (NotLog at) = ⊥
 FallCause c mv (Changed found) = (found ≡ last_entry c.log) × HasOtherLog c mv
 
--- why a node did not come up: its disk failed; what the disk holds breaks the format there; its log has changed to what was found; or memory ran out
+-- why a node did not recover: its disk failed; the bytes of the disk break the format at this place; its log has changed to what was found; or memory ran out
 abbrev pub RiseCause : {D : Type 0} → (D → Option (List ℕ)) → CellState D → CellState D → Move → RiseFault → Type 0
 RiseCause content old new mv NoMemory = Unit {0}
 RiseCause content old new mv Disk = Unit {0}
 RiseCause content old new mv (NotLog at) = LogBreaksWhere content old.log (NotLog at)
 RiseCause content old new mv (Changed found) = (found ≡ last_entry new.log) × HasOtherLog new mv
 
--- the same, of a node that is down
+-- the same for a node that is down
 abbrev pub IsNotRisen : {D : Type 0} → (D → Option (List ℕ)) → CellState D → CellState D → RiseFault → Type 0
 IsNotRisen content old new fault = (mv : Move) × (old.down ≡ Some mv) × RiseCause content old new mv fault

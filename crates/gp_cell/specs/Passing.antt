@@ -28,7 +28,7 @@ pub record GoesOn (p q : PassState) : Type 0 where
   pub more : List Record
   pub grown : records q ≡ records p ++ more
 
--- how many records a step with this answer posted
+-- how many records a step with this result posted
 abbrev pub posts_in : {T E : Type 0} → Result T E → ℕ
 posts_in (Ok x) = 1
 posts_in (Err e) = 0

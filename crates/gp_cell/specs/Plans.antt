@@ -22,29 +22,29 @@ HasRole (node.Acceptor a) (Acceptor s) = Unit {0}
 HasRole (node.Learner l) (Learner s) = Unit {0}
 HasRole n core = ⊥
 
--- once it took a message, and what it sends
+-- the core after it took a message, and what it sends
 abbrev pub took : Core → Stamped → Core × Option Stamped
 took (Proposer s) m = (Proposer s, None)
 took (Coordinator s) m = (Coordinator (coordinator.take s m).0, (coordinator.take s m).1)
 took (Acceptor s) m = (Acceptor (acceptor.take s m).0, (acceptor.take s m).1)
 took (Learner s) m = (Learner (learner.take s m).0, (learner.take s m).1)
 
--- once it was given a draft, and what it sends
+-- the core after it was given a draft, and what it sends
 abbrev pub offered : Core → Move → Core × Option Stamped
 offered (Proposer s) (Offer d) = (Proposer (proposer.proposer_offer s d).0, maybe_stamped 0 (proposer.proposer_offer s d).1)
 offered core mv = (core, None)
 
--- once it began a round, and what it sends
+-- the core after it began a round, and what it sends
 abbrev pub begun : Core → Move → Core × Option Stamped
 begun (Coordinator s) (Begin r) = (Coordinator (coordinator.begin s r).0, (coordinator.begin s r).1)
 begun core mv = (core, None)
 
--- once it took a message, if there is one
+-- the core after it took a message, if there is one, and what it sends
 abbrev pub took_if : Core → Option Stamped → Core × Option Stamped
 took_if core None = (core, None)
 took_if core (Some m) = took core m
 
--- once it made a move, of which this is the message that it takes, and what it sends
+-- the core after a move that takes this message, if it takes one, and what the core sends
 abbrev pub planned : Core → Move → Option Stamped → Core × Option Stamped
 planned core (Offer d) m = offered core (Offer d)
 planned core (Begin r) m = begun core (Begin r)
@@ -57,13 +57,13 @@ CanPlan (Coordinator s) (Begin r) = is_owner s.state.config.coordinators s.state
 CanPlan core (Take k) = Unit {0}
 CanPlan core mv = ⊥
 
--- the message that a move takes, when these were sent
+-- the message that a move takes, after these were sent
 abbrev pub named : List Stamped → Move → Option Stamped
 named ms (Offer d) = None
 named ms (Begin r) = None
 named ms (Take k) = slice_get ms k
 
--- a move that takes a message comes with one
+-- if the move takes a message, there is one
 abbrev pub IsNamed : {A : Type 0} → Move → Option A → Type 0
 IsNamed (Offer d) m = Unit {0}
 IsNamed (Begin r) m = Unit {0}

@@ -5,9 +5,9 @@ ghost use Rattle.gp_history.specs.Sequence.{history_of};
 ghost use Rattle.gp_msg.specs.Messages.{EpochPart};
 ghost use Rattle.gp_msg.specs.Nodes.{is_present};
 ghost use Rattle.gp_vlog.specs.Logs.{last};
-ghost use Rattle.gp_run.specs.Runs.{entries_in};
+ghost use Rattle.gp_run.specs.Runs.{newest_first};
 ghost use Rattle.gp_wire.specs.Lists.{Has};
-ghost use Rattle.gp_wire.specs.Messages.{messages_in};
+ghost use Rattle.gp_msg.specs.Records.{messages_in};
 ghost use Rattle.gp_wire.specs.Rule.{Begins};
 ghost use Rattle.gp_wire.specs.Known.{records, old_of};
 ghost use Rattle.gp_wire.specs.Passes.{HadTurn, nothing, met, spent};
@@ -29,13 +29,16 @@ use std::alloc::Global;
 use std::marker::Model;
 use std::sync::Wait;
 
-/// One running node: its protocol state, its log if it is an acceptor or a coordinator, and its pass at a wire.
+/// One running node: its protocol state, its log if it is an acceptor or a coordinator, and its
+/// pass at a wire.
 ///
-/// The state is the one that the node's own records make. While the node is up, the last entry of its log, or the part
-/// of a node to which nothing has happened if there is no entry, is the durable part of the state. A step during which the
-/// log is not written leaves the node down; it then comes up again by `rise`.
+/// The state is the one that the node's own records make. While the node is up, its log keeps the
+/// durable part of that state: as the last entry, or, if the log has no entry, as the part of a
+/// node to which nothing has happened. If the log could not be written in a step, the node is down
+/// until `rise` recovers it.
 ///
-/// A contract sees the configuration, the node, its state, its log, its pass, and the move in which it went down.
+/// A contract sees the configuration, the node, its state, its log, its pass, and the move in which
+/// it went down.
 #[derive(Drop)]
 pub struct Cell<D: Disk> {
     pub(crate) alloc: Global,
@@ -62,7 +65,7 @@ impl<D: Disk> Model for Cell<D> {
     ghost invariant = { λ c. IsSound c.config c.node c.core c.log c.pass c.posted c.down };
 }
 
-/// What a cell would have been made of. Memory ran out, and both come back.
+/// The log and the pass of a cell that was not made because memory ran out.
 #[derive(Drop)]
 pub struct Unmade<D: Disk> {
     pub log: Option<Log<D>>,
@@ -70,8 +73,9 @@ pub struct Unmade<D: Disk> {
 }
 
 impl<D: Disk> Cell<D> {
-    /// A node of the configuration to which nothing has happened. It has a log, which is ready and without entries, exactly
-    /// if it is an acceptor or a coordinator. The pass is that of the node, and has seen no record of it.
+    /// The cell of a node to which nothing has happened. `log` is a ready log without entries if
+    /// the node is an acceptor or a coordinator, and `None` otherwise. `pass` is that of the node,
+    /// and has seen no record of it. If memory runs out, both come back.
     pub fn new(
         alloc: Global,
         config: Config,
@@ -102,33 +106,33 @@ impl<D: Disk> Cell<D> {
         }
     }
 
-    /// How many records of its node the list of its pass has. It takes no memory.
+    /// How many records of its node the list of its pass has.
     pub fn posted(&self) -> u64
         ensures { result ≡ length (own self.now.node (records self.now.pass)) }
     {
         self.posted
     }
 
-    /// How many records its pass has seen. It takes no memory.
+    /// How many records its pass has seen.
     pub fn seen(&self) -> u64
         ensures { result ≡ length self.now.pass.seen }
     {
         self.pass.seen()
     }
 
-    /// Whether the node is down. If it is up, its log keeps the durable part of its state. Each record of the node was legal
-    /// where it stands in the list of its pass. It takes no memory.
+    /// Whether the node is down. If it is up, its log keeps the durable part of its state. Up or
+    /// down, each record of the node was legal at its place in the list of its pass.
     pub fn is_down(&self) -> bool
         ensures down { IsTrue result ↔ IsSome self.now.down }
         ensures node { self.now.pass.node ≡ self.now.node }
         ensures lawful { OwnLawful self.now.config self.now.node (records self.now.pass) }
-        ensures core { self.now.core ≡ core_at self.now.config self.now.node (entries_in (records self.now.pass)) }
+        ensures core { self.now.core ≡ core_at self.now.config self.now.node (newest_first (records self.now.pass)) }
         ensures kept { self.now.down ≡ None → Keeps (part_in (opening self.now.config self.now.node)) (part_in self.now.core) self.now.log }
     {
         self.down.is_some()
     }
 
-    /// What it learned, and `None` exactly if it is no learner. It takes no memory.
+    /// The history that it has learned, and `None` exactly if it is no learner.
     pub fn learned(&self) -> Option<&History>
         ensures { option_map history_of (option_copied result) ≡ learned_in self.now.core }
     {
@@ -138,7 +142,7 @@ impl<D: Disk> Cell<D> {
         }
     }
 
-    /// The last entry of its log, and `None` exactly if it has no log or the log has no entry. It takes no memory.
+    /// The last entry of its log, and `None` exactly if it has no log or the log has no entry.
     pub fn durable(&self) -> Option<&Durable>
         ensures { option_copied result ≡ last_entry self.now.log }
     {
@@ -148,8 +152,9 @@ impl<D: Disk> Cell<D> {
         }
     }
 
-    /// Message k, from 0, of the list that its pass has seen at the end of this call, and `None` exactly if that list has
-    /// no message k. The pass has a turn at the wire; nothing else of the cell changes.
+    /// Message k, counted from 0, of the list that its pass has seen at the end of this call, and
+    /// `None` exactly if that list has no message k. The pass has a turn at the wire, also if
+    /// memory runs out. Nothing else of the cell changes.
     pub fn look<W: Wait>(
         &mut self,
         rt: &W,
@@ -166,9 +171,10 @@ impl<D: Disk> Cell<D> {
         wire.read(rt, &mut self.pass, k)
     }
 
-    /// Takes over all nodes that another cell's pass holds, and has then seen the longer of the two lists. One of the two
-    /// passes holds the node of this cell, and has seen of it just the records that this cell's pass has seen. States and logs
-    /// stay the same. It takes no memory and waits for nobody.
+    /// Takes over all nodes that another cell's pass holds. This cell's pass has then seen the
+    /// longer of the two lists. One of the two passes has to hold the node of this cell, and to
+    /// have seen exactly the records of it that this cell's pass has seen. States and logs are
+    /// unchanged.
     pub fn meet(&mut self, wire: &Wire<PaxosRules>, other: &mut Cell<D>)
         requires own { self.old.pass.wire ≡ wire.now.id }
         requires own_too { other.old.pass.wire ≡ wire.now.id }
@@ -182,7 +188,7 @@ impl<D: Disk> Cell<D> {
         wire.meet(&mut self.pass, &mut other.pass);
     }
 
-    /// Its pass and its log. It takes no memory.
+    /// Returns its pass and its log.
     pub fn into_parts(self) -> (Pass, Option<Log<D>>)
         ensures pass { result.0 ≡ self.pass }
         ensures log { result.1 ≡ self.log }

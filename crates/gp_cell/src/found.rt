@@ -1,10 +1,10 @@
-//! What a log was found to have.
+//! What was found in a log.
 ghost use Rattle.std.specs.Prelude.{◌≡◌, cond, Some, None};
 
 use gp_msg::Durable;
 
-/// What a log was found to have: the part with which its node falls, which is the last entry if there is one; and
-/// whether the entries are of version 1 of the format.
+/// What was found in a log: the durable part of its node, which is the last entry if there is one;
+/// and whether the entries are of version 1 of the format.
 #[derive(Drop, Debug)]
 pub(crate) struct Found {
     pub(crate) part: Durable,

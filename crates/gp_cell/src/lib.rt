@@ -1,5 +1,5 @@
-//! Running nodes: each has its protocol state, its log and its pass at a wire, makes moves, and comes up again after
-//! its disk failed.
+//! Running nodes: each has its protocol state, its log and its pass at a wire, makes moves, and
+//! recovers after its disk failed.
 #![tactic(auto)]
 
 mod cell;

@@ -1,4 +1,4 @@
-//! What a move would make.
+//! Planning a move: the next state, and the record of the step.
 ghost use Rattle.std.specs.Prelude.{◌≡◌, ◌<◌, ◌-◌, ◌^◌, true, map, IfOk};
 ghost use Rattle.std.specs.Option.{option_map, option_to_list, option_copied};
 ghost use Rattle.gp_round.specs.Configs.{is_owner};
@@ -25,7 +25,7 @@ pub struct Plan {
 }
 
 impl Plan {
-    /// The record that would be posted. It takes no memory.
+    /// The record that would be posted.
     pub fn made(&self) -> &Record
         ensures { result.now ≡ self.now.made }
     {
@@ -57,7 +57,7 @@ fn begin(coordinator: &Coordinator, round: Round) -> Result<(Coordinator, Outs),
     Ok((next, out))
 }
 
-// The epoch of a message; a proposal is of no epoch.
+// The epoch of a message, and 0 for a proposal, which has none.
 fn epoch_of(m: &Msg) -> u32
     ensures { result ≡ epoch_of (message_of m.now) }
 {
@@ -71,8 +71,9 @@ fn epoch_of(m: &Msg) -> u32
     }
 }
 
-// A node takes a message. The last epoch that its type has cannot be left, so its messages are refused as if memory
-// ran out. A run has fewer epochs than records, so none comes to it.
+// A node takes a message. The last epoch that its type has cannot be left, so a message of that
+// epoch is refused as if memory ran out. A run has fewer epochs than records, so it does not get
+// there.
 fn take(alloc: Global, core: &Core, m: &Msg) -> Result<(Core, Outs), NoMemory>
     ensures next { IfOk result (λ r. r.0 ≡ (took core.now (message_of m.now)).0) }
     ensures sent { IfOk result (λ r. map message_of r.1 ≡ option_to_list (took core.now (message_of m.now)).1) }
@@ -151,7 +152,7 @@ fn event_of(node: Node, mv: &Move) -> Result<Event, NoMemory>
     }
 }
 
-/// What a move of a node would make of its core, where `m` is the message that it takes.
+/// What a move of a node would make of its core. `m` is the message that the move takes.
 pub(crate) fn make_plan(
     alloc: Global,
     node: Node,

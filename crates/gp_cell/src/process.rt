@@ -3,7 +3,7 @@ ghost use Rattle.std.specs.Prelude.{◌≡◌, ◌<◌, ◌^◌, length, slice_g
 ghost use Rattle.std.specs.Option.{option_map};
 ghost use Rattle.gp_msg.specs.Reads.{kind_of};
 ghost use Rattle.gp_wire.specs.Lists.{Has};
-ghost use Rattle.gp_wire.specs.Messages.{messages_in};
+ghost use Rattle.gp_msg.specs.Records.{messages_in};
 ghost use Rattle.gp_wire.specs.Known.{records};
 ghost use Rattle.gp_wire.specs.Passes.{HadTurn, nothing};
 ghost use Rattle.gp_work.specs.Doing.{HasRisen};
@@ -21,8 +21,9 @@ use gp_work::{Move, Process, RiseFault, StepFault};
 use std::sync::Wait;
 
 impl<D: Disk> Cell<D> {
-    /// The kind of message k, from 0, of the list that its pass has seen at the end of this call, and `None` exactly if
-    /// that list has no message k. The pass has a turn at the wire; nothing else of the cell changes. It takes no memory.
+    /// The kind of message k, counted from 0, of the list that its pass has seen at the end of this
+    /// call, and `None` exactly if that list has no message k. The pass has a turn at the wire.
+    /// Nothing else of the cell changes.
     pub fn kind_of<W: Wait>(&mut self, rt: &W, wire: &Wire<PaxosRules>, k: u64) -> Option<MsgKind>
         requires own { self.old.pass.wire ≡ wire.now.id }
         requires holds { Has self.old.pass.node self.old.pass.holds }

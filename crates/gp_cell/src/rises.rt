@@ -1,11 +1,11 @@
-//! A running node comes up again.
+//! The recovery of a running node.
 ghost use Rattle.std.specs.Prelude.{◌≡◌, [], None, Some, length, IsSome, IfOk, IfErr, IfSome, OnOk, OnErr};
 ghost use Rattle.gp_msg.specs.declared.event.Event.TheVariants as Event;
 ghost use Rattle.gp_msg.specs.Messages.{part_of};
 ghost use Rattle.gp_run.specs.Messages.{messages};
-ghost use Rattle.gp_run.specs.Runs.{entries_in};
+ghost use Rattle.gp_run.specs.Runs.{newest_first};
 ghost use Rattle.gp_wire.specs.Lists.{Has};
-ghost use Rattle.gp_wire.specs.Messages.{messages_in};
+ghost use Rattle.gp_msg.specs.Records.{messages_in};
 ghost use Rattle.gp_wire.specs.Known.{records};
 ghost use Rattle.gp_rules.specs.Own.{own};
 ghost use Rattle.gp_work.specs.Moves.{event_of, Fits, HasRoom};
@@ -30,7 +30,7 @@ use gp_wire::Wire;
 use gp_work::{Move, RiseFault};
 use std::sync::Wait;
 
-/// A core after a fall, and the record of the fall.
+/// A core after a crash, and the record of the crash.
 #[derive(Drop)]
 struct Revived {
     next: Core,
@@ -42,7 +42,7 @@ impl<D: Disk> Cell<D> {
     fn downed(&self) -> Result<Move, NoMemory>
         requires down { IsSome self.now.down }
         ensures same { IfOk result (λ mv. self.now.down ≡ Some mv) }
-        ensures went { IfOk result (λ mv. WentDown self.now.config self.now.node self.now.log (messages (entries_in (records self.now.pass))) mv) }
+        ensures went { IfOk result (λ mv. WentDown self.now.config self.now.node self.now.log (messages (newest_first (records self.now.pass))) mv) }
         ensures room { IfOk result (λ mv. HasRoom (length (own self.now.node (records self.now.pass))) mv) }
     {
         match &self.down {
@@ -51,7 +51,7 @@ impl<D: Disk> Cell<D> {
         }
     }
 
-    // Makes its log ready again, and answers what the log has.
+    // Makes its log ready again, and returns what the log has.
     fn reopen_log(&mut self) -> Result<Found, RiseFault>
         requires down { IsSome self.old.down }
         ensures rest { (self.new.config ≡ self.old.config) × (self.new.node ≡ self.old.node) × (self.new.core ≡ self.old.core) × (self.new.pass ≡ self.old.pass) × (self.new.down ≡ self.old.down) }
@@ -69,7 +69,8 @@ impl<D: Disk> Cell<D> {
         }
     }
 
-    // What a fall with this part keeps of a move, if the part is that before the move or that after it.
+    // What a crash that leaves this part keeps of a move, if the part is the one before the move or
+    // the one after it.
     fn judge(
         &self,
         mv: &Move,
@@ -80,12 +81,12 @@ impl<D: Disk> Cell<D> {
         requires fits { Fits self.now.config self.now.node mv.now }
         requires thought { IsThought self.now mv.now plan.now }
         ensures fall { IfOk result (λ o. IfSome o (IsFall self.now mv.now (part_of part.now))) }
-        ensures none { IfOk result (λ o. o ≡ None → FitsNone self.now.core (acts self.now.node self.now.core (messages (entries_in (records self.now.pass))) (event_of self.now.node mv.now)).0 (part_of part.now)) }
+        ensures none { IfOk result (λ o. o ≡ None → FitsNone self.now.core (acts self.now.node self.now.core (messages (newest_first (records self.now.pass))) (event_of self.now.node mv.now)).0 (part_of part.now)) }
     {
         fit(&self.core, &plan.next, mv, part)
     }
 
-    // The record of a fall with this part, and the core that the fall leaves.
+    // The record of a crash that leaves this part, and the core after the crash.
     fn fall_with(&self, part: Durable, kept: Option<Kept>) -> Result<Revived, NoMemory>
         ensures next { IfOk result (λ r. r.next ≡ fell self.now.core (part_of part)) }
         ensures node { IfOk result (λ r. r.item.node ≡ self.now.node) }
@@ -100,7 +101,7 @@ impl<D: Disk> Cell<D> {
         Ok(Revived { next, item })
     }
 
-    // The record of a fall with what its log has, and the core that the fall leaves.
+    // The record of a crash that leaves what the log has, and the core after the crash.
     fn fall(&self, mv: &Move, plan: &Plan, found: Found) -> Result<Revived, RiseFault>
         requires logged { IsLogged self.now.node }
         requires fits { Fits self.now.config self.now.node mv.now }
@@ -129,7 +130,7 @@ impl<D: Disk> Cell<D> {
         }
     }
 
-    // Makes its log ready, and makes the record of its fall and the core that the fall leaves.
+    // Makes its log ready, and makes the record of its crash and the core after the crash.
     fn revive<W: Wait>(
         &mut self,
         rt: &W,
@@ -169,15 +170,17 @@ impl<D: Disk> Cell<D> {
         made
     }
 
-    /// Brings a node that is down up again, and answers how many messages there are then. It makes the log ready again,
-    /// compares its last entry, or the part of a node to which nothing has happened if there is none, with the durable
-    /// part before the move in which the node went down and with that after it, and posts one fall. The fall keeps the move
-    /// exactly if only the part after it fits.
+    /// Recovers a node that is down, and returns how many messages there are then. It makes the log
+    /// ready again, compares the part that the log has with the durable parts before and after the
+    /// move in which the node went down, and posts one crash (`Fall`). The part that the log has is
+    /// its last entry, or that of a node to which nothing has happened if there is none. The crash
+    /// keeps the move exactly if only the part after it fits.
     ///
-    /// It is refused with `Disk` only if the number of faults of the disk has risen; with `NotLog` if the bytes of the disk
-    /// break the format of a log, at the smallest place where they do; with `Changed`, which has the last entry that was found,
-    /// if neither part fits or the entries are of version 1 of the format; and with `NoMemory` if memory runs out. The node is
-    /// then still down, and posted nothing.
+    /// It returns `Disk` only if the number of faults of the disk has increased; `NotLog` only if
+    /// the bytes of the disk break the format of a log, with the smallest place where they do;
+    /// `Changed`, with the last entry that was found, only if neither part fits or the entries are
+    /// of version 1 of the format; and `NoMemory` if memory runs out. After each of these the node
+    /// is still down, and has posted nothing.
     pub fn rise<W: Wait>(&mut self, rt: &W, wire: &Wire<PaxosRules>) -> Result<u64, RiseFault>
         requires own { self.old.pass.wire ≡ wire.now.id }
         requires config { self.old.config ≡ wire.now.rules.config }

@@ -1,4 +1,4 @@
-//! What a node that went down needs to come up again.
+//! What a node that is down needs to recover.
 ghost use Rattle.std.specs.Prelude.{◌≡◌, ◌↔◌, true, false, Some, None, OnOk, IfOk, IfErr, IfSome, IsSome, IsTrue};
 ghost use Rattle.std.specs.Option.{option_map};
 ghost use Rattle.gp_msg.specs.Messages.{part_of};
@@ -20,7 +20,7 @@ use gp_rules::Core;
 use gp_vlog::{Log, OpenFault};
 use gp_work::{Move, RiseFault};
 
-/// Makes the log of a node ready again, and answers what it has: its last entry, or the first part.
+/// Makes the log of a node ready again, and returns what it has: its last entry, or the first part.
 pub(crate) fn reopen<D: Disk>(
     log: &mut Option<Log<D>>,
     first: Option<Durable>,
@@ -106,7 +106,7 @@ fn kept_of(mv: &Move) -> Option<Kept>
     }
 }
 
-/// What a fall with this part keeps, if the part is that of the core or of the next core.
+/// What a crash that leaves this part keeps, if the part is that of the core or of the next core.
 pub(crate) fn fit(
     core: &Core,
     next: &Core,
@@ -125,7 +125,7 @@ pub(crate) fn fit(
     Ok(None)
 }
 
-/// The core once it fell with this part.
+/// The core after a crash that leaves this part.
 pub(crate) fn fallen(core: &Core, part: Durable) -> Result<Core, NoMemory>
     ensures { IfOk result (λ next. next ≡ fell core.now (part_of part)) }
 {
@@ -145,7 +145,7 @@ pub(crate) fn fallen(core: &Core, part: Durable) -> Result<Core, NoMemory>
     }
 }
 
-/// An equal move.
+/// A copy of a move.
 pub(crate) fn copy_move(mv: &Move) -> Result<Move, NoMemory>
     ensures { IfOk result (λ copy. copy ≡ mv.now) }
 {

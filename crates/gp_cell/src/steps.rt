@@ -1,11 +1,11 @@
-//! The moves of a running node.
+//! The steps of a running node.
 ghost use Rattle.std.specs.Prelude.{◌≡◌, ◌⊎◌, ◌<◌, ◌^◌, ◌+◌, ◌++◌, List, true, false, None, Some, length, IfOk, IfErr, OnOk, OnErr};
 ghost use Rattle.std.specs.Option.{option_map, option_copied};
 ghost use Rattle.gp_msg.specs.Messages.{Stamped, message_of, entry_of};
 ghost use Rattle.gp_run.specs.Messages.{messages};
-ghost use Rattle.gp_run.specs.Runs.{entries_in};
+ghost use Rattle.gp_run.specs.Runs.{newest_first};
 ghost use Rattle.gp_wire.specs.Lists.{Has};
-ghost use Rattle.gp_wire.specs.Messages.{messages_in};
+ghost use Rattle.gp_msg.specs.Records.{messages_in};
 ghost use Rattle.gp_wire.specs.Known.{records, HoldsAll};
 ghost use Rattle.gp_work.specs.declared.faults.StepFault.TheVariants as StepFault;
 ghost use Rattle.gp_rules.specs.Own.{own};
@@ -29,13 +29,13 @@ use gp_wire::{Pass, Wire};
 use gp_work::{Move, StepFault};
 use std::sync::Wait;
 
-/// A list with so many records is answered as if memory ran out.
+/// A cell whose pass has seen this many records or more refuses a step as if memory ran out.
 pub const MOST_RECORDS: u64 = 2_147_483_648;
 
 impl<D: Disk> Cell<D> {
-    /// What a move would make, where `m` is the message that the move takes: the next state of the node, and the record of
-    /// its step, which may be posted. It changes nothing and waits for nobody. It is refused if memory runs out, and if the
-    /// cell's pass has seen 2^31 records.
+    /// Plans a move: returns the next state of the node, and the record of its step, which may be
+    /// posted. `m` is the message that the move takes. Nothing changes. It returns `NoMemory` if
+    /// memory runs out, and also if the cell's pass has seen 2^31 records or more.
     pub fn think(&self, mv: &Move, m: Option<&Msg>) -> Result<Plan, NoMemory>
         requires fits { Fits self.now.config self.now.node mv.now }
         requires room { HasRoom (length (own self.now.node (records self.now.pass))) mv.now }
@@ -49,7 +49,7 @@ impl<D: Disk> Cell<D> {
         make_plan(self.alloc, self.node, &self.core, mv, m)
     }
 
-    // Reads the message that a move takes, and thinks.
+    // Reads the message that a move takes, and plans the move.
     pub(crate) fn prepare<W: Wait>(
         &mut self,
         rt: &W,
@@ -92,13 +92,14 @@ impl<D: Disk> Cell<D> {
         let _ready = log.is_ready();
     }
 
-    // Writes the durable part of the next core, if it is another one. Then the node is down until the record is posted.
+    // Writes the durable part of the next core, if it has changed. Then the node is down until the
+    // record is posted.
     fn write(&mut self, mv: Move, next: &Core) -> Result<(), StepFault>
         requires up { self.old.down ≡ None }
         requires ready { IsReadyLog D.content D.image self.old.log }
         requires role { HasRole self.old.node next.now }
         requires fits { Fits self.old.config self.old.node mv }
-        requires stands { IsNamed mv (named (messages (entries_in (records self.old.pass))) mv) }
+        requires stands { IsNamed mv (named (messages (newest_first (records self.old.pass))) mv) }
         ensures rest { (self.new.config ≡ self.old.config) × (self.new.node ≡ self.old.node) × (self.new.core ≡ self.old.core) × (self.new.pass ≡ self.old.pass) }
         ensures kept { OnOk result (Keeps (part_in (opening self.new.config self.new.node)) (part_in next.now) self.new.log) }
         ensures down { OnOk result (((self.new.down ≡ None) × (self.new.log ≡ self.old.log)) ⊎ (self.new.down ≡ Some mv)) }
@@ -126,7 +127,8 @@ impl<D: Disk> Cell<D> {
         }
     }
 
-    // Posts a record, by which the node has its next core and is up. If memory runs out, a node that is down stays down.
+    // Posts a record. The node then has its next core and is up. If memory runs out, a node that is
+    // down stays down.
     pub(crate) fn post<W: Wait>(
         &mut self,
         rt: &W,
@@ -138,8 +140,8 @@ impl<D: Disk> Cell<D> {
         requires config { self.old.config ≡ wire.now.rules.config }
         requires holds { Has self.old.pass.node self.old.pass.holds }
         requires node { made.node ≡ self.old.node }
-        requires lawful { IsLawful self.old.config (entries_in (records self.old.pass)) (entry_of made) }
-        requires next { (more : List Stamped) → next ≡ (acts self.old.node self.old.core (messages (entries_in (records self.old.pass)) ++ more) made.event).0 }
+        requires lawful { IsLawful self.old.config (newest_first (records self.old.pass)) (entry_of made) }
+        requires next { (more : List Stamped) → next ≡ (acts self.old.node self.old.core (messages (newest_first (records self.old.pass)) ++ more) made.event).0 }
         requires kept { Keeps (part_in (opening self.old.config self.old.node)) (part_in next) self.old.log }
         ensures rest { (self.new.config ≡ self.old.config) × (self.new.node ≡ self.old.node) × (self.new.log ≡ self.old.log) }
         ensures goes { GoesOn self.old.pass self.new.pass }
@@ -169,17 +171,20 @@ impl<D: Disk> Cell<D> {
         }
     }
 
-    /// Makes a move of a node that is up: reads the message that it takes, thinks, calls the gate, writes the durable
-    /// part to the log if it changes, and posts exactly one record. It answers how many messages there are then.
+    /// Makes a move of a node that is up, and posts exactly one record. Returns how many messages
+    /// there are then.
     ///
-    /// A part is appended to the log, or becomes its only entry if the log has no room for one more. `turn` is for the gate.
+    /// The step reads the message that the move takes, plans the move, calls the gate with `turn`,
+    /// and writes the durable part to the log if the part changes. The part is appended, or becomes
+    /// the only entry if the log has no room for one more.
     ///
-    /// It is refused with `Waiting` exactly if the message that the move takes was not sent yet, and then nothing but the
-    /// pass has changed. It is refused with `Full` if the log has no room even for this part alone, and with `Disk` only if
-    /// the number of faults of the disk has risen; the node is then down and remembers the move. If memory runs out, it is down
-    /// exactly if the log was being written, and otherwise nothing but the pass has changed. A refused move posts nothing.
+    /// It returns `Waiting` only if the message that the move takes was not sent yet, and then only
+    /// the pass has changed. It returns `Full` only if the log has no room for the part, even as
+    /// its only entry, and `Disk` only if the number of faults of the disk has increased. After
+    /// both the node is down and remembers the move. After `NoMemory` either the node is down and
+    /// remembers the move, or only the pass has changed. A move that is refused posts nothing.
     ///
-    /// A pass that holds all nodes sees no record then but the one that it posts.
+    /// If the pass holds all nodes, it sees no record except the one that it posts.
     pub fn step<W: Wait, G: Gate>(
         &mut self,
         rt: &W,
@@ -261,7 +266,7 @@ fn come_up(down: &mut Option<Move>)
     *down = None;
 }
 
-// The node is down, in this move.
+// The node is down since this move.
 fn go_down(down: &mut Option<Move>, mv: Move)
     ensures { down.new ≡ Some mv }
 {

@@ -65,8 +65,9 @@ pub(crate) fn is_same(a: &Durable, b: &Durable) -> bool
     }
 }
 
-/// The durable part of the next core, if it is another one. A log holds no part that breaks the rules of its format;
-/// it is refused as if memory ran out. No legal run makes such a part.
+/// The durable part of the next core, if it is not that of the core. A log holds no part that
+/// breaks the rules of its format, so such a part is refused as if memory ran out. No legal run
+/// makes one.
 pub(crate) fn new_part(core: &Core, next: &Core) -> Result<Option<Durable>, NoMemory>
     requires { SameKind (part_in core.now) (part_in next.now) }
     ensures same { IfOk result (λ d. d ≡ None → part_in next.now ≡ part_in core.now) }

@@ -6,7 +6,7 @@ use Rattle.gp_round.specs.Counts.{Counts}
 use Rattle.gp_msg.specs.declared.event.Event.{Event}
 use Rattle.gp_msg.specs.declared.record.Record.{Record}
 use Rattle.gp_msg.specs.Messages.{Entry, entry_of}
-use Rattle.gp_run.specs.Runs.{entries_in, events_of}
+use Rattle.gp_run.specs.Runs.{newest_first, oldest_first}
 use Rattle.gp_edge.specs.Faults.{Rose}
 use Rattle.gp_edge.specs.Reads.{ReadsUpTo}
 use Rattle.gp_report.specs.Texts.{report}
@@ -22,8 +22,8 @@ use Rattle.gp_retelling.specs.Texts.{run_text}
 use Rattle.gp_cli.specs.declared.runs.TheConstants.{MOST_READ}
 use Rattle.gp_cli.specs.declared.subcommand.Subcommand.{Subcommand}
 use Rattle.gp_cli.specs.declared.subcommand.Subcommand.TheVariants.{Play, Run, Sim, Drive, Log, Upgrade, Audit}
-use Rattle.gp_cli.specs.Outside.{Seen, Outside}
-use Rattle.gp_cli.specs.Endings.{Ending, Misused, Unread, Refuses, Plays, Drives, Simulates, Shows, DiskFails, Overflows, Breaks, Runs, Rejects, Upholds, Starved, status_of, text_of, run_to}
+use Rattle.gp_cli.specs.Outside.{DeviceState, Outside}
+use Rattle.gp_cli.specs.Endings.{Ending, Misused, Unread, Refuses, Plays, Drives, Simulates, Shows, DiskFails, Overflows, Breaks, Runs, Rejects, Upholds, Starved, status_of, ending_text, run_to}
 use Rattle.gp_cli.specs.Causes.{IsCauseFor}
 use Rattle.gp_cli.specs.Audits.{HasReadInput, IsAuditCause}
 use Rattle.gp_cli.specs.Logs.{TellsEnding}
@@ -33,7 +33,7 @@ use Rattle.gp_cli.proofs.Told.{nothing_left, same_status, one_status, starved_st
 -- ---- what was read
 
 -- what holds of the bytes read holds of the first bytes of the source
-input_is : (before now : Seen) (rest : List ℕ) (Holds : List ℕ → Type 0) → before.bytes ≡ Some rest → HasReadInput before now Holds → Holds (take MOST_READ rest)
+input_is : (before now : DeviceState) (rest : List ℕ) (Holds : List ℕ → Type 0) → before.bytes ≡ Some rest → HasReadInput before now Holds → Holds (take MOST_READ rest)
 input_is before now rest Holds tells read =
     let P : Option (List ℕ) → Type 0 = λ told. ReadsUpTo MOST_READ told now.bytes read.bytes in
     let taken : (read.bytes ≡ take MOST_READ rest) × (now.bytes ≡ Some (drop MOST_READ rest)) = subst P tells read.taken in
@@ -49,22 +49,22 @@ taken_whole rest short = let count = length-take MOST_READ rest in take_all MOST
 -- ---- what `run` prints
 
 -- the events of the run of some records are those of the records
-events_are : (list : List Record) → events_of (entries_in list) ≡ events_in list
+events_are : (list : List Record) → oldest_first (newest_first list) ≡ events_in list
 events_are [] = refl
 events_are (r ∷ rs) =
     let event : Entry → Event = λ e. e.event in
     ap (λ l. reverse (map event (map entry_of l))) (reverse-append (r ∷ []) rs)
     ∙ ap (λ l. reverse (map event l)) (map-append entry_of (reverse rs) (r ∷ []))
-    ∙ ap reverse (map-append event (entries_in rs) (entry_of r ∷ []))
-    ∙ reverse-append (map event (entries_in rs)) (r.event ∷ [])
+    ∙ ap reverse (map-append event (newest_first rs) (entry_of r ∷ []))
+    ∙ reverse-append (map event (newest_first rs)) (r.event ∷ [])
     ∙ ap (λ l. r.event ∷ l) (events_are rs)
 
-pub run_printed : (config : Counts) (list : List Record) (source : Seen) → HoldsRun config list source → HoldsPrinted source
+pub run_printed : (config : Counts) (list : List Record) (source : DeviceState) → HoldsRun config list source → HoldsPrinted source
 run_printed config list source holds =
-    let run = entries_in list in
+    let run = newest_first list in
     let same = events_are list in
     let upheld = let sayable = holds.run in run_upheld config run sayable.range sayable.legal sayable.within in
-    let is : IsPrinted (printed config run) config (events_of run) = upheld_printed (printed config run) config (events_of run) upheld in
+    let is : IsPrinted (printed config run) config (oldest_first run) = upheld_printed (printed config run) config (oldest_first run) upheld in
     let P : List Event → Type 0 = λ es. IsPrinted (trace config es ++ codes "--\n" ++ report config run) config es in
     (run_text config list, config, events_in list, holds.bytes, subst P same is)
 
@@ -90,7 +90,7 @@ module _ (before now : Outside) (status : ℕ) (trail : List Record) where
   clash : (ending : Ending) → (status_of ending ≡ 0 → ⊥) → Tells ending → status ≡ 0 → ⊥
   clash ending never_well told none_failed = never_well (done ending before.sink now.sink status told none_failed).well
 
-  upholds : (config : Counts) (events : List Event) (text : List ℕ) → IsAuditCause before.source now.source (Upholds config events text) → entries_in trail ≡ run_to (Upholds config events text) → Tells (Upholds config events text) → status ≡ 0 → AuditsRun before now trail
+  upholds : (config : Counts) (events : List Event) (text : List ℕ) → IsAuditCause before.source now.source (Upholds config events text) → newest_first trail ≡ run_to (Upholds config events text) → Tells (Upholds config events text) → status ≡ 0 → AuditsRun before now trail
   upholds config events text cause run told none_failed =
       let whole = done (Upholds config events text) before.sink now.sink status told none_failed in
       let ruled = cause.holds in record {
@@ -105,7 +105,7 @@ module _ (before now : Outside) (status : ℕ) (trail : List Record) where
         written = whole.written;
       }
 
-  pub audits_run : (ending : Ending) → IsCauseFor (Some Audit) before now ending → entries_in trail ≡ run_to ending → Tells ending → status ≡ 0 → AuditsRun before now trail
+  pub audits_run : (ending : Ending) → IsCauseFor (Some Audit) before now ending → newest_first trail ≡ run_to ending → Tells ending → status ≡ 0 → AuditsRun before now trail
   audits_run Misused cause run told none_failed = absurd cause
   audits_run Unread cause run told none_failed = absurd (clash Unread (λ e. cc) told none_failed)
   audits_run (Refuses line reason said) cause run told none_failed = absurd cause
@@ -183,7 +183,7 @@ module _ (before now : Outside) (status : ℕ) (trail : List Record) where
   audit_refuses (Overflows size need) cause told holds read_well = absurd cause
   audit_refuses (Breaks place) cause told holds read_well = absurd cause
   audit_refuses (Runs why config list text) cause told holds read_well = absurd cause
-  audit_refuses (Rejects line reason said) cause told holds read_well = same_status before.sink now.sink (text_of (Rejects line reason said)) 3 status told
+  audit_refuses (Rejects line reason said) cause told holds read_well = same_status before.sink now.sink (ending_text (Rejects line reason said)) 3 status told
   audit_refuses (Upholds config events text) cause told holds read_well =
       let ruled = cause.holds in
       let read : HasReadInput before.source now.source (λ bytes. IsPrinted bytes config events) = record { bytes = cause.bytes; taken = cause.taken; steady = cause.steady; holds = upheld_printed cause.bytes config events ruled.0 } in

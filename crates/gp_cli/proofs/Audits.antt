@@ -1,7 +1,7 @@
 -- From the verdict on an input to the end of an audit.
 use Rattle.std.proofs.Common.{◌≡◌, ℕ, List, Option, Result, Err, refl, sym, ap, subst, ◌∙◌}
 use Rattle.gp_msg.specs.declared.record.Record.{Record}
-use Rattle.gp_run.specs.Runs.{entries_in}
+use Rattle.gp_run.specs.Runs.{newest_first}
 use Rattle.gp_edge.specs.Reads.{ReadsUpTo}
 use Rattle.gp_text.specs.Reading.{Script, run_before}
 use Rattle.gp_text.specs.Limits.{IsLegalScript, IsLegalBefore}
@@ -17,7 +17,7 @@ use Rattle.gp_cli.specs.declared.subcommand.Operations.TheVariants.{Store}
 use Rattle.gp_cli.specs.declared.runs.TheConstants.{MOST_READ}
 use Rattle.gp_cli.specs.Machines.{IsInAgreementOfAll}
 use Rattle.gp_cli.specs.Texts.{rejection_text}
-use Rattle.gp_cli.specs.Outside.{Seen, Told}
+use Rattle.gp_cli.specs.Outside.{DeviceState, Told}
 use Rattle.gp_cli.specs.Endings.{Ending, Misused, Unread, Refuses, Plays, Drives, Simulates, Shows, DiskFails, Overflows, Breaks, Runs, Rejects, Upholds, Starved}
 use Rattle.gp_cli.specs.Audits.{IsVerdictCause, HasReadInput, IsAuditCause}
 use Rattle.gp_cli.specs.Serving.{EndsBy}
@@ -25,12 +25,12 @@ use Rattle.gp_cli.proofs.Machines.{script_agrees}
 use Rattle.gp_cli.proofs.Causes.{loses, because, agreeing}
 
 -- an input that is upheld, whose certificates were told
-pub upheld_ends : (bytes : List ℕ) (audited : Audited) (before now : Seen) (status : ℕ) (trail : List Record) → answers.IsAudited (verdict bytes) audited → trail ≡ audited.world.records → Told before now audited.text.items 0 5 status
+pub upheld_ends : (bytes : List ℕ) (audited : Audited) (before now : DeviceState) (status : ℕ) (trail : List Record) → answers.IsAudited (verdict bytes) audited → trail ≡ audited.world.records → Told before now audited.text.items 0 5 status
     → EndsBy (IsVerdictCause (verdict bytes)) before now status trail
 upheld_ends bytes audited before now status trail is same told =
     let upheld = is.upheld in
     let config = audited.world.config in
-    let run = ap entries_in same ∙ upheld.run in
+    let run = ap newest_first same ∙ upheld.run in
     let legal : IsLegalScript config upheld.events = subst RulesLegally upheld.ruled (rules_legally bytes) in record {
       ending = Upholds config upheld.events audited.text.items;
       cause = (upheld.ruled, subst (λ es. IsCertified config es audited.text.items) upheld.run is.certified);
@@ -51,13 +51,13 @@ rejected bytes result why line reason records is bad audits =
     subst Q bad (subst P is audits)
 
 -- such an input, whose line was told
-pub rejected_ends : (bytes : List ℕ) (result : Result Audited Unaudited) (why : Unaudited) (line : ℕ) (reason : AuditReason) (records : List Record) (before now : Seen) (status : ℕ) (trail : List Record) → result ≡ Err why → why ≡ unaudited.Bad line reason records
+pub rejected_ends : (bytes : List ℕ) (result : Result Audited Unaudited) (why : Unaudited) (line : ℕ) (reason : AuditReason) (records : List Record) (before now : DeviceState) (status : ℕ) (trail : List Record) → result ≡ Err why → why ≡ unaudited.Bad line reason records
     → answers.Audits (verdict bytes) result → trail ≡ records → Told before now (rejection_text line reason) 3 3 status → EndsBy (IsVerdictCause (verdict bytes)) before now status trail
 rejected_ends bytes result why line reason records before now status trail is bad audits same told =
     let at = rejected bytes result why line reason records is bad audits in
-    let run : entries_in trail ≡ run_before at.before = ap entries_in same ∙ at.run in
+    let run : newest_first trail ≡ run_before at.before = ap newest_first same ∙ at.run in
     let legal : IsLegalBefore at.before = subst RulesLegally at.ruled (rules_legally bytes) in
-    let own = agreeing Store at.before (entries_in trail) legal run in record {
+    let own = agreeing Store at.before (newest_first trail) legal run in record {
       ending = Rejects line reason at.before;
       cause = at.ruled;
       run = run;
@@ -69,7 +69,7 @@ rejected_ends bytes result why line reason records before now status trail is ba
     }
 
 -- the cause by the verdict on what was read is one by the source
-input_cause : (before now : Seen) (bytes : List ℕ) → ReadsUpTo MOST_READ before.bytes now.bytes bytes → now.faults ≡ before.faults → (ending : Ending) → IsVerdictCause (verdict bytes) ending → IsAuditCause before now ending
+input_cause : (before now : DeviceState) (bytes : List ℕ) → ReadsUpTo MOST_READ before.bytes now.bytes bytes → now.faults ≡ before.faults → (ending : Ending) → IsVerdictCause (verdict bytes) ending → IsAuditCause before now ending
 input_cause before now bytes taken steady Misused cause = cause
 input_cause before now bytes taken steady Unread cause = absurd cause
 input_cause before now bytes taken steady (Refuses line reason said) cause = cause
@@ -86,12 +86,12 @@ input_cause before now bytes taken steady (Upholds config events text) cause = r
 input_cause before now bytes taken steady Starved cause = (steady, loses MOST_READ before.bytes now.bytes bytes taken)
 
 -- an input that was read up to the limit ends as an input
-pub input_ends : (rest left before now : Seen) (status : ℕ) (trail : List Record) (bytes input : List ℕ) → input ≡ bytes → ReadsUpTo MOST_READ rest.bytes left.bytes bytes → left.faults ≡ rest.faults
+pub input_ends : (rest left before now : DeviceState) (status : ℕ) (trail : List Record) (bytes input : List ℕ) → input ≡ bytes → ReadsUpTo MOST_READ rest.bytes left.bytes bytes → left.faults ≡ rest.faults
     → EndsBy (IsVerdictCause (verdict input)) before now status trail → EndsBy (IsAuditCause rest left) before now status trail
 input_ends rest left before now status trail bytes input same taken steady ends =
     let Q : List ℕ → Type 0 = λ b. EndsBy (IsVerdictCause (verdict b)) before now status trail in
     because (IsVerdictCause (verdict bytes)) (IsAuditCause rest left) before now status trail (input_cause rest left bytes taken steady) (subst Q same ends)
 
 -- what the trace of a refused input says before the refused line is legal
-pub read_before_legal : (before now : Seen) (line : ℕ) (reason : AuditReason) (said : Option Script) → HasReadInput before now (λ bytes. verdict bytes ≡ Rejected line reason said) → IsLegalBefore said
+pub read_before_legal : (before now : DeviceState) (line : ℕ) (reason : AuditReason) (said : Option Script) → HasReadInput before now (λ bytes. verdict bytes ≡ Rejected line reason said) → IsLegalBefore said
 read_before_legal before now line reason said read = subst RulesLegally read.holds (rules_legally read.bytes)

@@ -2,9 +2,9 @@
 use Rattle.std.proofs.Common.{◌≡◌, ℕ, zero, suc, ◌<◌, Bool, List, [], ◌∷◌, length, Option, Some, refl, sym, ap, ◌∙◌, subst, arith}
 use Rattle.std.specs.Prelude.{◌≢◌, slice_get, slice_set}
 use Rattle.std.specs.List.{remove, insert}
-use Rattle.gp_cli.specs.Outside.{Seen, seen, disks_seen, AllBut}
+use Rattle.gp_cli.specs.Outside.{DeviceState, device, disk_states, AllBut}
 use Rattle.gp_msg.specs.declared.record.Record.{Record}
-use Rattle.gp_cli.specs.Causes.{log_cause, seen_at}
+use Rattle.gp_cli.specs.Causes.{log_cause, device_at}
 use Rattle.gp_cli.specs.Logs.{LogEnds}
 use Rattle.gp_cli.specs.Serving.{EachDisk, EndsBy}
 use Rattle.gp_cli.proofs.Causes.{log_ends}
@@ -68,23 +68,23 @@ module _ {D : Type 0} where
 
 -- what is seen of a disk at its place
 module _ {D : Type 0} (content : D → Option (List ℕ)) (faults : D → ℕ) where
-  pub seen_there : (xs : List D) (k : ℕ) (d : D) → slice_get xs k ≡ Some d → seen_at k (disks_seen content faults xs) ≡ seen (content d) (faults d)
-  seen_there [] k d at = cc
-  seen_there (x ∷ xs) zero d at = ap (λ (y : D). seen (content y) (faults y)) (let e : x ≡ d = cc in e)
-  seen_there (x ∷ xs) (suc k) d at = seen_there xs k d at
+  pub device_there : (xs : List D) (k : ℕ) (d : D) → slice_get xs k ≡ Some d → device_at k (disk_states content faults xs) ≡ device (content d) (faults d)
+  device_there [] k d at = cc
+  device_there (x ∷ xs) zero d at = ap (λ (y : D). device (content y) (faults y)) (let e : x ≡ d = cc in e)
+  device_there (x ∷ xs) (suc k) d at = device_there xs k d at
 
-  pub seen_put_back : (xs ys : List D) (k : ℕ) (d : D) → k < length xs → ys ≡ insert (remove xs k) k d → seen_at k (disks_seen content faults ys) ≡ seen (content d) (faults d)
-  seen_put_back xs ys k d lt is = seen_there ys k d (ap (λ (zs : List D). slice_get zs k) (is ∙ put_back xs k d lt) ∙ set_same xs k d lt)
+  pub device_put_back : (xs ys : List D) (k : ℕ) (d : D) → k < length xs → ys ≡ insert (remove xs k) k d → device_at k (disk_states content faults ys) ≡ device (content d) (faults d)
+  device_put_back xs ys k d lt is = device_there ys k d (ap (λ (zs : List D). slice_get zs k) (is ∙ put_back xs k d lt) ∙ set_same xs k d lt)
 
 -- what came of the disk at its place came of it in the list
 module _ {D : Type 0} (content : D → Option (List ℕ)) (faults : D → ℕ) where
-  pub ends_there : (upgrades : Bool) (xs ys : List D) (k : ℕ) (was now : D) (before after : Seen) (status : ℕ) (trail : List Record) → k < length xs → slice_get xs k ≡ Some was → ys ≡ insert (remove xs k) k now
-      → LogEnds (log_cause upgrades k (seen (content was) (faults was)) (seen (content now) (faults now))) before after status → trail ≡ []
-      → EndsBy (log_cause upgrades k (seen_at k (disks_seen content faults xs)) (seen_at k (disks_seen content faults ys))) before after status trail
+  pub ends_there : (upgrades : Bool) (xs ys : List D) (k : ℕ) (was now : D) (before after : DeviceState) (status : ℕ) (trail : List Record) → k < length xs → slice_get xs k ≡ Some was → ys ≡ insert (remove xs k) k now
+      → LogEnds (log_cause upgrades k (device (content was) (faults was)) (device (content now) (faults now))) before after status → trail ≡ []
+      → EndsBy (log_cause upgrades k (device_at k (disk_states content faults xs)) (device_at k (disk_states content faults ys))) before after status trail
   ends_there upgrades xs ys k was now before after status trail lt at is ends none =
-      let first = seen_there content faults xs k was at in
-      let second = seen_put_back content faults xs ys k now lt is in
-      let there : LogEnds (log_cause upgrades k (seen_at k (disks_seen content faults xs)) (seen_at k (disks_seen content faults ys))) before after status =
-      subst (λ (s : Seen). LogEnds (log_cause upgrades k s (seen_at k (disks_seen content faults ys))) before after status) (sym first)
-      (subst (λ (s : Seen). LogEnds (log_cause upgrades k (seen (content was) (faults was)) s) before after status) (sym second) ends) in
-      log_ends (log_cause upgrades k (seen_at k (disks_seen content faults xs)) (seen_at k (disks_seen content faults ys))) _ before after status trail (λ ending cause. cause) there none
+      let first = device_there content faults xs k was at in
+      let second = device_put_back content faults xs ys k now lt is in
+      let there : LogEnds (log_cause upgrades k (device_at k (disk_states content faults xs)) (device_at k (disk_states content faults ys))) before after status =
+      subst (λ (s : DeviceState). LogEnds (log_cause upgrades k s (device_at k (disk_states content faults ys))) before after status) (sym first)
+      (subst (λ (s : DeviceState). LogEnds (log_cause upgrades k (device (content was) (faults was)) s) before after status) (sym second) ends) in
+      log_ends (log_cause upgrades k (device_at k (disk_states content faults xs)) (device_at k (disk_states content faults ys))) _ before after status trail (λ ending cause. cause) there none

@@ -15,7 +15,7 @@ use Rattle.gp_vlog.specs.Files.{Contents, is_limit, read_log}
 use Rattle.gp_vlog.specs.Logs.{LogState, Shows, IsReady, HoldsEntries, OldOrRenewed, StaysWhole, entry_for, has_old, log_entries}
 use Rattle.gp_vlog.specs.Reading.{BreaksAt}
 use Rattle.gp_vlog.proofs.Moments.{tell, told, stays, weaker, then_on}
-use Rattle.gp_cli.specs.Outside.{Seen, seen, Told}
+use Rattle.gp_cli.specs.Outside.{DeviceState, device, Told}
 use Rattle.gp_cli.specs.Endings.{Shown, Shows as shows, run_to, config_of}
 use Rattle.gp_cli.specs.Causes.{shown, IfLog, IsLogCause, IsUpgradeCause, last_alone, IsTakenOn, FitsAlone, HasRoomForLast, HasNoRoom}
 use Rattle.gp_cli.specs.Logs.{TellsEnding, LogEnds, open_ending, append_ending, HoldsLast, KeepsLast, TakesOn}
@@ -41,7 +41,7 @@ shows_it limit old ds size s h =
 -- ---- a log that is shown
 
 module _ {D : Type 0} (content : D → Option (List ℕ)) (image : D → List ℕ → Type 0) where
-  pub opened : (k : ℕ) (before now : Seen) (log : LogState D) → now ≡ before → before.bytes ≡ content log.disk → IsReady content image log → IsLogCause k before now (shows k (shown_of log.entries log.size))
+  pub opened : (k : ℕ) (before now : DeviceState) (log : LogState D) → now ≡ before → before.bytes ≡ content log.disk → IsReady content image log → IsLogCause k before now (shows k (shown_of log.entries log.size))
   opened k before now log same at ready =
       let P : Contents → Type 0 = λ found. shown_of log.entries log.size ≡ shown found in (
         refl,
@@ -51,20 +51,20 @@ module _ {D : Type 0} (content : D → Option (List ℕ)) (image : D → List �
             (h.contents, h.reads, shows_it log.limit log.is_old log.entries log.size s h)),
       )
 
-seen_alike : (bytes other : Option (List ℕ)) (faults more : ℕ) → bytes ≡ other → faults ≡ more → seen bytes faults ≡ seen other more
-seen_alike bytes other faults more e f = ap (λ (b : Option (List ℕ)). seen b faults) e ∙ ap (λ (n : ℕ). seen other n) f
+device_alike : (bytes other : Option (List ℕ)) (faults more : ℕ) → bytes ≡ other → faults ≡ more → device bytes faults ≡ device other more
+device_alike bytes other faults more e f = ap (λ (b : Option (List ℕ)). device b faults) e ∙ ap (λ (n : ℕ). device other n) f
 
-pub same_seen : (before now : Seen) → now.bytes ≡ before.bytes → now.faults ≡ before.faults → now ≡ before
-same_seen before now e f = seen_alike now.bytes before.bytes now.faults before.faults e f
+pub same_seen : (before now : DeviceState) → now.bytes ≡ before.bytes → now.faults ≡ before.faults → now ≡ before
+same_seen before now e f = device_alike now.bytes before.bytes now.faults before.faults e f
 
 -- ---- a log that was not opened
 
-pub unopened_cause : (k : ℕ) (before now : Seen) (why : OpenFault) → BreaksAt is_limit before.bytes why → HasOpenCause {T = Unit {0}} before.faults now.faults (Err why) → now.bytes ≡ before.bytes → IsLogCause k before now (open_ending why)
+pub unopened_cause : (k : ℕ) (before now : DeviceState) (why : OpenFault) → BreaksAt is_limit before.bytes why → HasOpenCause {T = Unit {0}} before.faults now.faults (Err why) → now.bytes ≡ before.bytes → IsLogCause k before now (open_ending why)
 unopened_cause k before now (opening.NotLog at) broken cause same = (same_seen before now same (cause.steady (λ x. x)), broken)
 unopened_cause k before now opening.Disk broken cause same = (cause.failed tt, same)
 unopened_cause k before now opening.NoMemory broken cause same = same_seen before now same (cause.steady (λ x. x))
 
-pub unopened_upgrade : (k : ℕ) (before now : Seen) (why : OpenFault) → BreaksAt is_limit before.bytes why → HasOpenCause {T = Unit {0}} before.faults now.faults (Err why) → now.bytes ≡ before.bytes → IsUpgradeCause k before now (open_ending why)
+pub unopened_upgrade : (k : ℕ) (before now : DeviceState) (why : OpenFault) → BreaksAt is_limit before.bytes why → HasOpenCause {T = Unit {0}} before.faults now.faults (Err why) → now.bytes ≡ before.bytes → IsUpgradeCause k before now (open_ending why)
 unopened_upgrade k before now (opening.NotLog at) broken cause same = (same_seen before now same (cause.steady (λ x. x)), broken)
 unopened_upgrade k before now opening.Disk broken cause same = cause.failed tt
 unopened_upgrade k before now opening.NoMemory broken cause same = cause.steady (λ x. x)
@@ -95,7 +95,7 @@ module _ {D : Type 0} (content : D → Option (List ℕ)) (image : D → List �
   read_alike : (was found : Contents) (s t : List ℕ) → t ≡ s → read_log is_limit s ≡ Ok was → read_log is_limit t ≡ Ok found → found ≡ was
   read_alike was found s t e h k = let both = sym k ∙ ap (read_log is_limit) e ∙ h in cc
 
-  pub taken_on : (k : ℕ) (before now : Seen) (old new : LogState D) → before.bytes ≡ content old.disk → now.bytes ≡ content new.disk → now.faults ≡ before.faults
+  pub taken_on : (k : ℕ) (before now : DeviceState) (old new : LogState D) → before.bytes ≡ content old.disk → now.bytes ≡ content new.disk → now.faults ≡ before.faults
       → IsReady content image old → TakesOn content image old new (Ok tt) → IsUpgradeCause k before now (shows k (shown_of new.entries new.size))
   taken_on k before now old new at_old at_new steady ready takes =
       let P : Contents → Contents → Type 0 = λ was found. IsTakenOn was found × (shown_of new.entries new.size ≡ shown found) in (
@@ -131,7 +131,7 @@ module _ {D : Type 0} (content : D → Option (List ℕ)) (image : D → List �
             )),
       )
 
-  pub not_taken_on : (k : ℕ) (before now : Seen) (old new : LogState D) (why : AppendFault) → before.bytes ≡ content old.disk → now.bytes ≡ content new.disk
+  pub not_taken_on : (k : ℕ) (before now : DeviceState) (old new : LogState D) (why : AppendFault) → before.bytes ≡ content old.disk → now.bytes ≡ content new.disk
       → IsReady content image old → HasCause {T = Unit {0}} before.faults now.faults (Err why) → TakesOn content image old new (Err why) → IsUpgradeCause k before now (append_ending why)
   not_taken_on k before now old new (append.Full size need) at_old at_new ready cause takes = (
     same_seen before now (at_new ∙ ap (λ (l : LogState D). content l.disk) takes.0 ∙ sym at_old) (cause.steady (λ x. x)),
@@ -203,54 +203,54 @@ module _ {D : Type 0} (content : D → Option (List ℕ)) (image : D → List �
 -- ---- how runs end
 
 module _ {D : Type 0} (content : D → Option (List ℕ)) (image : D → List ℕ → Type 0) (faults : D → ℕ) where
-  pub shows_ends : (k : ℕ) (disk out : D) (log : LogState D) (before now : Seen) (status : ℕ) → out ≡ log.disk → content log.disk ≡ content disk → faults log.disk ≡ faults disk → IsReady content image log
-      → Told before now (log_text k (map part_of log.entries) log.size) 0 5 status → LogEnds (IsLogCause k (seen (content disk) (faults disk)) (seen (content out) (faults out))) before now status
+  pub shows_ends : (k : ℕ) (disk out : D) (log : LogState D) (before now : DeviceState) (status : ℕ) → out ≡ log.disk → content log.disk ≡ content disk → faults log.disk ≡ faults disk → IsReady content image log
+      → Told before now (log_text k (map part_of log.entries) log.size) 0 5 status → LogEnds (IsLogCause k (device (content disk) (faults disk)) (device (content out) (faults out))) before now status
   shows_ends k disk out log before now status is same steady ready told = record {
     ending = shows k (shown_of log.entries log.size);
-    cause = opened content image k (seen (content disk) (faults disk)) (seen (content out) (faults out)) log
-        (seen_alike (content out) (content disk) (faults out) (faults disk) (ap content is ∙ same) (ap faults is ∙ steady)) (sym same) ready;
+    cause = opened content image k (device (content disk) (faults disk)) (device (content out) (faults out)) log
+        (device_alike (content out) (content disk) (faults out) (faults disk) (ap content is ∙ same) (ap faults is ∙ steady)) (sym same) ready;
     no_run = refl;
     no_config = refl;
     told = told;
   }
 
-  pub unopened_ends : (k : ℕ) (disk out : D) (why : OpenFault) (before now : Seen) (status : ℕ) → BreaksAt is_limit (content disk) why → HasOpenCause {T = Unit {0}} (faults disk) (faults out) (Err why) → content out ≡ content disk
-      → TellsEnding (open_ending why) before now status → LogEnds (IsLogCause k (seen (content disk) (faults disk)) (seen (content out) (faults out))) before now status
+  pub unopened_ends : (k : ℕ) (disk out : D) (why : OpenFault) (before now : DeviceState) (status : ℕ) → BreaksAt is_limit (content disk) why → HasOpenCause {T = Unit {0}} (faults disk) (faults out) (Err why) → content out ≡ content disk
+      → TellsEnding (open_ending why) before now status → LogEnds (IsLogCause k (device (content disk) (faults disk)) (device (content out) (faults out))) before now status
   unopened_ends k disk out why before now status broken cause same told = record {
     ending = open_ending why;
-    cause = unopened_cause k (seen (content disk) (faults disk)) (seen (content out) (faults out)) why broken cause same;
+    cause = unopened_cause k (device (content disk) (faults disk)) (device (content out) (faults out)) why broken cause same;
     no_run = open_without_run why;
     no_config = open_without_config why;
     told = told;
   }
 
-  pub not_upgraded_ends : (k : ℕ) (disk out : D) (why : OpenFault) (before now : Seen) (status : ℕ) → BreaksAt is_limit (content disk) why → HasOpenCause {T = Unit {0}} (faults disk) (faults out) (Err why) → content out ≡ content disk
-      → TellsEnding (open_ending why) before now status → LogEnds (IsUpgradeCause k (seen (content disk) (faults disk)) (seen (content out) (faults out))) before now status
+  pub not_upgraded_ends : (k : ℕ) (disk out : D) (why : OpenFault) (before now : DeviceState) (status : ℕ) → BreaksAt is_limit (content disk) why → HasOpenCause {T = Unit {0}} (faults disk) (faults out) (Err why) → content out ≡ content disk
+      → TellsEnding (open_ending why) before now status → LogEnds (IsUpgradeCause k (device (content disk) (faults disk)) (device (content out) (faults out))) before now status
   not_upgraded_ends k disk out why before now status broken cause same told = record {
     ending = open_ending why;
-    cause = unopened_upgrade k (seen (content disk) (faults disk)) (seen (content out) (faults out)) why broken cause same;
+    cause = unopened_upgrade k (device (content disk) (faults disk)) (device (content out) (faults out)) why broken cause same;
     no_run = open_without_run why;
     no_config = open_without_config why;
     told = told;
   }
 
-  pub takes_ends : (k : ℕ) (old new : LogState D) (result : Result (Unit {0}) AppendFault) (before now : Seen) (status : ℕ) → result ≡ Ok tt → IsReady content image old → TakesOn content image old new result → HasCause (faults old.disk) (faults new.disk) result
-      → Told before now (log_text k (map part_of new.entries) new.size) 0 5 status → LogEnds (IsUpgradeCause k (seen (content old.disk) (faults old.disk)) (seen (content new.disk) (faults new.disk))) before now status
+  pub takes_ends : (k : ℕ) (old new : LogState D) (result : Result (Unit {0}) AppendFault) (before now : DeviceState) (status : ℕ) → result ≡ Ok tt → IsReady content image old → TakesOn content image old new result → HasCause (faults old.disk) (faults new.disk) result
+      → Told before now (log_text k (map part_of new.entries) new.size) 0 5 status → LogEnds (IsUpgradeCause k (device (content old.disk) (faults old.disk)) (device (content new.disk) (faults new.disk))) before now status
   takes_ends k old new result before now status is ready takes cause told =
       let well : HasCause {T = Unit {0}} (faults old.disk) (faults new.disk) (Ok tt) = subst (λ (r : Result (Unit {0}) AppendFault). HasCause (faults old.disk) (faults new.disk) r) is cause in
       record {
         ending = shows k (shown_of new.entries new.size);
-        cause = taken_on content image k (seen (content old.disk) (faults old.disk)) (seen (content new.disk) (faults new.disk)) old new refl refl (well.steady (λ x. x)) ready (subst (TakesOn content image old new) is takes);
+        cause = taken_on content image k (device (content old.disk) (faults old.disk)) (device (content new.disk) (faults new.disk)) old new refl refl (well.steady (λ x. x)) ready (subst (TakesOn content image old new) is takes);
         no_run = refl;
         no_config = refl;
         told = told;
       }
 
-  pub takes_not_ends : (k : ℕ) (old new : LogState D) (result : Result (Unit {0}) AppendFault) (why : AppendFault) (before now : Seen) (status : ℕ) → result ≡ Err why → IsReady content image old → TakesOn content image old new result → HasCause (faults old.disk) (faults new.disk) result
-      → TellsEnding (append_ending why) before now status → LogEnds (IsUpgradeCause k (seen (content old.disk) (faults old.disk)) (seen (content new.disk) (faults new.disk))) before now status
+  pub takes_not_ends : (k : ℕ) (old new : LogState D) (result : Result (Unit {0}) AppendFault) (why : AppendFault) (before now : DeviceState) (status : ℕ) → result ≡ Err why → IsReady content image old → TakesOn content image old new result → HasCause (faults old.disk) (faults new.disk) result
+      → TellsEnding (append_ending why) before now status → LogEnds (IsUpgradeCause k (device (content old.disk) (faults old.disk)) (device (content new.disk) (faults new.disk))) before now status
   takes_not_ends k old new result why before now status is ready takes cause told = record {
     ending = append_ending why;
-    cause = not_taken_on content image k (seen (content old.disk) (faults old.disk)) (seen (content new.disk) (faults new.disk)) old new why refl refl ready
+    cause = not_taken_on content image k (device (content old.disk) (faults old.disk)) (device (content new.disk) (faults new.disk)) old new why refl refl ready
         (subst (λ (r : Result (Unit {0}) AppendFault). HasCause (faults old.disk) (faults new.disk) r) is cause) (subst (TakesOn content image old new) is takes);
     no_run = append_without_run why;
     no_config = append_without_config why;
@@ -258,12 +258,12 @@ module _ {D : Type 0} (content : D → Option (List ℕ)) (image : D → List �
   }
 
   -- the same from the disk before it was opened to the one that comes back
-  pub upgrade_ends : (k : ℕ) (disk out : D) (old new : LogState D) (before now : Seen) (status : ℕ) → out ≡ new.disk → content old.disk ≡ content disk → faults old.disk ≡ faults disk
-      → LogEnds (IsUpgradeCause k (seen (content old.disk) (faults old.disk)) (seen (content new.disk) (faults new.disk))) before now status → LogEnds (IsUpgradeCause k (seen (content disk) (faults disk)) (seen (content out) (faults out))) before now status
+  pub upgrade_ends : (k : ℕ) (disk out : D) (old new : LogState D) (before now : DeviceState) (status : ℕ) → out ≡ new.disk → content old.disk ≡ content disk → faults old.disk ≡ faults disk
+      → LogEnds (IsUpgradeCause k (device (content old.disk) (faults old.disk)) (device (content new.disk) (faults new.disk))) before now status → LogEnds (IsUpgradeCause k (device (content disk) (faults disk)) (device (content out) (faults out))) before now status
   upgrade_ends k disk out old new before now status is same steady ends =
-      let first = seen_alike (content old.disk) (content disk) (faults old.disk) (faults disk) same steady in
-      subst (λ (d : D). LogEnds (IsUpgradeCause k (seen (content disk) (faults disk)) (seen (content d) (faults d))) before now status) (sym is)
-      (subst (λ (s : Seen). LogEnds (IsUpgradeCause k s (seen (content new.disk) (faults new.disk))) before now status) first ends)
+      let first = device_alike (content old.disk) (content disk) (faults old.disk) (faults disk) same steady in
+      subst (λ (d : D). LogEnds (IsUpgradeCause k (device (content disk) (faults disk)) (device (content d) (faults d))) before now status) (sym is)
+      (subst (λ (s : DeviceState). LogEnds (IsUpgradeCause k s (device (content new.disk) (faults new.disk))) before now status) first ends)
 
 -- ---- renewing with the last entry
 

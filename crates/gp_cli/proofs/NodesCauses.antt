@@ -9,7 +9,7 @@ use Rattle.gp_round.specs.Counts.{Counts}
 use Rattle.gp_msg.specs.declared.record.Record.{Record}
 use Rattle.gp_msg.specs.Messages.{Entry}
 use Rattle.gp_run.specs.Legal.{Legal}
-use Rattle.gp_run.specs.Runs.{entries_in}
+use Rattle.gp_run.specs.Runs.{newest_first}
 use Rattle.gp_edge.specs.Disks.{IfRevealed}
 use Rattle.gp_edge.specs.Reads.{ReadsUpTo}
 use Rattle.gp_rules.specs.Cores.{opening, core_at, part_in}
@@ -31,7 +31,7 @@ use Rattle.gp_cli.specs.declared.ran.Trail.TheVariants.{Folded}
 use Rattle.gp_cli.specs.declared.runs.TheConstants.{MOST_READ}
 use Rattle.gp_cli.specs.declared.subcommand.Subcommand.{Subcommand}
 use Rattle.gp_cli.specs.declared.subcommand.Subcommand.TheVariants.{Run}
-use Rattle.gp_cli.specs.Outside.{Seen, seen, disks_seen, bytes_seen, faults_seen, Told}
+use Rattle.gp_cli.specs.Outside.{DeviceState, device, disk_states, device_bytes, device_faults, Told}
 use Rattle.gp_cli.specs.Endings.{Ending, Misused, Unread, Refuses, Plays, Drives, Simulates, Shows, DiskFails, Overflows, Breaks, Runs, Rejects, Upholds, Starved, end_text}
 use Rattle.gp_cli.specs.Run.{SomeFailed, MayPostNothing, IsEndText, HasRun, IsOffersCause, IsNodesCause}
 use Rattle.gp_cli.specs.Viewed.{TellsViewed}
@@ -45,21 +45,21 @@ use Rattle.gp_cli.proofs.Machines.{all_agree}
 -- ---- disks as they are seen
 
 module _ {D : Type 0} (content : D → Option (List ℕ)) (faults : D → ℕ) where
-  abbrev see : D → Seen
-  see d = seen (content d) (faults d)
+  abbrev see : D → DeviceState
+  see d = device (content d) (faults d)
 
   -- what is seen at a place is a disk there
-  seen_of : (o : Option D) (s : Seen) → option_map see o ≡ Some s → (d : D) × (o ≡ Some d) × (see d ≡ s)
+  seen_of : (o : Option D) (s : DeviceState) → option_map see o ≡ Some s → (d : D) × (o ≡ Some d) × (see d ≡ s)
   seen_of None s e = cc
   seen_of (Some d) s e = (d, refl, (let same : see d ≡ s = cc in same))
 
-  seen_in : (disks : List D) (k : ℕ) (s : Seen) → slice_get (disks_seen content faults disks) k ≡ Some s → (d : D) × (slice_get disks k ≡ Some d) × (see d ≡ s)
+  seen_in : (disks : List D) (k : ℕ) (s : DeviceState) → slice_get (disk_states content faults disks) k ≡ Some s → (d : D) × (slice_get disks k ≡ Some d) × (see d ≡ s)
   seen_in disks k s e = seen_of (slice_get disks k) s (sym (slice_get-map see disks k) ∙ e)
 
-  seen_out : (disks : List D) (k : ℕ) (d : D) → slice_get disks k ≡ Some d → slice_get (disks_seen content faults disks) k ≡ Some (see d)
+  seen_out : (disks : List D) (k : ℕ) (d : D) → slice_get disks k ≡ Some d → slice_get (disk_states content faults disks) k ≡ Some (see d)
   seen_out disks k d e = slice_get-map see disks k ∙ ap (option_map see) e
 
-  rose_seen : (old new : List D) → SomeRose faults old new → SomeFailed (disks_seen content faults old) (disks_seen content faults new)
+  rose_seen : (old new : List D) → SomeRose faults old new → SomeFailed (disk_states content faults old) (disk_states content faults new)
   rose_seen old new h = record {
     place = h.place;
     was = see h.was;
@@ -69,15 +69,15 @@ module _ {D : Type 0} (content : D → Option (List ℕ)) (faults : D → ℕ) w
     rose = h.rose;
   }
 
-  parts_seen : (config : Counts) (limit : ℕ) (run : List Entry) (disks : List D) → HoldParts content config limit run disks → HoldParts bytes_seen config limit run (disks_seen content faults disks)
+  parts_seen : (config : Counts) (limit : ℕ) (run : List Entry) (disks : List D) → HoldParts content config limit run disks → HoldParts device_bytes config limit run (disk_states content faults disks)
   parts_seen config limit run disks hold = λ k n s at there.
       let d = seen_in disks (place_at config k) s there in
-      subst (λ (x : Seen). IfRevealed x.bytes (EndsWith limit (part_in (opening config n)) (part_in (core_at config n run)))) d.2 (hold k n d.0 at d.1)
+      subst (λ (x : DeviceState). IfRevealed x.bytes (EndsWith limit (part_in (opening config n)) (part_in (core_at config n run)))) d.2 (hold k n d.0 at d.1)
 
   -- ---- why a run of nodes ended
 
   cause_seen : (config : Counts) (limit : ℕ) (old new : List D) (list : List Record) (why : RunEnd) → EndCause faults config limit old new (Some list) why
-      → EndCause faults_seen config limit (disks_seen content faults old) (disks_seen content faults new) (Some list) why
+      → EndCause device_faults config limit (disk_states content faults old) (disk_states content faults new) (Some list) why
   cause_seen config limit old new list end.Learned cause = tt
   cause_seen config limit old new list end.NoMemory cause = tt
   cause_seen config limit old new list end.Disk cause = rose_seen old new cause
@@ -99,9 +99,9 @@ module _ {D : Type 0} (content : D → Option (List ℕ)) (faults : D → ℕ) w
   -- what nodes came to, by what they posted
   pub has_run : (policy : RoundPolicy) (limit : ℕ) (viewed : Option (List ℕ)) (offers : Offers) (old new : List D) (why : RunEnd) (posted : Option (List Record)) → IfSome posted (IsRunOf policy offers.config offers.list) → (posted ≡ None → MayPostNothing why)
       → (why ≡ end.Learned → IfSome posted (HasLearnedAll offers.config offers.list)) → (why ≡ end.Learned → ¬ SomeRose faults old new → IfSome posted (IsQuietOrSettled policy offers.config offers.list))
-      → EndCause faults offers.config limit old new posted why → (why ≡ end.Learned → IfSome posted (λ list. HoldParts content offers.config limit (entries_in list) new))
+      → EndCause faults offers.config limit old new posted why → (why ≡ end.Learned → IfSome posted (λ list. HoldParts content offers.config limit (newest_first list) new))
       → (text : List ℕ) → IsEndText viewed why offers.config (records_in (trail_of posted)) text
-      → HasRun policy limit viewed (disks_seen content faults old) (disks_seen content faults new) offers why offers.config (records_in (trail_of posted)) text
+      → HasRun policy limit viewed (disk_states content faults old) (disk_states content faults new) offers why offers.config (records_in (trail_of posted)) text
   has_run policy limit viewed offers old new why None run none all quiet cause parts text says = record {
     own_config = refl;
     posted = inr (refl, none refl);
@@ -116,14 +116,14 @@ module _ {D : Type 0} (content : D → Option (List ℕ)) (faults : D → ℕ) w
     learned = λ is. record {
       all = all is;
       quiet = λ well. quiet is (λ rose. well (rose_seen old new rose));
-      parts = parts_seen offers.config limit (entries_in list) new (parts is);
+      parts = parts_seen offers.config limit (newest_first list) new (parts is);
     };
     says = says;
   }
 
   -- the same, where memory ran out in the end
   pub has_starved : (policy : RoundPolicy) (limit : ℕ) (viewed : Option (List ℕ)) (offers : Offers) (old new : List D) (posted : Option (List Record)) → IfSome posted (IsRunOf policy offers.config offers.list)
-      → HasRun policy limit viewed (disks_seen content faults old) (disks_seen content faults new) offers end.NoMemory offers.config (records_in (trail_of posted)) []
+      → HasRun policy limit viewed (disk_states content faults old) (disk_states content faults new) offers end.NoMemory offers.config (records_in (trail_of posted)) []
   has_starved policy limit viewed offers old new None run = record {
     own_config = refl;
     posted = inr (refl, inl refl);
@@ -140,18 +140,18 @@ module _ {D : Type 0} (content : D → Option (List ℕ)) (faults : D → ℕ) w
   }
 
   -- what nodes came to while readers viewed a key, as was told
-  pub has_viewed : (policy : RoundPolicy) (limit : ℕ) (key : List ℕ) (offers : Offers) (old new : List D) (posted : Option (List Record)) (before now : Seen) (status : ℕ) → IfSome posted (IsRunOf policy offers.config offers.list) → (why : RunEnd)
-      → ((text : List ℕ) → IsEndText (Some key) why offers.config (records_in (trail_of posted)) text → HasRun policy limit (Some key) (disks_seen content faults old) (disks_seen content faults new) offers why offers.config (records_in (trail_of posted)) text)
+  pub has_viewed : (policy : RoundPolicy) (limit : ℕ) (key : List ℕ) (offers : Offers) (old new : List D) (posted : Option (List Record)) (before now : DeviceState) (status : ℕ) → IfSome posted (IsRunOf policy offers.config offers.list) → (why : RunEnd)
+      → ((text : List ℕ) → IsEndText (Some key) why offers.config (records_in (trail_of posted)) text → HasRun policy limit (Some key) (disk_states content faults old) (disk_states content faults new) offers why offers.config (records_in (trail_of posted)) text)
       → (t : TellsViewed key why offers.config (records_in (trail_of posted)) before now status)
-      → HasRun policy limit (Some key) (disks_seen content faults old) (disks_seen content faults new) offers t.why offers.config (records_in (trail_of posted)) t.text
+      → HasRun policy limit (Some key) (disk_states content faults old) (disk_states content faults new) offers t.why offers.config (records_in (trail_of posted)) t.text
   has_viewed policy limit key offers old new posted before now status run why has t = elim t.as_ended [
     | inl is ↦
-        let Q : RunEnd → Type 0 = λ w. HasRun policy limit (Some key) (disks_seen content faults old) (disks_seen content faults new) offers w offers.config (records_in (trail_of posted)) t.text in
+        let Q : RunEnd → Type 0 = λ w. HasRun policy limit (Some key) (disk_states content faults old) (disk_states content faults new) offers w offers.config (records_in (trail_of posted)) t.text in
         subst Q (sym is) (has t.text (subst (λ (w : RunEnd). IsEndText (Some key) w offers.config (records_in (trail_of posted)) t.text) is t.says))
     | inr is ↦
-        let Q : RunEnd → Type 0 = λ w. HasRun policy limit (Some key) (disks_seen content faults old) (disks_seen content faults new) offers w offers.config (records_in (trail_of posted)) t.text in
+        let Q : RunEnd → Type 0 = λ w. HasRun policy limit (Some key) (disk_states content faults old) (disk_states content faults new) offers w offers.config (records_in (trail_of posted)) t.text in
         let none : t.text ≡ [] = subst (λ (w : RunEnd). IsEndText (Some key) w offers.config (records_in (trail_of posted)) t.text) is t.says in
-        subst Q (sym is) (subst (λ (text : List ℕ). HasRun policy limit (Some key) (disks_seen content faults old) (disks_seen content faults new) offers end.NoMemory offers.config (records_in (trail_of posted)) text) (sym none) (has_starved policy limit (Some key) offers old new posted run))
+        subst Q (sym is) (subst (λ (text : List ℕ). HasRun policy limit (Some key) (disk_states content faults old) (disk_states content faults new) offers end.NoMemory offers.config (records_in (trail_of posted)) text) (sym none) (has_starved policy limit (Some key) offers old new posted run))
   ]
 
 -- what is printed where no key is viewed
@@ -164,12 +164,12 @@ plain_text (end.NotLog at) config list = refl
 plain_text end.Changed config list = refl
 
 -- what was posted is a legal run
-pub legal_trail : (policy : RoundPolicy) (offers : Offers) (posted : Option (List Record)) → IfSome posted (IsRunOf policy offers.config offers.list) → Legal offers.config (entries_in (records_in (trail_of posted)))
+pub legal_trail : (policy : RoundPolicy) (offers : Offers) (posted : Option (List Record)) → IfSome posted (IsRunOf policy offers.config offers.list) → Legal offers.config (newest_first (records_in (trail_of posted)))
 legal_trail policy offers None run = tt
 legal_trail policy offers (Some list) run = run.legal
 
 -- a run of nodes ended, as was told
-pub nodes_end : (policy : RoundPolicy) (limit : ℕ) (viewed : Option (List ℕ)) (offers : Offers) (old new : List Seen) (why : RunEnd) (list : List Record) (text : List ℕ) (before now : Seen) (status : ℕ) → 0 < offers.config.acceptors → Legal offers.config (entries_in list)
+pub nodes_end : (policy : RoundPolicy) (limit : ℕ) (viewed : Option (List ℕ)) (offers : Offers) (old new : List DeviceState) (why : RunEnd) (list : List Record) (text : List ℕ) (before now : DeviceState) (status : ℕ) → 0 < offers.config.acceptors → Legal offers.config (newest_first list)
     → HasRun policy limit viewed old new offers why offers.config list text → TellsEnding (Runs why offers.config list text) before now status → EndsBy (IsOffersCause policy limit viewed (Offered offers) old new) before now status list
 nodes_end policy limit viewed offers old new why list text before now status some legal has told = record {
   ending = Runs why offers.config list text;
@@ -178,14 +178,14 @@ nodes_end policy limit viewed offers old new why list text before now status som
   list = refl;
   config = offers.config;
   own_config = refl;
-  agreement = all_agree offers.config some (entries_in list) legal;
+  agreement = all_agree offers.config some (newest_first list) legal;
   told = told;
 }
 
 -- ---- who made the records
 
 -- no node ran, as was told with status 3 or 4, or memory ran out
-pub of_none : (before now : Seen) (text : List ℕ) (n status : ℕ) → (n ≡ 3) ⊎ (n ≡ 4) → Told before now text n n status → IsOfNodes status (Folded [])
+pub of_none : (before now : DeviceState) (text : List ℕ) (n status : ℕ) → (n ≡ 3) ⊎ (n ≡ 4) → Told before now text n n status → IsOfNodes status (Folded [])
 of_none before now text n status (inl three) told = (refl, elim (same_status before now text n status told) [ inl is ↦ inr (inl (is ∙ three)) | inr is ↦ inl is ])
 of_none before now text n status (inr four) told = (refl, elim (same_status before now text n status told) [ inl is ↦ inr (inr (inl (is ∙ four))) | inr is ↦ inl is ])
 
@@ -201,7 +201,7 @@ pub read_refused : (read : OffersReading) (why : UnreadScript) (line : ℕ) (rea
 read_refused read why line reason bad reads = let Q : UnreadScript → Type 0 = λ u. Reads read (Err u) in subst Q bad reads
 
 -- the cause by the script that was read is one by the source
-pub script_read : (policy : RoundPolicy) (limit : ℕ) (viewed : Option (List ℕ)) (before now : Seen) (old new : List Seen) (bytes : List ℕ) → ReadsUpTo MOST_READ before.bytes now.bytes bytes → now.faults ≡ before.faults → (ending : Ending)
+pub script_read : (policy : RoundPolicy) (limit : ℕ) (viewed : Option (List ℕ)) (before now : DeviceState) (old new : List DeviceState) (bytes : List ℕ) → ReadsUpTo MOST_READ before.bytes now.bytes bytes → now.faults ≡ before.faults → (ending : Ending)
     → IsOffersCause policy limit viewed (offers_reading bytes) old new ending → IsNodesCause policy limit viewed before now old new ending
 script_read policy limit viewed before now old new bytes taken steady Misused cause = cause
 script_read policy limit viewed before now old new bytes taken steady Unread cause = absurd cause
@@ -218,7 +218,7 @@ script_read policy limit viewed before now old new bytes taken steady (Rejects l
 script_read policy limit viewed before now old new bytes taken steady (Upholds config events text) cause = cause
 script_read policy limit viewed before now old new bytes taken steady Starved cause = (steady, loses MOST_READ before.bytes now.bytes bytes taken)
 
-pub script_ends : (policy : RoundPolicy) (limit : ℕ) (viewed : Option (List ℕ)) (rest left before now : Seen) (old new : List Seen) (status : ℕ) (trail : List Record) (bytes script : List ℕ) → script ≡ bytes → ReadsUpTo MOST_READ rest.bytes left.bytes bytes → left.faults ≡ rest.faults
+pub script_ends : (policy : RoundPolicy) (limit : ℕ) (viewed : Option (List ℕ)) (rest left before now : DeviceState) (old new : List DeviceState) (status : ℕ) (trail : List Record) (bytes script : List ℕ) → script ≡ bytes → ReadsUpTo MOST_READ rest.bytes left.bytes bytes → left.faults ≡ rest.faults
     → EndsBy (IsOffersCause policy limit viewed (offers_reading script) old new) before now status trail → EndsBy (IsNodesCause policy limit viewed rest left old new) before now status trail
 script_ends policy limit viewed rest left before now old new status trail bytes script same taken steady ends =
     let Q : List ℕ → Type 0 = λ b. EndsBy (IsOffersCause policy limit viewed (offers_reading b) old new) before now status trail in
@@ -228,7 +228,7 @@ script_ends policy limit viewed rest left before now old new status trail bytes 
 
 module _ {D : Type 0} where
   -- no disk was used
-  pub kept_same : (sub : Option Subcommand) (Cause : Ending → Type 0) (old new : List D) (before now : Seen) (status : ℕ) (trail : List Record) → EndsBy Cause before now status trail → new ≡ old → KeepsUnused sub Cause old new
+  pub kept_same : (sub : Option Subcommand) (Cause : Ending → Type 0) (old new : List D) (before now : DeviceState) (status : ℕ) (trail : List Record) → EndsBy Cause before now status trail → new ≡ old → KeepsUnused sub Cause old new
   kept_same sub Cause old new before now status trail ends same = record {
     ending = ends.ending;
     cause = ends.cause;
@@ -246,7 +246,7 @@ module _ {D : Type 0} where
   }
 
   -- the disks of no node
-  pub nodes_keep : (policy : RoundPolicy) (limit : ℕ) (viewed : Option (List ℕ)) (offers : Offers) (before now : List Seen) (why : RunEnd) (list : List Record) (text : List ℕ) (faults : D → ℕ) (old new : List D) → HasRun policy limit viewed before now offers why offers.config list text
+  pub nodes_keep : (policy : RoundPolicy) (limit : ℕ) (viewed : Option (List ℕ)) (offers : Offers) (before now : List DeviceState) (why : RunEnd) (list : List Record) (text : List ℕ) (faults : D → ℕ) (old new : List D) → HasRun policy limit viewed before now offers why offers.config list text
       → KeepsOthers offers.config old new → NoneFell faults old new → KeepsUnused (Some (Run policy limit viewed)) (IsOffersCause policy limit viewed (Offered offers) before now) old new
   nodes_keep policy limit viewed offers before now why list text faults old new has others none_fell = record {
     ending = Runs why offers.config list text;
@@ -255,7 +255,7 @@ module _ {D : Type 0} where
     unused = others;
   }
 
-  pub script_keeps : (policy : RoundPolicy) (limit : ℕ) (viewed : Option (List ℕ)) (rest left : Seen) (before now : List Seen) (old new : List D) (bytes script : List ℕ) → script ≡ bytes → ReadsUpTo MOST_READ rest.bytes left.bytes bytes → left.faults ≡ rest.faults
+  pub script_keeps : (policy : RoundPolicy) (limit : ℕ) (viewed : Option (List ℕ)) (rest left : DeviceState) (before now : List DeviceState) (old new : List D) (bytes script : List ℕ) → script ≡ bytes → ReadsUpTo MOST_READ rest.bytes left.bytes bytes → left.faults ≡ rest.faults
       → KeepsUnused (Some (Run policy limit viewed)) (IsOffersCause policy limit viewed (offers_reading script) before now) old new → KeepsUnused (Some (Run policy limit viewed)) (IsNodesCause policy limit viewed rest left before now) old new
   script_keeps policy limit viewed rest left before now old new bytes script same taken steady kept =
       let Q : List ℕ → Type 0 = λ b. KeepsUnused (Some (Run policy limit viewed)) (IsOffersCause policy limit viewed (offers_reading b) before now) old new in

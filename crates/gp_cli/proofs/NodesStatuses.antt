@@ -3,7 +3,7 @@ use Rattle.std.proofs.Common.{◌≡◌, ◌≢◌, ℕ, ◌⊎◌, inl, inr, Li
 use Rattle.std.specs.Prelude.{IfSome}
 use Rattle.gp_round.specs.Counts.{Counts}
 use Rattle.gp_msg.specs.declared.record.Record.{Record}
-use Rattle.gp_run.specs.Runs.{entries_in}
+use Rattle.gp_run.specs.Runs.{newest_first}
 use Rattle.gp_edge.specs.Faults.{Rose}
 use Rattle.gp_edge.specs.Reads.{ReadsUpTo}
 use Rattle.gp_text.specs.Reading.{run_before}
@@ -20,8 +20,8 @@ use Rattle.gp_cli.specs.declared.runs.TheConstants.{MOST_READ}
 use Rattle.gp_cli.specs.declared.subcommand.Subcommand.{Subcommand}
 use Rattle.gp_cli.specs.declared.subcommand.Subcommand.TheVariants.{Play, Run, Sim, Drive, Log, Upgrade, Audit}
 use Rattle.gp_cli.specs.Subcommands.{named}
-use Rattle.gp_cli.specs.Outside.{Seen, Outside, Told}
-use Rattle.gp_cli.specs.Endings.{Ending, Misused, Unread, Refuses, Plays, Drives, Simulates, Shows, DiskFails, Overflows, Breaks, Runs, Rejects, Upholds, Starved, status_of, text_of, run_to}
+use Rattle.gp_cli.specs.Outside.{DeviceState, Outside, Told}
+use Rattle.gp_cli.specs.Endings.{Ending, Misused, Unread, Refuses, Plays, Drives, Simulates, Shows, DiskFails, Overflows, Breaks, Runs, Rejects, Upholds, Starved, status_of, ending_text, run_to}
 use Rattle.gp_cli.specs.Causes.{IsRunCause, IsCauseFor, driven_config}
 use Rattle.gp_cli.specs.Run.{SomeFailed, MayPostNothing, ArePosted, HasLearned, IsLearnedText, HasRun, IsOffersCause, HasReadOffers}
 use Rattle.gp_cli.specs.Logs.{TellsEnding}
@@ -31,7 +31,7 @@ use Rattle.gp_cli.proofs.Machines.{all_agree}
 use Rattle.gp_cli.proofs.Told.{same_status, one_status, starved_status, done, no_records, nothing_left}
 
 -- what was read is what the source told
-offers_are : (before now : Seen) (rest : List ℕ) (read : OffersReading) → before.bytes ≡ Some rest → HasReadOffers before now (λ said. said ≡ read) → offers_reading (take MOST_READ rest) ≡ read
+offers_are : (before now : DeviceState) (rest : List ℕ) (read : OffersReading) → before.bytes ≡ Some rest → HasReadOffers before now (λ said. said ≡ read) → offers_reading (take MOST_READ rest) ≡ read
 offers_are before now rest read tells has =
     let P : Option (List ℕ) → Type 0 = λ told. ReadsUpTo MOST_READ told now.bytes has.bytes in
     let taken : (has.bytes ≡ take MOST_READ rest) × (now.bytes ≡ Some (drop MOST_READ rest)) = subst P tells has.taken in
@@ -93,7 +93,7 @@ module _ (before now : Outside) (status : ℕ) (trail : List Record) where
         read = read;
         right = right;
         run = run;
-        agreement = all_agree offers.config (omega (arith, three)) (entries_in trail) run.legal;
+        agreement = all_agree offers.config (omega (arith, three)) (newest_first trail) run.legal;
       }
 
   -- the offers of a run whose list was posted
@@ -174,7 +174,7 @@ module _ (before now : Outside) (status : ℕ) (trail : List Record) where
       let n = by.4 in
       let has = n.has in
       let not : ¬ MayPostNothing (end.Full size need) = λ m. elim m [ inl is ↦ cc | inr is ↦ cc ] in
-      let over : IsOverLimit config limit (entries_in list) size need = has.cause in
+      let over : IsOverLimit config limit (newest_first list) size need = has.cause in
       record {
         policy = policy;
         limit = limit;
@@ -184,7 +184,7 @@ module _ (before now : Outside) (status : ℕ) (trail : List Record) where
         whole = whole_run policy limit viewed (end.Full size need) config list text n not same;
         size = size;
         need = need;
-        over = subst (λ (c : Counts). IsOverLimit c limit (entries_in trail) size need) has.own_config (subst (λ (rs : List Record). IsOverLimit config limit (entries_in rs) size need) (sym same) over);
+        over = subst (λ (c : Counts). IsOverLimit c limit (newest_first trail) size need) has.own_config (subst (λ (rs : List Record). IsOverLimit config limit (newest_first rs) size need) (sym same) over);
         told = subst (λ (t : List ℕ). Told before.sink now.sink t 7 7 status) has.says told;
       }
 
@@ -222,7 +222,7 @@ module _ (before now : Outside) (status : ℕ) (trail : List Record) where
 
   ran_completes : (policy : RoundPolicy) (limit : ℕ) (viewed : Option (List ℕ)) (offers : Offers) (why : RunEnd) (config : Counts) (list : List Record) (text : List ℕ) → NodesRan policy limit viewed why config list text → trail ≡ list → Tells (Runs why config list text) → HoldsOffers offers before.source
       → ¬ Rose before.sink.faults now.sink.faults → ¬ SomeFailed before.disks now.disks → HasRoomForNext offers.config limit trail → (status ≡ 0) ⊎ (status ≡ 1)
-  ran_completes policy limit viewed offers end.Learned config list text n same told holds written_well disks_well room = one_status before.sink now.sink (text_of (Runs end.Learned config list text)) 0 5 status written_well told
+  ran_completes policy limit viewed offers end.Learned config list text n same told holds written_well disks_well room = one_status before.sink now.sink (ending_text (Runs end.Learned config list text)) 0 5 status written_well told
   ran_completes policy limit viewed offers end.NoMemory config list text n same told holds written_well disks_well room =
       let has = n.has in
       inr (starved_status before.sink now.sink [] status (subst (λ (t : List ℕ). Told before.sink now.sink t 1 1 status) has.says told))
@@ -230,8 +230,8 @@ module _ (before now : Outside) (status : ℕ) (trail : List Record) where
   ran_completes policy limit viewed offers (end.Full size need) config list text n same told holds written_well disks_well room =
       let has = n.has in
       let own : config ≡ offers.config = has.own_config ∙ ap (λ (o : Offers). o.config) (offers_one offers n.offers holds n.read) in
-      let over : IsOverLimit config limit (entries_in list) size need = has.cause in
-      absurd (room size need (subst (λ (c : Counts). IsOverLimit c limit (entries_in trail) size need) own (subst (λ (rs : List Record). IsOverLimit config limit (entries_in rs) size need) (sym same) over)))
+      let over : IsOverLimit config limit (newest_first list) size need = has.cause in
+      absurd (room size need (subst (λ (c : Counts). IsOverLimit c limit (newest_first trail) size need) own (subst (λ (rs : List Record). IsOverLimit config limit (newest_first rs) size need) (sym same) over)))
   ran_completes policy limit viewed offers (end.NotLog at) config list text n same told holds written_well disks_well room = let has = n.has in absurd (disks_well has.cause)
   ran_completes policy limit viewed offers end.Changed config list text n same told holds written_well disks_well room = let has = n.has in absurd (disks_well has.cause)
 
@@ -259,7 +259,7 @@ module _ (before now : Outside) (status : ℕ) (trail : List Record) where
   pub nodes_refuse : (policy : RoundPolicy) (limit : ℕ) (viewed : Option (List ℕ)) (ending : Ending) → IsCauseFor (Some (Run policy limit viewed)) before now ending → Tells ending → HoldsBadOffers before.source → ¬ Rose before.source.faults now.source.faults → (status ≡ 3) ⊎ (status ≡ 1)
   nodes_refuse policy limit viewed Misused cause told holds read_well = absurd cause
   nodes_refuse policy limit viewed Unread cause told holds read_well = absurd (read_well cause.0)
-  nodes_refuse policy limit viewed (Refuses line reason said) cause told holds read_well = same_status before.sink now.sink (text_of (Refuses line reason said)) 3 status told
+  nodes_refuse policy limit viewed (Refuses line reason said) cause told holds read_well = same_status before.sink now.sink (ending_text (Refuses line reason said)) 3 status told
   nodes_refuse policy limit viewed (Plays operations config said) cause told holds read_well = absurd cause
   nodes_refuse policy limit viewed (Drives config n) cause told holds read_well = absurd cause
   nodes_refuse policy limit viewed (Simulates seed n) cause told holds read_well = absurd cause
@@ -280,7 +280,7 @@ module _ (before now : Outside) (status : ℕ) (trail : List Record) where
   offers_or_none policy limit viewed why config list text n same (inl run) = let offers = n.offers in inr (offers, offers_all policy offers n.read (subst (IsRunOf policy offers.config offers.list) (sym same) run))
   offers_or_none policy limit viewed why config list text n same (inr none) = inl (same ∙ none.0)
 
-  pub nodes_offered : (policy : RoundPolicy) (limit : ℕ) (viewed : Option (List ℕ)) (ending : Ending) → IsCauseFor (Some (Run policy limit viewed)) before now ending → entries_in trail ≡ run_to ending → IsListOf ending trail → (trail ≡ []) ⊎ ((offers : Offers) × OffersAll policy before now trail offers)
+  pub nodes_offered : (policy : RoundPolicy) (limit : ℕ) (viewed : Option (List ℕ)) (ending : Ending) → IsCauseFor (Some (Run policy limit viewed)) before now ending → newest_first trail ≡ run_to ending → IsListOf ending trail → (trail ≡ []) ⊎ ((offers : Offers) × OffersAll policy before now trail offers)
   nodes_offered policy limit viewed Misused cause run list = absurd cause
   nodes_offered policy limit viewed Unread cause run list = inl (no_records trail run)
   nodes_offered policy limit viewed (Refuses line reason said) cause run list = let so = cause.says in inl (no_records trail (run ∙ ap run_before so.0))
@@ -302,8 +302,8 @@ module _ (before now : Outside) (status : ℕ) (trail : List Record) where
 
   pub nodes_left : (policy : RoundPolicy) (limit : ℕ) (viewed : Option (List ℕ)) (ending : Ending) → IsCauseFor (Some (Run policy limit viewed)) before now ending → Tells ending → status ≢ 1 → status ≢ 3 → status ≢ 4 → IfSome now.source.bytes (λ rest. rest ≡ [])
   nodes_left policy limit viewed Misused cause told no_one no_three no_four = absurd cause
-  nodes_left policy limit viewed Unread cause told no_one no_three no_four = absurd (other 4 no_four no_one (same_status before.sink now.sink (text_of Unread) 4 status told))
-  nodes_left policy limit viewed (Refuses line reason said) cause told no_one no_three no_four = absurd (other 3 no_three no_one (same_status before.sink now.sink (text_of (Refuses line reason said)) 3 status told))
+  nodes_left policy limit viewed Unread cause told no_one no_three no_four = absurd (other 4 no_four no_one (same_status before.sink now.sink (ending_text Unread) 4 status told))
+  nodes_left policy limit viewed (Refuses line reason said) cause told no_one no_three no_four = absurd (other 3 no_three no_one (same_status before.sink now.sink (ending_text (Refuses line reason said)) 3 status told))
   nodes_left policy limit viewed (Plays operations config said) cause told no_one no_three no_four = absurd cause
   nodes_left policy limit viewed (Drives config n) cause told no_one no_three no_four = absurd cause
   nodes_left policy limit viewed (Simulates seed n) cause told no_one no_three no_four = absurd cause

@@ -19,7 +19,7 @@ use Rattle.gp_msg.specs.Messages.{Offered}
 use Rattle.gp_run.specs.Agreement.{Agrees}
 use Rattle.gp_run.specs.Learned.{learned_at}
 use Rattle.gp_run.specs.Messages.{messages}
-use Rattle.gp_run.specs.Runs.{entries_in}
+use Rattle.gp_run.specs.Runs.{newest_first}
 use Rattle.gp_seats.specs.Offering.{IsKnown}
 use Rattle.gp_held.specs.Offers.{commands_of}
 use Rattle.gp_held.proofs.Holding.{offered_are}
@@ -48,14 +48,14 @@ module _ (before now : Outside) (trail : List Record) (offers : Offers) (policy 
   known : All IsKnown offers.list
   known k d less = let right = whole.right in (right.each k d less).0
 
-  agreed : Agrees offers.config (entries_in trail)
+  agreed : Agrees offers.config (newest_first trail)
   agreed = let agreement = whole.agreement in agreement.agrees
 
   -- what was offered is what the script says
-  of_script : (c : Command) → Contains (messages (entries_in trail)) (Offered c) → Contains cs c
+  of_script : (c : Command) → Contains (messages (newest_first trail)) (Offered c) → Contains cs c
   of_script c there = let run = whole.run in (offered_are offers.config offers.list known trail run.legal all.offered c).0 there
 
-  from_script : (c : Command) → Contains cs c → Contains (messages (entries_in trail)) (Offered c)
+  from_script : (c : Command) → Contains cs c → Contains (messages (newest_first trail)) (Offered c)
   from_script c there = let run = whole.run in (offered_are offers.config offers.list known trail run.legal all.offered c).1 there
 
   listed : (c : Command) → has (history_of cs) c ≡ true → Contains cs c
@@ -66,10 +66,10 @@ module _ (before now : Outside) (trail : List Record) (offers : Offers) (policy 
 
   module _ (l : ℕ) (within : l < offers.config.learners) where
     abbrev shown : History
-    shown = learned_at offers.config l (entries_in trail)
+    shown = learned_at offers.config l (newest_first trail)
 
     shown_listed : (c : Command) → has shown c ≡ true → Contains cs c
-    shown_listed c there = of_script c (agreed.proposed [] (entries_in trail) refl l c there)
+    shown_listed c there = of_script c (agreed.proposed [] (newest_first trail) refl l c there)
 
     -- the learner shows the history of the offers
     shows_script : history_of cs ≡ shown
@@ -77,10 +77,10 @@ module _ (before now : Outside) (trail : List Record) (offers : Offers) (policy 
         (λ c. alike (has (history_of cs) c) (has shown c) (λ there. all.learned l within c (from_script c (listed c there))) (λ there. unlisted c (shown_listed c there)))
         (λ c d.
         unordered (history_of cs) (history_of_is cs) (λ a b in_a in_b. commute a b (listed a in_a) (listed b in_b)) c d
-        ∙ sym (unordered shown (agreed.history [] (entries_in trail) refl l) (λ a b in_a in_b. commute a b (shown_listed a in_a) (shown_listed b in_b)) c d))
+        ∙ sym (unordered shown (agreed.history [] (newest_first trail) refl l) (λ a b in_a in_b. commute a b (shown_listed a in_a) (shown_listed b in_b)) c d))
 
     distinct : HasDistinctIds shown
-    distinct c d in_c in_d same_id = agreed.identities [] (entries_in trail) [] (entries_in trail) refl refl l l c d in_c in_d same_id
+    distinct c d in_c in_d same_id = agreed.identities [] (newest_first trail) [] (newest_first trail) refl refl l l c d in_c in_d same_id
 
   pub in_script_order : RunsInScriptOrder offers trail
   in_script_order = record {

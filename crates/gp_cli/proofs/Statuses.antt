@@ -3,7 +3,7 @@ use Rattle.std.proofs.Common.{◌≡◌, ℕ, suc, arith, List, [], take, drop, 
 use Rattle.std.specs.Prelude.{◌≢◌, IfSome}
 use Rattle.gp_round.specs.Counts.{Counts}
 use Rattle.gp_msg.specs.declared.record.Record.{Record}
-use Rattle.gp_run.specs.Runs.{entries_in}
+use Rattle.gp_run.specs.Runs.{newest_first}
 use Rattle.gp_edge.specs.Disks.{IfRevealed}
 use Rattle.gp_edge.specs.Faults.{Rose}
 use Rattle.gp_edge.specs.Reads.{ReadsUpTo}
@@ -24,9 +24,9 @@ use Rattle.gp_cli.specs.declared.subcommand.Subcommand.{Subcommand}
 use Rattle.gp_cli.specs.declared.subcommand.Subcommand.TheVariants.{Play, Run, Sim, Drive, Log, Upgrade, Audit}
 use Rattle.gp_cli.specs.Subcommands.{named}
 use Rattle.gp_cli.specs.Machines.{profile_of, reading_of, IsInAgreementOfAll}
-use Rattle.gp_cli.specs.Outside.{Seen, Outside}
-use Rattle.gp_cli.specs.Endings.{Ending, Misused, Unread, Refuses, Plays, Drives, Simulates, Shows, DiskFails, Overflows, Breaks, Runs, Rejects, Upholds, Starved, status_of, status_at_fault, text_of, run_to, config_of}
-use Rattle.gp_cli.specs.Causes.{HasRead, IfLog, HasRoomForLast, HasNoRoom, IsCauseFor, IsCause, IsRunCause, driven_config, seen_at, disk_used}
+use Rattle.gp_cli.specs.Outside.{DeviceState, Outside}
+use Rattle.gp_cli.specs.Endings.{Ending, Misused, Unread, Refuses, Plays, Drives, Simulates, Shows, DiskFails, Overflows, Breaks, Runs, Rejects, Upholds, Starved, status_of, status_at_fault, ending_text, run_to, config_of}
+use Rattle.gp_cli.specs.Causes.{HasRead, IfLog, HasRoomForLast, HasNoRoom, IsCauseFor, IsCause, IsRunCause, driven_config, device_at, disk_used}
 use Rattle.gp_cli.specs.Logs.{TellsEnding}
 use Rattle.gp_cli.specs.Serving.{IsConfig, IsListOf, Ends, HoldsScript, HoldsBadLine, PlaysWhole, StopsAtLine, Prints, PrintsDriven, PrintsSimulated}
 use Rattle.gp_cli.specs.LogRuns.{HoldsLog, HoldsRoomyLog, HoldsFullLog, HoldsNoLog, ShowsLog, ShowsTakenOn, HasNoSpace, IsBrokenAt}
@@ -41,11 +41,11 @@ use Rattle.gp_cli.proofs.ScriptOrder.{in_script_order}
 use Rattle.gp_cli.proofs.Told.{no_records, nothing_left, same_status, one_status, starved_status, done, own_status, sink_failed, no_run_status, never_five}
 
 -- after a whole script nothing is left
-whole_left : (operations : Operations) (rest left : Seen) (config : Counts) (said : Sofar) → HasRead operations rest left (Whole config said) → IfSome left.bytes (λ bytes. bytes ≡ [])
+whole_left : (operations : Operations) (rest left : DeviceState) (config : Counts) (said : Sofar) → HasRead operations rest left (Whole config said) → IfSome left.bytes (λ bytes. bytes ≡ [])
 whole_left operations rest left config said read = nothing_left rest.bytes left.bytes read.bytes read.taken (whole_short (profile_of operations).language read.bytes config said read.says)
 
 -- what was read is what the source told
-pub read_is : (operations : Operations) (before now : Seen) (rest : List ℕ) (read : Reading) → before.bytes ≡ Some rest → HasRead operations before now read → reading_of operations (take MOST_READ rest) ≡ read
+pub read_is : (operations : Operations) (before now : DeviceState) (rest : List ℕ) (read : Reading) → before.bytes ≡ Some rest → HasRead operations before now read → reading_of operations (take MOST_READ rest) ≡ read
 read_is operations before now rest read tells has =
     let P : Option (List ℕ) → Type 0 = λ told. ReadsUpTo MOST_READ told now.bytes has.bytes in
     let taken : (has.bytes ≡ take MOST_READ rest) × (now.bytes ≡ Some (drop MOST_READ rest)) = subst P tells has.taken in
@@ -63,7 +63,7 @@ module _ (before now : Outside) (status : ℕ) (trail : List Record) where
 
   -- ---- a script
 
-  played_whole : (operations : Operations) (config : Counts) (said : Sofar) → HasRead operations before.source now.source (Whole config said) → entries_in trail ≡ run_to (Plays operations config said) → Tells (Plays operations config said) → status ≡ 0 → PlaysWhole operations before now trail
+  played_whole : (operations : Operations) (config : Counts) (said : Sofar) → HasRead operations before.source now.source (Whole config said) → newest_first trail ≡ run_to (Plays operations config said) → Tells (Plays operations config said) → status ≡ 0 → PlaysWhole operations before now trail
   played_whole operations config said read run told none_failed = let whole = done (Plays operations config said) before.sink now.sink status told none_failed in record {
     config = config;
     said = said;
@@ -77,12 +77,12 @@ module _ (before now : Outside) (status : ℕ) (trail : List Record) where
   clash : (ending : Ending) → (status_of ending ≡ 0 → ⊥) → Tells ending → status ≡ 0 → ⊥
   clash ending never_well told none_failed = never_well (done ending before.sink now.sink status told none_failed).well
 
-  played : (operations : Operations) (ending : Ending) → Causes (Some (Play operations)) ending → entries_in trail ≡ run_to ending → Tells ending → status ≡ 0 → PlaysWhole operations before now trail
+  played : (operations : Operations) (ending : Ending) → Causes (Some (Play operations)) ending → newest_first trail ≡ run_to ending → Tells ending → status ≡ 0 → PlaysWhole operations before now trail
   played operations Misused cause run told none_failed = absurd cause
   played operations Unread cause run told none_failed = absurd (clash Unread (λ e. cc) told none_failed)
   played operations (Refuses line reason said) cause run told none_failed = absurd (clash (Refuses line reason said) (λ e. cc) told none_failed)
   played operations (Plays own config said) cause run told none_failed =
-      let P : Operations → Type 0 = λ o. entries_in trail ≡ run_to (Plays o config said) in
+      let P : Operations → Type 0 = λ o. newest_first trail ≡ run_to (Plays o config said) in
       let T : Operations → Type 0 = λ o. Tells (Plays o config said) in
       played_whole operations config said cause.1 (subst P cause.0 run) (subst T cause.0 told) none_failed
   played operations (Drives config n) cause run told none_failed = absurd cause
@@ -114,7 +114,7 @@ module _ (before now : Outside) (status : ℕ) (trail : List Record) where
   refused_at (Some (Upgrade k)) line reason said cause = absurd cause
   refused_at (Some Audit) line reason said cause = absurd cause
 
-  stops : (words : List (List ℕ)) (ending : Ending) → Causes (named words) ending → entries_in trail ≡ run_to ending → IsListOf ending trail → Tells ending → status_of ending ≡ 3
+  stops : (words : List (List ℕ)) (ending : Ending) → Causes (named words) ending → newest_first trail ≡ run_to ending → IsListOf ending trail → Tells ending → status_of ending ≡ 3
       → StopsAtLine words before now status trail ⊎ RefusesOffers words before now status trail ⊎ RejectsInput words before now status trail
   stops words Misused cause run list told e = cc
   stops words Unread cause run list told e = cc
@@ -185,7 +185,7 @@ module _ (before now : Outside) (status : ℕ) (trail : List Record) where
   completes operations Unread cause told holds read_well written_well = absurd (read_well cause.0)
   completes operations (Refuses line reason before_it) cause told (rest, config, said, is, whole) read_well written_well =
       let differ = sym whole ∙ read_is operations before.source now.source rest (Refused line reason before_it) is cause in absurd cc
-  completes operations (Plays own config said) cause told holds read_well written_well = one_status before.sink now.sink (text_of (Plays own config said)) 0 5 status written_well told
+  completes operations (Plays own config said) cause told holds read_well written_well = one_status before.sink now.sink (ending_text (Plays own config said)) 0 5 status written_well told
   completes operations (Drives config n) cause told holds read_well written_well = absurd cause
   completes operations (Simulates seed n) cause told holds read_well written_well = absurd cause
   completes operations (Shows k log) cause told holds read_well written_well = absurd cause
@@ -200,7 +200,7 @@ module _ (before now : Outside) (status : ℕ) (trail : List Record) where
   refuses : (operations : Operations) (ending : Ending) → Causes (Some (Play operations)) ending → Tells ending → HoldsBadLine operations before.source → ¬ Rose before.source.faults now.source.faults → (status ≡ 3) ⊎ (status ≡ 1)
   refuses operations Misused cause told holds read_well = absurd cause
   refuses operations Unread cause told holds read_well = absurd (read_well cause.0)
-  refuses operations (Refuses line reason before_it) cause told holds read_well = same_status before.sink now.sink (text_of (Refuses line reason before_it)) 3 status told
+  refuses operations (Refuses line reason before_it) cause told holds read_well = same_status before.sink now.sink (ending_text (Refuses line reason before_it)) 3 status told
   refuses operations (Plays own config said) cause told (rest, line, reason, before_it, is, bad) read_well =
       let differ = sym bad ∙ read_is operations before.source now.source rest (Whole config said) is cause.1 in absurd cc
   refuses operations (Drives config n) cause told holds read_well = absurd cause
@@ -221,7 +221,7 @@ module _ (before now : Outside) (status : ℕ) (trail : List Record) where
   meant_is meant ending (inl is) told none_failed = is
   meant_is meant ending (inr is) told none_failed = absurd (clash Starved (λ e. cc) (subst Tells is told) none_failed)
 
-  prints : (meant ending : Ending) (config own : Counts) → IsRunCause meant ending → entries_in trail ≡ run_to ending → config ≡ own → IsInAgreementOfAll config (entries_in trail) → Tells ending → status ≡ 0 → Prints own (run_to meant) (text_of meant) before now trail
+  prints : (meant ending : Ending) (config own : Counts) → IsRunCause meant ending → newest_first trail ≡ run_to ending → config ≡ own → IsInAgreementOfAll config (newest_first trail) → Tells ending → status ≡ 0 → Prints own (run_to meant) (ending_text meant) before now trail
   prints meant ending config own cause run same agreement told none_failed =
       let is = meant_is meant ending cause told none_failed in
       let whole = done ending before.sink now.sink status told none_failed in
@@ -230,13 +230,13 @@ module _ (before now : Outside) (status : ℕ) (trail : List Record) where
         agreement = subst (λ (c : Counts). IsInAgreementOfAll c (run_to meant)) same (subst (IsInAgreementOfAll config) runs agreement);
         run = runs;
         steady = whole.steady;
-        written = subst (λ (text : List ℕ). AppendsWhole before.sink.bytes now.sink.bytes text) (ap text_of is) whole.written;
+        written = subst (λ (text : List ℕ). AppendsWhole before.sink.bytes now.sink.bytes text) (ap ending_text is) whole.written;
       }
 
   run_completes : (meant ending : Ending) → status_of meant ≡ 0 → IsRunCause meant ending → Tells ending → ¬ Rose before.sink.faults now.sink.faults → (status ≡ 0) ⊎ (status ≡ 1)
   run_completes meant ending well (inl is) told written_well =
       let P : ℕ → Type 0 = λ n. (status ≡ n) ⊎ (status ≡ 1) in
-      subst P (ap status_of is ∙ well) (one_status before.sink now.sink (text_of ending) (status_of ending) (status_at_fault (status_of ending)) status written_well told)
+      subst P (ap status_of is ∙ well) (one_status before.sink now.sink (ending_text ending) (status_of ending) (status_at_fault (status_of ending)) status written_well told)
   run_completes meant ending well (inr is) told written_well = inr (starved_status before.sink now.sink [] status (subst Tells is told))
 
   -- ---- the log of a disk
@@ -253,7 +253,7 @@ module _ (before now : Outside) (status : ℕ) (trail : List Record) where
     same = cause.1;
     shows = cause.2;
     steady = whole.steady;
-    written = subst (λ (i : ℕ). AppendsWhole before.sink.bytes now.sink.bytes (text_of (Shows i log))) cause.0 whole.written;
+    written = subst (λ (i : ℕ). AppendsWhole before.sink.bytes now.sink.bytes (ending_text (Shows i log))) cause.0 whole.written;
   }
   shows_log k DiskFails cause told none_failed = absurd (clash DiskFails (λ e. cc) told none_failed)
   shows_log k (Overflows size need) cause told none_failed = absurd cause
@@ -275,7 +275,7 @@ module _ (before now : Outside) (status : ℕ) (trail : List Record) where
     steady_disk = cause.1;
     shows = cause.2;
     steady = whole.steady;
-    written = subst (λ (i : ℕ). AppendsWhole before.sink.bytes now.sink.bytes (text_of (Shows i log))) cause.0 whole.written;
+    written = subst (λ (i : ℕ). AppendsWhole before.sink.bytes now.sink.bytes (ending_text (Shows i log))) cause.0 whole.written;
   }
   shows_taken_on k DiskFails cause told none_failed = absurd (clash DiskFails (λ e. cc) told none_failed)
   shows_taken_on k (Overflows size need) cause told none_failed = absurd (clash (Overflows size need) (λ e. cc) told none_failed)
@@ -288,17 +288,17 @@ module _ (before now : Outside) (status : ℕ) (trail : List Record) where
   no_clash : (bytes : Option (List ℕ)) (s : List ℕ) (log : Contents) (place : ℕ) → bytes ≡ Some s → read_log is_limit s ≡ Ok log → IfRevealed bytes (λ t. read_log is_limit t ≡ Err place) → ⊥
   no_clash bytes s log place is reads broken = let differ = sym reads ∙ at_bytes bytes _ s is broken in cc
 
-  log_completes : (k : ℕ) (ending : Ending) → Causes (Some (Log k)) ending → Tells ending → HoldsLog k before → ¬ Rose (seen_at k before.disks).faults (seen_at k now.disks).faults → ¬ Rose before.sink.faults now.sink.faults → (status ≡ 0) ⊎ (status ≡ 1)
+  log_completes : (k : ℕ) (ending : Ending) → Causes (Some (Log k)) ending → Tells ending → HoldsLog k before → ¬ Rose (device_at k before.disks).faults (device_at k now.disks).faults → ¬ Rose before.sink.faults now.sink.faults → (status ≡ 0) ⊎ (status ≡ 1)
   log_completes k Misused cause told holds disk_well written_well = absurd cause
   log_completes k Unread cause told holds disk_well written_well = absurd cause
   log_completes k (Refuses line reason said) cause told holds disk_well written_well = absurd cause
   log_completes k (Plays operations config said) cause told holds disk_well written_well = absurd cause
   log_completes k (Drives config n) cause told holds disk_well written_well = absurd cause
   log_completes k (Simulates seed n) cause told holds disk_well written_well = absurd cause
-  log_completes k (Shows j log) cause told holds disk_well written_well = one_status before.sink now.sink (text_of (Shows j log)) 0 5 status written_well told
+  log_completes k (Shows j log) cause told holds disk_well written_well = one_status before.sink now.sink (ending_text (Shows j log)) 0 5 status written_well told
   log_completes k DiskFails cause told holds disk_well written_well = absurd (disk_well cause.0)
   log_completes k (Overflows size need) cause told holds disk_well written_well = absurd cause
-  log_completes k (Breaks place) cause told (s, log, is, reads) disk_well written_well = absurd (no_clash (seen_at k before.disks).bytes s log place is reads cause.1)
+  log_completes k (Breaks place) cause told (s, log, is, reads) disk_well written_well = absurd (no_clash (device_at k before.disks).bytes s log place is reads cause.1)
   log_completes k (Runs why config list text) cause told holds disk_well written_well = absurd cause
   log_completes k (Rejects line reason said) cause told holds disk_well written_well = absurd cause
   log_completes k (Upholds config events text) cause told holds disk_well written_well = absurd cause
@@ -320,24 +320,24 @@ module _ (before now : Outside) (status : ℕ) (trail : List Record) where
       let same : found.0 ≡ log = let both = sym found.1 ∙ reads in cc in
       subst P same found.2
 
-  upgrade_completes : (k : ℕ) (ending : Ending) → Causes (Some (Upgrade k)) ending → Tells ending → HoldsRoomyLog k before → ¬ Rose (seen_at k before.disks).faults (seen_at k now.disks).faults → ¬ Rose before.sink.faults now.sink.faults → (status ≡ 0) ⊎ (status ≡ 1)
+  upgrade_completes : (k : ℕ) (ending : Ending) → Causes (Some (Upgrade k)) ending → Tells ending → HoldsRoomyLog k before → ¬ Rose (device_at k before.disks).faults (device_at k now.disks).faults → ¬ Rose before.sink.faults now.sink.faults → (status ≡ 0) ⊎ (status ≡ 1)
   upgrade_completes k Misused cause told holds disk_well written_well = absurd cause
   upgrade_completes k Unread cause told holds disk_well written_well = absurd cause
   upgrade_completes k (Refuses line reason said) cause told holds disk_well written_well = absurd cause
   upgrade_completes k (Plays operations config said) cause told holds disk_well written_well = absurd cause
   upgrade_completes k (Drives config n) cause told holds disk_well written_well = absurd cause
   upgrade_completes k (Simulates seed n) cause told holds disk_well written_well = absurd cause
-  upgrade_completes k (Shows j log) cause told holds disk_well written_well = one_status before.sink now.sink (text_of (Shows j log)) 0 5 status written_well told
+  upgrade_completes k (Shows j log) cause told holds disk_well written_well = one_status before.sink now.sink (ending_text (Shows j log)) 0 5 status written_well told
   upgrade_completes k DiskFails cause told holds disk_well written_well = absurd (disk_well cause)
   upgrade_completes k (Overflows size need) cause told (s, log, is, reads, room) disk_well written_well =
-      absurd (room_clash log size need room (one_log (seen_at k before.disks).bytes s log (λ l. HasNoRoom size need l.limit l.entries) is reads cause.1))
-  upgrade_completes k (Breaks place) cause told (s, log, is, reads, room) disk_well written_well = absurd (no_clash (seen_at k before.disks).bytes s log place is reads cause.1)
+      absurd (room_clash log size need room (one_log (device_at k before.disks).bytes s log (λ l. HasNoRoom size need l.limit l.entries) is reads cause.1))
+  upgrade_completes k (Breaks place) cause told (s, log, is, reads, room) disk_well written_well = absurd (no_clash (device_at k before.disks).bytes s log place is reads cause.1)
   upgrade_completes k (Runs why config list text) cause told holds disk_well written_well = absurd cause
   upgrade_completes k (Rejects line reason said) cause told holds disk_well written_well = absurd cause
   upgrade_completes k (Upholds config events text) cause told holds disk_well written_well = absurd cause
   upgrade_completes k Starved cause told holds disk_well written_well = inr (starved_status before.sink now.sink [] status told)
 
-  overflows_if_full : (k : ℕ) (ending : Ending) → Causes (Some (Upgrade k)) ending → Tells ending → HoldsFullLog k before → ¬ Rose (seen_at k before.disks).faults (seen_at k now.disks).faults → (status ≡ 7) ⊎ (status ≡ 1)
+  overflows_if_full : (k : ℕ) (ending : Ending) → Causes (Some (Upgrade k)) ending → Tells ending → HoldsFullLog k before → ¬ Rose (device_at k before.disks).faults (device_at k now.disks).faults → (status ≡ 7) ⊎ (status ≡ 1)
   overflows_if_full k Misused cause told holds well = absurd cause
   overflows_if_full k Unread cause told holds well = absurd cause
   overflows_if_full k (Refuses line reason said) cause told holds well = absurd cause
@@ -345,10 +345,10 @@ module _ (before now : Outside) (status : ℕ) (trail : List Record) where
   overflows_if_full k (Drives config n) cause told holds well = absurd cause
   overflows_if_full k (Simulates seed n) cause told holds well = absurd cause
   overflows_if_full k (Shows j shows) cause told (s, log, size, need, is, reads, none) well =
-      let found = one_log (seen_at k before.disks).bytes s log _ is reads cause.2 in absurd (room_clash log size need found.0 none)
+      let found = one_log (device_at k before.disks).bytes s log _ is reads cause.2 in absurd (room_clash log size need found.0 none)
   overflows_if_full k DiskFails cause told holds well = absurd (well cause)
-  overflows_if_full k (Overflows size need) cause told holds well = same_status before.sink now.sink (text_of (Overflows size need)) 7 status told
-  overflows_if_full k (Breaks place) cause told (s, log, size, need, is, reads, none) well = absurd (no_clash (seen_at k before.disks).bytes s log place is reads cause.1)
+  overflows_if_full k (Overflows size need) cause told holds well = same_status before.sink now.sink (ending_text (Overflows size need)) 7 status told
+  overflows_if_full k (Breaks place) cause told (s, log, size, need, is, reads, none) well = absurd (no_clash (device_at k before.disks).bytes s log place is reads cause.1)
   overflows_if_full k (Runs why config list text) cause told holds well = absurd cause
   overflows_if_full k (Rejects line reason said) cause told holds well = absurd cause
   overflows_if_full k (Upholds config events text) cause told holds well = absurd cause
@@ -422,7 +422,7 @@ module _ (before now : Outside) (status : ℕ) (trail : List Record) where
   source_failed (Some Audit) cause = cause.0
 
   usage_told : (ending : Ending) → Causes None ending → Tells ending → (status ≡ 2) ⊎ (status ≡ 1)
-  usage_told ending cause told = same_status before.sink now.sink (text_of Misused) 2 status (subst Tells cause told)
+  usage_told ending cause told = same_status before.sink now.sink (ending_text Misused) 2 status (subst Tells cause told)
 
   -- the endings of statuses 4, 6, 7 and 8
   unread_is : (ending : Ending) → status_of ending ≡ 4 → ending ≡ Unread
@@ -514,33 +514,33 @@ module _ (before now : Outside) (status : ℕ) (trail : List Record) where
       let found = at_bytes bytes (λ t. (log : Contents) × (read_log is_limit t ≡ Ok log) × P log) s is shows in
       let differ = sym broken ∙ found.1 in cc
 
-  unlogged : (k : ℕ) (ending : Ending) → Causes (Some (Log k)) ending → Tells ending → HoldsNoLog k before → ¬ Rose (seen_at k before.disks).faults (seen_at k now.disks).faults → (status ≡ 8) ⊎ (status ≡ 1)
+  unlogged : (k : ℕ) (ending : Ending) → Causes (Some (Log k)) ending → Tells ending → HoldsNoLog k before → ¬ Rose (device_at k before.disks).faults (device_at k now.disks).faults → (status ≡ 8) ⊎ (status ≡ 1)
   unlogged k Misused cause told holds well = absurd cause
   unlogged k Unread cause told holds well = absurd cause
   unlogged k (Refuses line reason said) cause told holds well = absurd cause
   unlogged k (Plays operations config said) cause told holds well = absurd cause
   unlogged k (Drives config n) cause told holds well = absurd cause
   unlogged k (Simulates seed n) cause told holds well = absurd cause
-  unlogged k (Shows j log) cause told (s, place, is, broken) well = absurd (no_log_shown (seen_at k before.disks).bytes s place _ is broken cause.2)
+  unlogged k (Shows j log) cause told (s, place, is, broken) well = absurd (no_log_shown (device_at k before.disks).bytes s place _ is broken cause.2)
   unlogged k DiskFails cause told holds well = absurd (well cause.0)
   unlogged k (Overflows size need) cause told holds well = absurd cause
-  unlogged k (Breaks place) cause told holds well = same_status before.sink now.sink (text_of (Breaks place)) 8 status told
+  unlogged k (Breaks place) cause told holds well = same_status before.sink now.sink (ending_text (Breaks place)) 8 status told
   unlogged k (Runs why config list text) cause told holds well = absurd cause
   unlogged k (Rejects line reason said) cause told holds well = absurd cause
   unlogged k (Upholds config events text) cause told holds well = absurd cause
   unlogged k Starved cause told holds well = inr (starved_status before.sink now.sink [] status told)
 
-  unlogged_upgrade : (k : ℕ) (ending : Ending) → Causes (Some (Upgrade k)) ending → Tells ending → HoldsNoLog k before → ¬ Rose (seen_at k before.disks).faults (seen_at k now.disks).faults → (status ≡ 8) ⊎ (status ≡ 1)
+  unlogged_upgrade : (k : ℕ) (ending : Ending) → Causes (Some (Upgrade k)) ending → Tells ending → HoldsNoLog k before → ¬ Rose (device_at k before.disks).faults (device_at k now.disks).faults → (status ≡ 8) ⊎ (status ≡ 1)
   unlogged_upgrade k Misused cause told holds well = absurd cause
   unlogged_upgrade k Unread cause told holds well = absurd cause
   unlogged_upgrade k (Refuses line reason said) cause told holds well = absurd cause
   unlogged_upgrade k (Plays operations config said) cause told holds well = absurd cause
   unlogged_upgrade k (Drives config n) cause told holds well = absurd cause
   unlogged_upgrade k (Simulates seed n) cause told holds well = absurd cause
-  unlogged_upgrade k (Shows j log) cause told (s, place, is, broken) well = absurd (no_log_shown (seen_at k before.disks).bytes s place _ is broken cause.2)
+  unlogged_upgrade k (Shows j log) cause told (s, place, is, broken) well = absurd (no_log_shown (device_at k before.disks).bytes s place _ is broken cause.2)
   unlogged_upgrade k DiskFails cause told holds well = absurd (well cause)
-  unlogged_upgrade k (Overflows size need) cause told (s, place, is, broken) well = absurd (no_log_shown (seen_at k before.disks).bytes s place _ is broken cause.1)
-  unlogged_upgrade k (Breaks place) cause told holds well = same_status before.sink now.sink (text_of (Breaks place)) 8 status told
+  unlogged_upgrade k (Overflows size need) cause told (s, place, is, broken) well = absurd (no_log_shown (device_at k before.disks).bytes s place _ is broken cause.1)
+  unlogged_upgrade k (Breaks place) cause told holds well = same_status before.sink now.sink (ending_text (Breaks place)) 8 status told
   unlogged_upgrade k (Runs why config list text) cause told holds well = absurd cause
   unlogged_upgrade k (Rejects line reason said) cause told holds well = absurd cause
   unlogged_upgrade k (Upholds config events text) cause told holds well = absurd cause
@@ -611,13 +611,13 @@ module _ (words : List (List ℕ)) (before now : Outside) (status : ℕ) (trail 
   pub log_taken_on : (k : ℕ) → named words ≡ Some (Upgrade k) → status ≡ 0 → ShowsTakenOn k before now
   log_taken_on k is none_failed = shows_taken_on before now status trail k ends.ending (by_name (Some (Upgrade k)) is) ends.told none_failed
 
-  pub log_complete : (k : ℕ) → named words ≡ Some (Log k) → HoldsLog k before → ¬ Rose (seen_at k before.disks).faults (seen_at k now.disks).faults → ¬ Rose before.sink.faults now.sink.faults → (status ≡ 0) ⊎ (status ≡ 1)
+  pub log_complete : (k : ℕ) → named words ≡ Some (Log k) → HoldsLog k before → ¬ Rose (device_at k before.disks).faults (device_at k now.disks).faults → ¬ Rose before.sink.faults now.sink.faults → (status ≡ 0) ⊎ (status ≡ 1)
   log_complete k is holds disk_well written_well = log_completes before now status trail k ends.ending (by_name (Some (Log k)) is) ends.told holds disk_well written_well
 
-  pub upgrade_complete : (k : ℕ) → named words ≡ Some (Upgrade k) → HoldsRoomyLog k before → ¬ Rose (seen_at k before.disks).faults (seen_at k now.disks).faults → ¬ Rose before.sink.faults now.sink.faults → (status ≡ 0) ⊎ (status ≡ 1)
+  pub upgrade_complete : (k : ℕ) → named words ≡ Some (Upgrade k) → HoldsRoomyLog k before → ¬ Rose (device_at k before.disks).faults (device_at k now.disks).faults → ¬ Rose before.sink.faults now.sink.faults → (status ≡ 0) ⊎ (status ≡ 1)
   upgrade_complete k is holds disk_well written_well = upgrade_completes before now status trail k ends.ending (by_name (Some (Upgrade k)) is) ends.told holds disk_well written_well
 
-  pub full_log : (k : ℕ) → named words ≡ Some (Upgrade k) → HoldsFullLog k before → ¬ Rose (seen_at k before.disks).faults (seen_at k now.disks).faults → (status ≡ 7) ⊎ (status ≡ 1)
+  pub full_log : (k : ℕ) → named words ≡ Some (Upgrade k) → HoldsFullLog k before → ¬ Rose (device_at k before.disks).faults (device_at k now.disks).faults → (status ≡ 7) ⊎ (status ≡ 1)
   full_log k is holds well = overflows_if_full before now status trail k ends.ending (by_name (Some (Upgrade k)) is) ends.told holds well
 
   pub full : status ≡ 7 → HasNoSpace words before now status ⊎ FillsLog words before now status trail
@@ -645,7 +645,7 @@ module _ (words : List (List ℕ)) (before now : Outside) (status : ℕ) (trail 
         changes_log before now status trail words is.0 is.1 is.2 (cause_at ending is.3) (list_at ending is.3) (told_at ending is.3))
   ]
 
-  no_log_for : (k : ℕ) (sub : Option Subcommand) → named words ≡ sub → disk_used sub ≡ Some k → HoldsNoLog k before → ¬ Rose (seen_at k before.disks).faults (seen_at k now.disks).faults → (status ≡ 8) ⊎ (status ≡ 1)
+  no_log_for : (k : ℕ) (sub : Option Subcommand) → named words ≡ sub → disk_used sub ≡ Some k → HoldsNoLog k before → ¬ Rose (device_at k before.disks).faults (device_at k now.disks).faults → (status ≡ 8) ⊎ (status ≡ 1)
   no_log_for k None is used holds well = cc
   no_log_for k (Some (Play operations)) is used holds well = cc
   no_log_for k (Some (Run policy limit viewed)) is used holds well = cc
@@ -659,7 +659,7 @@ module _ (words : List (List ℕ)) (before now : Outside) (status : ℕ) (trail 
       unlogged_upgrade before now status trail k ends.ending (by_name (Some (Upgrade k)) same) ends.told holds well
   no_log_for k (Some Audit) is used holds well = cc
 
-  pub no_log : (k : ℕ) → disk_used (named words) ≡ Some k → HoldsNoLog k before → ¬ Rose (seen_at k before.disks).faults (seen_at k now.disks).faults → (status ≡ 8) ⊎ (status ≡ 1)
+  pub no_log : (k : ℕ) → disk_used (named words) ≡ Some k → HoldsNoLog k before → ¬ Rose (device_at k before.disks).faults (device_at k now.disks).faults → (status ≡ 8) ⊎ (status ≡ 1)
   no_log k used holds well = no_log_for k (named words) refl used holds well
 
   pub misused : status ≡ 2 → named words ≡ None

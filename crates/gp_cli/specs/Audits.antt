@@ -6,10 +6,10 @@ use Rattle.gp_edge.specs.Reads.{ReadsUpTo, LosesUpTo}
 use Rattle.gp_verdict.specs.Verdicts.{Verdict, Upheld, Rejected, verdict}
 use Rattle.gp_verdict.specs.Certified.{IsCertified}
 use Rattle.gp_cli.specs.declared.runs.TheConstants.{MOST_READ}
-use Rattle.gp_cli.specs.Outside.{Seen}
+use Rattle.gp_cli.specs.Outside.{DeviceState}
 use Rattle.gp_cli.specs.Endings.{Ending, Unread, Rejects, Upholds, Starved}
 
--- why an audit with its input at hand ends so, by the verdict on the input
+-- why an audit with its input at hand ends in this way, by the verdict on the input
 abbrev pub IsVerdictCause : Verdict → Ending → Type 0
 IsVerdictCause ruling (Rejects line reason said) = ruling ≡ Rejected line reason said
 IsVerdictCause ruling (Upholds config events text) = (ruling ≡ Upheld config events) × IsCertified config (run_of config events) text
@@ -17,14 +17,14 @@ IsVerdictCause ruling Starved = Unit {0}
 IsVerdictCause ruling ending = ⊥
 
 -- this holds of the bytes read, up to one more than a script may have, and no fault was counted
-pub record HasReadInput (before now : Seen) (Holds : List ℕ → Type 0) : Type 0 where
+pub record HasReadInput (before now : DeviceState) (Holds : List ℕ → Type 0) : Type 0 where
   pub bytes : List ℕ
   pub taken : ReadsUpTo MOST_READ before.bytes now.bytes bytes
   pub steady : now.faults ≡ before.faults
   pub holds : Holds bytes
 
--- why it ends so if its input is to be read first, by the source before and now
-abbrev pub IsAuditCause : Seen → Seen → Ending → Type 0
+-- why an audit that first reads its input ends in this way, by the source before and now
+abbrev pub IsAuditCause : DeviceState → DeviceState → Ending → Type 0
 IsAuditCause before now Unread = Rose before.faults now.faults × LosesUpTo MOST_READ before.bytes now.bytes
 IsAuditCause before now (Rejects line reason said) = HasReadInput before now (λ bytes. IsVerdictCause (verdict bytes) (Rejects line reason said))
 IsAuditCause before now (Upholds config events text) = HasReadInput before now (λ bytes. IsVerdictCause (verdict bytes) (Upholds config events text))

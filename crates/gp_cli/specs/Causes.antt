@@ -16,7 +16,7 @@ use Rattle.gp_cli.specs.declared.subcommand.Subcommand.TheVariants.{Play, Run, S
 use Rattle.gp_cli.specs.declared.runs.TheConstants.{MOST_READ}
 use Rattle.gp_cli.specs.Subcommands.{named}
 use Rattle.gp_cli.specs.Machines.{reading_of}
-use Rattle.gp_cli.specs.Outside.{Seen, seen, Outside}
+use Rattle.gp_cli.specs.Outside.{DeviceState, device, Outside}
 use Rattle.gp_cli.specs.Run.{IsNodesCause}
 use Rattle.gp_cli.specs.Audits.{IsAuditCause}
 use Rattle.gp_cli.specs.Endings.{Shown, Ending, Misused, Unread, Refuses, Plays, Drives, Simulates, Shows, DiskFails, Overflows, Breaks, Starved}
@@ -24,21 +24,21 @@ use Rattle.gp_cli.specs.Endings.{Shown, Ending, Misused, Unread, Refuses, Plays,
 -- ---- a script
 
 -- the bytes read, up to one more than a script may have, have this reading by the machine's operations, and no fault was counted
-pub record HasRead (operations : Operations) (before now : Seen) (read : Reading) : Type 0 where
+pub record HasRead (operations : Operations) (before now : DeviceState) (read : Reading) : Type 0 where
   pub bytes : List ℕ
   pub taken : ReadsUpTo MOST_READ before.bytes now.bytes bytes
   pub steady : now.faults ≡ before.faults
   pub says : reading_of operations bytes ≡ read
 
--- why a run ends so if a script of the machine is to be read, by the source before and now
-abbrev pub IsReadCause : Operations → Seen → Seen → Ending → Type 0
+-- why a run that reads a script of the machine ends in this way, by the source before and now
+abbrev pub IsReadCause : Operations → DeviceState → DeviceState → Ending → Type 0
 IsReadCause operations before now Unread = Rose before.faults now.faults × LosesUpTo MOST_READ before.bytes now.bytes
 IsReadCause operations before now (Refuses line reason said) = HasRead operations before now (Refused line reason said)
 IsReadCause operations before now (Plays own config said) = (own ≡ operations) × HasRead operations before now (Whole config said)
 IsReadCause operations before now Starved = (now.faults ≡ before.faults) × LosesUpTo MOST_READ before.bytes now.bytes
 IsReadCause operations before now ending = ⊥
 
--- why a run with a script of the machine at hand ends so, by the script's reading
+-- why a run with a script of the machine at hand ends in this way, by the script's reading
 abbrev pub IsScriptCause : Operations → Reading → Ending → Type 0
 IsScriptCause operations read (Refuses line reason before) = read ≡ Refused line reason before
 IsScriptCause operations read (Plays own config said) = (own ≡ operations) × (read ≡ Whole config said)
@@ -47,7 +47,7 @@ IsScriptCause operations read ending = ⊥
 
 -- ---- a run that needs no input
 
--- why it ends so: as it should, or because memory ran out
+-- why such a run ends in this way: it is the ending that is meant, or memory ran out
 abbrev pub IsRunCause : Ending → Ending → Type 0
 IsRunCause meant ending = (ending ≡ meant) ⊎ (ending ≡ Starved)
 
@@ -61,8 +61,8 @@ shown log = record { parts = map (λ e. e.part) log.entries; size = 17 + log.clo
 abbrev pub IfLog : Option (List ℕ) → (Contents → Type 0) → Type 0
 IfLog bytes P = IfRevealed bytes (λ s. (log : Contents) × (read_log is_limit s ≡ Ok log) × P log)
 
--- why a run ends so if the log of a disk is to be shown, by the disk before and now; what it holds stays
-abbrev pub IsLogCause : ℕ → Seen → Seen → Ending → Type 0
+-- why a run that shows the log of a disk ends in this way, by the disk before and now; the disk keeps what it holds
+abbrev pub IsLogCause : ℕ → DeviceState → DeviceState → Ending → Type 0
 IsLogCause disk before now (Shows k log) = (k ≡ disk) × (now ≡ before) × IfLog before.bytes (λ found. log ≡ shown found)
 IsLogCause disk before now DiskFails = Rose before.faults now.faults × (now.bytes ≡ before.bytes)
 IsLogCause disk before now (Breaks place) = (now ≡ before) × IfRevealed before.bytes (λ s. read_log is_limit s ≡ Err place)
@@ -75,7 +75,7 @@ last_alone [] = []
 last_alone (e ∷ []) = (record { old = false; part = e.part }) ∷ []
 last_alone (e ∷ f ∷ es) = last_alone (f ∷ es)
 
--- what a log holds once it was taken on: if one of its entries is of version 1, the last one alone, in version 2; and otherwise what it held
+-- what a log holds after an upgrade: if one of its entries is of version 1, the last one alone, in version 2; and otherwise what it held
 pub record IsTakenOn (before now : Contents) : Type 0 where
   pub limit : now.limit ≡ before.limit
   pub renewed : has_old before.entries ≡ true → now.entries ≡ last_alone before.entries
@@ -98,8 +98,8 @@ pub record HasNoRoom (size need_of_last limit : ℕ) (entries : List LogEntry) :
   pub its_need : need_of_last ≡ need None last
   pub great : limit < size + need_of_last
 
--- why a run ends so if the log of a disk is to be renewed and shown
-abbrev pub IsUpgradeCause : ℕ → Seen → Seen → Ending → Type 0
+-- why a run that renews and shows the log of a disk ends in this way
+abbrev pub IsUpgradeCause : ℕ → DeviceState → DeviceState → Ending → Type 0
 IsUpgradeCause disk before now (Shows k log) =
     (k ≡ disk) × (now.faults ≡ before.faults) × IfLog before.bytes (λ was. HasRoomForLast was × IfLog now.bytes (λ found. IsTakenOn was found × (log ≡ shown found)))
 IsUpgradeCause disk before now DiskFails = Rose before.faults now.faults
@@ -108,34 +108,34 @@ IsUpgradeCause disk before now (Breaks place) = (now ≡ before) × IfRevealed b
 IsUpgradeCause disk before now Starved = now.faults ≡ before.faults
 IsUpgradeCause disk before now ending = ⊥
 
--- why a run ends so that shows the log of a disk, and before that takes it on if it upgrades
-abbrev pub log_cause : Bool → ℕ → Seen → Seen → Ending → Type 0
+-- why a run that shows the log of a disk, and renews it first if it upgrades, ends in this way
+abbrev pub log_cause : Bool → ℕ → DeviceState → DeviceState → Ending → Type 0
 log_cause false = IsLogCause
 log_cause true = IsUpgradeCause
 
 -- what is seen of a disk, by its number, and nothing if there is none
-abbrev pub seen_at : ℕ → List Seen → Seen
-seen_at k disks = unwrap_or (slice_get disks k) (seen None 0)
+abbrev pub device_at : ℕ → List DeviceState → DeviceState
+device_at k disks = unwrap_or (slice_get disks k) (device None 0)
 
 -- ---- by the words
 
--- three coordinators, of which the last does nothing
+-- three coordinators; in a driven run the last one takes no part
 abbrev pub driven_config : ℕ → ℕ → Counts
 driven_config acceptors learners = counts acceptors 3 learners
 
--- why it ends so if the words name no subcommand
+-- why a run whose words name no subcommand ends in this way
 abbrev pub IsMisuse : Ending → Type 0
 IsMisuse ending = ending ≡ Misused
 
--- why a run ends so, by the subcommand, if there is one
+-- why a run ends in this way, by the subcommand, if there is one
 abbrev pub IsCauseFor : Option Subcommand → Outside → Outside → Ending → Type 0
 IsCauseFor None before now ending = IsMisuse ending
 IsCauseFor (Some (Play operations)) before now ending = IsReadCause operations before.source now.source ending
 IsCauseFor (Some (Run policy limit viewed)) before now ending = IsNodesCause policy limit viewed before.source now.source before.disks now.disks ending
 IsCauseFor (Some (Sim seed commands)) before now ending = IsRunCause (Simulates seed commands) ending
 IsCauseFor (Some (Drive acceptors learners commands)) before now ending = IsRunCause (Drives (driven_config acceptors learners) commands) ending
-IsCauseFor (Some (Log k)) before now ending = IsLogCause k (seen_at k before.disks) (seen_at k now.disks) ending
-IsCauseFor (Some (Upgrade k)) before now ending = IsUpgradeCause k (seen_at k before.disks) (seen_at k now.disks) ending
+IsCauseFor (Some (Log k)) before now ending = IsLogCause k (device_at k before.disks) (device_at k now.disks) ending
+IsCauseFor (Some (Upgrade k)) before now ending = IsUpgradeCause k (device_at k before.disks) (device_at k now.disks) ending
 IsCauseFor (Some Audit) before now ending = IsAuditCause before.source now.source ending
 
 -- the same, by the words

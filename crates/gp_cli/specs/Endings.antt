@@ -4,7 +4,7 @@ use Rattle.gp_round.specs.Counts.{Counts}
 use Rattle.gp_msg.specs.declared.event.Event.{Event}
 use Rattle.gp_msg.specs.declared.record.Record.{Record}
 use Rattle.gp_msg.specs.Messages.{Entry, EpochPart}
-use Rattle.gp_run.specs.Runs.{run_of, entries_in}
+use Rattle.gp_run.specs.Runs.{run_of, newest_first}
 use Rattle.gp_ending.specs.declared.ends.RunEnd.{RunEnd}
 use Rattle.gp_ending.specs.declared.ends.RunEnd.TheVariants.{Learned, NoMemory, Disk, Full, NotLog, Changed}
 use Rattle.gp_retelling.specs.Texts.{run_text}
@@ -26,7 +26,7 @@ pub record Shown : Type 0 where
   pub parts : List EpochPart
   pub size : ℕ
 
--- the words name no subcommand; the source failed; a line of the script is refused, and this is what the lines before it said; the script of a machine was played; commands were driven; the workload of a seed was settled; the log of a disk is shown; the disk failed; the renewed log, of this size, would need too much; the disk's bytes are no log, at this place; nodes ran in threads until this end, posted these records, and left this text; an audit refuses a line of its input, and this is what the lines before it said; an audit upholds its input, a run of these events, with these certificates; memory ran out before any of these was known
+-- the words name no subcommand; the source failed; a line of the script is refused, and this is what the lines before it said; the script of a machine was played; commands were driven; the workload of a seed was settled; the log of a disk is shown; the disk failed; the renewed log, of this size, would need too much; the bytes of the disk are not a log, at this place; nodes ran in threads until this end, posted these records, and this text is printed; an audit refuses a line of its input, and this is what the lines before it said; an audit upholds its input, a run of these events, with these certificates; memory ran out before any of these was known
 pub data Ending : Type 0 where
   Misused : Ending
   Unread : Ending
@@ -43,7 +43,7 @@ pub data Ending : Type 0 where
   Upholds : Counts → List Event → List ℕ → Ending
   Starved : Ending
 
--- the status of a run of nodes that ended so, once its text was written
+-- the status of a run of nodes that ended in this way, if its text was written
 abbrev pub run_status : RunEnd → ℕ
 run_status Learned = 0
 run_status NoMemory = 1
@@ -52,7 +52,7 @@ run_status (Full size need) = 7
 run_status (NotLog at) = 8
 run_status Changed = 8
 
--- its status once its text was written
+-- its status if its text was written
 abbrev pub status_of : Ending → ℕ
 status_of Misused = 2
 status_of Unread = 4
@@ -69,12 +69,12 @@ status_of (Rejects line reason before) = 3
 status_of (Upholds config events text) = 0
 status_of Starved = 1
 
--- a run that would have ended well ends with 5 if the sink failed, and another one as it would have
+-- if the sink failed, a run that would have ended with status 0 ends with 5, and any other run ends as it would have ended
 abbrev pub status_at_fault : ℕ → ℕ
 status_at_fault zero = 5
 status_at_fault (suc n) = suc n
 
--- what is printed of a run of nodes that ended so
+-- what is printed of a run of nodes that ended in this way
 abbrev pub end_text : RunEnd → Counts → List Record → List ℕ
 end_text Learned config list = run_text config list
 end_text NoMemory config list = []
@@ -84,21 +84,21 @@ end_text (NotLog at) config list = broken_text at
 end_text Changed config list = log_changed
 
 -- what it prints
-abbrev pub text_of : Ending → List ℕ
-text_of Misused = usage
-text_of Unread = read_fault
-text_of (Refuses line reason before) = refusal_text line reason
-text_of (Plays operations config said) = output_for (profile_of operations) config said
-text_of (Drives config commands) = report config (driven config commands)
-text_of (Simulates seed commands) = summary seed commands sim_config (simulated seed commands)
-text_of (Shows disk log) = log_text disk log.parts log.size
-text_of DiskFails = disk_fault
-text_of (Overflows size need) = full_text size need
-text_of (Breaks place) = broken_text place
-text_of (Runs end config list text) = text
-text_of (Rejects line reason before) = rejection_text line reason
-text_of (Upholds config events text) = text
-text_of Starved = []
+abbrev pub ending_text : Ending → List ℕ
+ending_text Misused = usage
+ending_text Unread = read_fault
+ending_text (Refuses line reason before) = refusal_text line reason
+ending_text (Plays operations config said) = output_for (profile_of operations) config said
+ending_text (Drives config commands) = report config (driven config commands)
+ending_text (Simulates seed commands) = summary seed commands sim_config (simulated seed commands)
+ending_text (Shows disk log) = log_text disk log.parts log.size
+ending_text DiskFails = disk_fault
+ending_text (Overflows size need) = full_text size need
+ending_text (Breaks place) = broken_text place
+ending_text (Runs end config list text) = text
+ending_text (Rejects line reason before) = rejection_text line reason
+ending_text (Upholds config events text) = text
+ending_text Starved = []
 
 -- the run that it leads to, the newest entry first
 abbrev pub run_to : Ending → List Entry
@@ -112,7 +112,7 @@ run_to (Shows disk log) = []
 run_to DiskFails = []
 run_to (Overflows size need) = []
 run_to (Breaks place) = []
-run_to (Runs end config list text) = entries_in list
+run_to (Runs end config list text) = newest_first list
 run_to (Rejects line reason before) = run_before before
 run_to (Upholds config events text) = run_of config events
 run_to Starved = []

@@ -1,4 +1,4 @@
--- What comes of the log of a disk that is shown or renewed.
+-- What happens to the log of a disk that is shown or renewed.
 use Rattle.std.specs.Prelude.{◌≡◌, ◌⊎◌, ℕ, true, false, List, [], Option, None, Result, Ok, Err}
 use Rattle.gp_edge.specs.Disks.{IfRevealed, LeavesOnly}
 use Rattle.gp_vlog.specs.declared.fault.AppendFault.{AppendFault}
@@ -8,16 +8,16 @@ use Rattle.gp_vlog.specs.declared.fault.OpenFault.TheVariants as opening
 use Rattle.gp_vlog.specs.Bodies.{need}
 use Rattle.gp_vlog.specs.Files.{Contents, is_limit, read_log}
 use Rattle.gp_vlog.specs.Logs.{LogState, IsReady, has_old, log_entries}
-use Rattle.gp_cli.specs.Outside.{Seen, Told}
-use Rattle.gp_cli.specs.Endings.{Ending, DiskFails, Overflows, Breaks, Starved, status_of, status_at_fault, text_of, run_to, config_of}
+use Rattle.gp_cli.specs.Outside.{DeviceState, Told}
+use Rattle.gp_cli.specs.Endings.{Ending, DiskFails, Overflows, Breaks, Starved, status_of, status_at_fault, ending_text, run_to, config_of}
 use Rattle.gp_cli.specs.Causes.{last_alone, HasNoRoom, FitsAlone}
 
--- the text of an ending went to the sink, with its status
-abbrev pub TellsEnding : Ending → Seen → Seen → ℕ → Type 0
-TellsEnding ending before now status = Told before now (text_of ending) (status_of ending) (status_at_fault (status_of ending)) status
+-- the text of an ending was written to the sink, with its status
+abbrev pub TellsEnding : Ending → DeviceState → DeviceState → ℕ → Type 0
+TellsEnding ending before now status = Told before now (ending_text ending) (status_of ending) (status_at_fault (status_of ending)) status
 
--- a run without events ended in a way that has its cause, and its text went to the sink, with its status
-pub record LogEnds (Cause : Ending → Type 0) (before now : Seen) (status : ℕ) : Type 0 where
+-- a run without events ended in a way that has its cause, and its text was written to the sink, with its status
+pub record LogEnds (Cause : Ending → Type 0) (before now : DeviceState) (status : ℕ) : Type 0 where
   pub ending : Ending
   pub cause : Cause ending
   pub no_run : run_to ending ≡ []
@@ -49,7 +49,7 @@ pub record HoldsLast (was now : List ℕ) : Type 0 where
 abbrev pub KeepsLast : {D : Type 0} → (D → Option (List ℕ)) → (D → List ℕ → Type 0) → (D → ℕ) → (D → ℕ → List ℕ → Type 0) → D → D → Type 0
 KeepsLast content image moment since old new = IfRevealed (content old) (λ was. LeavesOnly moment since old new (λ c. image old c ⊎ HoldsLast was c))
 
--- what a log is after it was taken on, or was not
+-- what a log is after an upgrade, whether it succeeded or not
 abbrev pub TakesOn : {D : Type 0} → (D → Option (List ℕ)) → (D → List ℕ → Type 0) → LogState D → LogState D → Result (Unit {0}) AppendFault → Type 0
 TakesOn content image old new (Ok x) =
     IsReady content image new × (new.limit ≡ old.limit) × (has_old (log_entries old.is_old old.entries) ≡ false → new ≡ old)

@@ -24,7 +24,7 @@ abbrev pub profile_of : (operations : Operations) → Profile (StateOf operation
 profile_of Store = store_profile
 profile_of Bank = bank_profile
 
--- what a script says whose operations are for the machine
+-- what a script says if its operations are for the machine
 abbrev pub reading_of : Operations → List ℕ → Reading
 reading_of operations bytes = reading_in (profile_of operations).language bytes
 

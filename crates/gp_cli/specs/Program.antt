@@ -22,27 +22,27 @@ Arguments = Result (IntoIter (String Global) Global) Error
 abbrev pub words_after_name : IntoIter (String Global) Global → List (List ℕ)
 words_after_name given = texts_of (drop 1 (into_iter_items given))
 
--- an argument is no text
+-- an argument is not text
 abbrev pub IsNoText : Arguments → Type 0
 IsNoText (Ok given) = ⊥
 IsNoText (Err error) = error_kind error ≡ InvalidData
 
--- these are the words that the program gets: those after the program's name, and none if an argument is no text
+-- these are the words that the program gets: those after the program's name, and none if an argument is not text
 abbrev pub AreWords : Arguments → List (List ℕ) → Type 0
 AreWords (Ok given) words = words ≡ words_after_name given
 AreWords (Err error) words = (error_kind error ≡ InvalidData) × (words ≡ [])
 
--- the subcommand that the words after the program's name name, and none if an argument is no text
+-- the subcommand that the words after the program's name name, and none if an argument is not text
 abbrev pub subcommand_in : Arguments → Option Subcommand
 subcommand_in (Ok given) = named (words_after_name given)
 subcommand_in (Err error) = None
 
--- the disks, of which there are none if memory ran out for them
+-- the disks; there are none if memory ran out for them
 abbrev pub given_disks : {D : Type 0} → Result (Vec D) NoMemory → List D
 given_disks (Ok disks) = disks.items
 given_disks (Err e) = []
 
--- why the program ends so, by its arguments, whether there are disks, and the outside before and now: as the words after its name lead to; with the usage if an argument is no text; without memory after another error, or if there are no disks
+-- why the program ends in this way, by its arguments, whether there are disks, and the outside before and now: as the words after its name say; with the usage if an argument is not text; without memory after another error, or if there are no disks
 abbrev pub IsProgramCause : Arguments → Bool → Outside → Outside → Ending → Type 0
 IsProgramCause given false before now ending = ending ≡ Starved
 IsProgramCause (Ok given) true before now ending = IsCause (words_after_name given) before now ending

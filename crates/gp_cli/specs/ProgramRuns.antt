@@ -7,7 +7,7 @@ use Rattle.gp_cli.specs.declared.subcommand.Subcommand.TheVariants.{Run}
 use Rattle.gp_cli.specs.Subcommands.{named}
 use Rattle.gp_cli.specs.Outside.{Outside}
 use Rattle.gp_cli.specs.Run.{SomeFailed}
-use Rattle.gp_cli.specs.Causes.{IsCause, seen_at}
+use Rattle.gp_cli.specs.Causes.{IsCause, device_at}
 use Rattle.gp_cli.specs.Serving.{Ends}
 
 -- its words, what was seen of the outside before and after, its status and its records, as `serve` says of them
@@ -33,7 +33,7 @@ WritesWell run = ¬ Rose run.before.sink.faults run.now.sink.faults
 
 -- no fault of disk K was counted
 abbrev pub KeepsWell : ℕ → ProgramRun → Type 0
-KeepsWell k run = ¬ Rose (seen_at k run.before.disks).faults (seen_at k run.now.disks).faults
+KeepsWell k run = ¬ Rose (device_at k run.before.disks).faults (device_at k run.now.disks).faults
 
 -- no fault was counted anywhere
 pub record NothingFails (run : ProgramRun) : Type 0 where
@@ -41,6 +41,6 @@ pub record NothingFails (run : ProgramRun) : Type 0 where
   pub writes : WritesWell run
   pub disks : ¬ SomeFailed run.before.disks run.now.disks
 
--- its words are those of nodes in threads
+-- its words name a subcommand that runs nodes in threads
 abbrev pub IsNodesRun : RoundPolicy → ℕ → Option (List ℕ) → ProgramRun → Type 0
 IsNodesRun policy limit viewed run = named run.words ≡ Some (Run policy limit viewed)

@@ -25,7 +25,7 @@ log_changed = codes "log changed\n"
 abbrev pub full_text : ℕ → ℕ → List ℕ
 full_text size need = codes "log full: size " ++ decimal size ++ codes " need " ++ decimal need ++ codes "\n"
 
--- what is printed if the bytes of a disk are no log, at this place
+-- what is printed if the bytes of a disk are not a log, at this place
 abbrev pub broken_text : ℕ → List ℕ
 broken_text place = codes "not a log: at " ++ decimal place ++ codes "\n"
 
@@ -49,7 +49,7 @@ audit_reason_text (audit.Script why) = reason_text why
 audit_reason_text audit.NoReport = codes "no report"
 audit_reason_text audit.WrongReport = codes "wrong report"
 
--- a line, and these words on it
+-- a line, with these words about it
 abbrev pub line_text : ℕ → List ℕ → List ℕ
 line_text line why = codes "line " ++ decimal line ++ codes ": " ++ why ++ codes "\n"
 

@@ -21,7 +21,7 @@ abbrev pub IsFolded : Trail → Type 0
 IsFolded (Folded list) = Unit {0}
 IsFolded (Posted list) = ⊥
 
--- nodes in threads posted the records of `run` with status 0, 5, 7 or 8, and with 1 or 6 either they did or there are none. There are none with status 3 and 4
+-- nodes in threads posted the records of `run`, `adapt` and `views` with status 0, 5, 7 or 8, and with 1 or 6 either they did or there are none. There are none with status 3 and 4
 abbrev pub IsOfNodes : ℕ → Trail → Type 0
 IsOfNodes status (Folded list) = (list ≡ []) × ((status ≡ 1) ⊎ (status ≡ 3) ⊎ (status ≡ 4) ⊎ (status ≡ 6))
 IsOfNodes status (Posted list) = (status ≡ 0) ⊎ (status ≡ 1) ⊎ (status ≡ 5) ⊎ (status ≡ 6) ⊎ (status ≡ 7) ⊎ (status ≡ 8)

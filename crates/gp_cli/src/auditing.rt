@@ -1,7 +1,7 @@
 //! The subcommand that audits what a run printed.
 ghost use Rattle.std.specs.Prelude.{◌≤◌};
 ghost use Rattle.gp_verdict.specs.Verdicts.{verdict};
-ghost use Rattle.gp_cli.specs.Outside.{seen};
+ghost use Rattle.gp_cli.specs.Outside.{device};
 ghost use Rattle.gp_cli.specs.Audits.{IsVerdictCause, IsAuditCause};
 ghost use Rattle.gp_cli.specs.Serving.{EndsBy};
 
@@ -16,7 +16,7 @@ use std::alloc::Global;
 // Audits an input, and prints the certificates of its run, or its first refused line.
 fn audit_input<K: Sink>(alloc: Global, input: &[u8], sink: &mut K) -> Outcome
     ensures ends { EndsBy (IsVerdictCause (verdict input.now))
-        (seen (K.written sink.old) (K.faults sink.old)) (seen (K.written sink.new) (K.faults sink.new)) result.status result.trail }
+        (device (K.written sink.old) (K.faults sink.old)) (device (K.written sink.new) (K.faults sink.new)) result.status result.trail }
     ensures never_falls { K.faults sink.old ≤ K.faults sink.new }
 {
     match audit(alloc, input) {
@@ -35,14 +35,14 @@ fn audit_input<K: Sink>(alloc: Global, input: &[u8], sink: &mut K) -> Outcome
     }
 }
 
-/// Reads what `run` prints, and audits it.
+/// Reads what a run printed, and audits it.
 pub(crate) fn read_and_audit<S: Source, K: Sink>(
     alloc: Global,
     source: &mut S,
     sink: &mut K,
 ) -> Outcome
-    ensures ends { EndsBy (IsAuditCause (seen (S.rest source.old) (S.faults source.old)) (seen (S.rest source.new) (S.faults source.new)))
-        (seen (K.written sink.old) (K.faults sink.old)) (seen (K.written sink.new) (K.faults sink.new)) result.status result.trail }
+    ensures ends { EndsBy (IsAuditCause (device (S.rest source.old) (S.faults source.old)) (device (S.rest source.new) (S.faults source.new)))
+        (device (K.written sink.old) (K.faults sink.old)) (device (K.written sink.new) (K.faults sink.new)) result.status result.trail }
     ensures source_never_falls { S.faults source.old ≤ S.faults source.new }
     ensures sink_never_falls { K.faults sink.old ≤ K.faults sink.new }
 {

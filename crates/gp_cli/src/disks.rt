@@ -1,17 +1,17 @@
 //! The disks of the program, over files.
 ghost use Rattle.std.specs.Prelude.{◌≡◌, IfOk, length};
 
-use crate::subcommand::DISKS;
 use gp_command::NoMemory;
 use gp_edge::FileDisk;
+use gp_shelf::DISKS;
 use std::alloc::Global;
 use std::rt::Files;
 
-/// The folder that the files lie in.
+/// The folder of the files.
 const FOLDER: &str = "mcgp-data";
 
-/// Twelve disks over the files `mcgp-data/0` to `mcgp-data/11`. It opens none of them: a file, and the
-/// folder, are made at the first use of their disk.
+/// Twelve disks over the files `mcgp-data/0` to `mcgp-data/11`. A file, and the folder, are made at
+/// the first use of their disk, which is tested.
 pub fn file_disks<R: Files + Copy + Drop>(
     alloc: Global,
     files: R,

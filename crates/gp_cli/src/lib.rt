@@ -15,7 +15,7 @@ mod subcommand;
 mod telling;
 
 pub use disks::file_disks;
+pub use gp_shelf::DISKS;
 pub use program::{Ended, run_program};
 pub use ran::{Ran, Trail};
 pub use serving::serve;
-pub use subcommand::DISKS;

@@ -6,7 +6,7 @@ ghost use Rattle.gp_msg.specs.Messages.{part_of};
 ghost use Rattle.gp_text.specs.Logs.{log_text};
 ghost use Rattle.gp_vlog.specs.Causes.{HasCause};
 ghost use Rattle.gp_vlog.specs.Logs.{IsReady, KeepsRules};
-ghost use Rattle.gp_cli.specs.Outside.{seen, Told};
+ghost use Rattle.gp_cli.specs.Outside.{device, Told};
 ghost use Rattle.gp_cli.specs.Causes.{IsLogCause, IsUpgradeCause, log_cause};
 ghost use Rattle.gp_cli.specs.Logs.{LogEnds, KeepsLast, TakesOn, open_ending, append_ending, TellsEnding};
 
@@ -20,7 +20,7 @@ use std::alloc::Global;
 
 // Prints why a log was not opened.
 fn tell_unopened<K: Sink>(alloc: Global, why: OpenFault, sink: &mut K) -> u8
-    ensures told { TellsEnding (open_ending why) (seen (K.written sink.old) (K.faults sink.old)) (seen (K.written sink.new) (K.faults sink.new)) result }
+    ensures told { TellsEnding (open_ending why) (device (K.written sink.old) (K.faults sink.old)) (device (K.written sink.new) (K.faults sink.new)) result }
     ensures never_falls { K.faults sink.old ≤ K.faults sink.new }
 {
     match why {
@@ -32,7 +32,7 @@ fn tell_unopened<K: Sink>(alloc: Global, why: OpenFault, sink: &mut K) -> u8
 
 // Prints why a log was not renewed.
 fn tell_unrenewed<K: Sink>(alloc: Global, why: AppendFault, sink: &mut K) -> u8
-    ensures told { TellsEnding (append_ending why) (seen (K.written sink.old) (K.faults sink.old)) (seen (K.written sink.new) (K.faults sink.new)) result }
+    ensures told { TellsEnding (append_ending why) (device (K.written sink.old) (K.faults sink.old)) (device (K.written sink.new) (K.faults sink.new)) result }
     ensures never_falls { K.faults sink.old ≤ K.faults sink.new }
 {
     match why {
@@ -44,7 +44,7 @@ fn tell_unrenewed<K: Sink>(alloc: Global, why: AppendFault, sink: &mut K) -> u8
     }
 }
 
-fn text_of<D: Disk>(alloc: Global, number: u32, log: &Log<D>) -> Result<Vec<u8>, NoMemory>
+fn shown_text<D: Disk>(alloc: Global, number: u32, log: &Log<D>) -> Result<Vec<u8>, NoMemory>
     ensures { IfOk result (λ text. text.items ≡ log_text number (map part_of log.now.entries) log.now.size) }
 {
     let mut text = Vec::new(alloc);
@@ -54,17 +54,18 @@ fn text_of<D: Disk>(alloc: Global, number: u32, log: &Log<D>) -> Result<Vec<u8>,
 
 // Prints the entries of a log.
 fn print_log<D: Disk, K: Sink>(alloc: Global, number: u32, log: &Log<D>, sink: &mut K) -> u8
-    ensures told { Told (seen (K.written sink.old) (K.faults sink.old)) (seen (K.written sink.new) (K.faults sink.new))
+    ensures told { Told (device (K.written sink.old) (K.faults sink.old)) (device (K.written sink.new) (K.faults sink.new))
         (log_text number (map part_of log.now.entries) log.now.size) 0 5 result }
     ensures never_falls { K.faults sink.old ≤ K.faults sink.new }
 {
-    match text_of(alloc, number, log) {
+    match shown_text(alloc, number, log) {
         Ok(text) => tell(sink, &text, DONE, UNWRITTEN),
         Err(NoMemory) => NO_MEMORY,
     }
 }
 
-// A log with an entry of version 1 is renewed with its last entry. Another log stays as it is.
+// Renews a log that has an entry of version 1: it keeps the last entry alone. Any other log stays
+// as it is.
 fn take_on<D: Disk>(log: &mut Log<D>) -> Result<(), AppendFault>
     requires ready { log.old.ready ≡ true }
     requires on_disk { IsReady D.content D.image log.old }
@@ -82,8 +83,8 @@ fn take_on<D: Disk>(log: &mut Log<D>) -> Result<(), AppendFault>
 
 // Shows the log of a disk: how many entries it has, its size, and each entry.
 fn show_log<D: Disk, K: Sink>(alloc: Global, number: u32, disk: D, sink: &mut K) -> (u8, D)
-    ensures ends { LogEnds (IsLogCause number (seen (D.content disk) (D.faults disk)) (seen (D.content result.1) (D.faults result.1)))
-        (seen (K.written sink.old) (K.faults sink.old)) (seen (K.written sink.new) (K.faults sink.new)) result.0 }
+    ensures ends { LogEnds (IsLogCause number (device (D.content disk) (D.faults disk)) (device (D.content result.1) (D.faults result.1)))
+        (device (K.written sink.old) (K.faults sink.old)) (device (K.written sink.new) (K.faults sink.new)) result.0 }
     ensures crash { KeepsLast D.content D.image D.moment D.since disk result.1 }
     ensures disk_never_falls { D.faults disk ≤ D.faults result.1 }
     ensures never_falls { K.faults sink.old ≤ K.faults sink.new }
@@ -97,7 +98,7 @@ fn show_log<D: Disk, K: Sink>(alloc: Global, number: u32, disk: D, sink: &mut K)
     }
 }
 
-// Takes a log on, and prints its entries.
+// Renews a log if it has an entry of version 1, and prints its entries.
 fn take_on_and_print<D: Disk, K: Sink>(
     alloc: Global,
     number: u32,
@@ -107,8 +108,8 @@ fn take_on_and_print<D: Disk, K: Sink>(
     requires ready { log.old.ready ≡ true }
     requires on_disk { IsReady D.content D.image log.old }
     requires rules { All KeepsRules log.old.entries }
-    ensures ends { LogEnds (IsUpgradeCause number (seen (D.content log.old.disk) (D.faults log.old.disk)) (seen (D.content log.new.disk) (D.faults log.new.disk)))
-        (seen (K.written sink.old) (K.faults sink.old)) (seen (K.written sink.new) (K.faults sink.new)) result }
+    ensures ends { LogEnds (IsUpgradeCause number (device (D.content log.old.disk) (D.faults log.old.disk)) (device (D.content log.new.disk) (D.faults log.new.disk)))
+        (device (K.written sink.old) (K.faults sink.old)) (device (K.written sink.new) (K.faults sink.new)) result }
     ensures any_moment { KeepsLast D.content D.image D.moment D.since log.old.disk log.new.disk }
     ensures disk_never_falls { D.faults log.old.disk ≤ D.faults log.new.disk }
     ensures never_falls { K.faults sink.old ≤ K.faults sink.new }
@@ -119,11 +120,11 @@ fn take_on_and_print<D: Disk, K: Sink>(
     }
 }
 
-// Renews the log of a disk with its last entry if it was written in version 1 of the format, and shows
-// it.
+// Shows the log of a disk. If it was written in version 1 of the format, it is renewed with its
+// last entry first.
 fn upgrade_log<D: Disk, K: Sink>(alloc: Global, number: u32, disk: D, sink: &mut K) -> (u8, D)
-    ensures ends { LogEnds (IsUpgradeCause number (seen (D.content disk) (D.faults disk)) (seen (D.content result.1) (D.faults result.1)))
-        (seen (K.written sink.old) (K.faults sink.old)) (seen (K.written sink.new) (K.faults sink.new)) result.0 }
+    ensures ends { LogEnds (IsUpgradeCause number (device (D.content disk) (D.faults disk)) (device (D.content result.1) (D.faults result.1)))
+        (device (K.written sink.old) (K.faults sink.old)) (device (K.written sink.new) (K.faults sink.new)) result.0 }
     ensures crash { KeepsLast D.content D.image D.moment D.since disk result.1 }
     ensures disk_never_falls { D.faults disk ≤ D.faults result.1 }
     ensures never_falls { K.faults sink.old ≤ K.faults sink.new }
@@ -138,7 +139,7 @@ fn upgrade_log<D: Disk, K: Sink>(alloc: Global, number: u32, disk: D, sink: &mut
     }
 }
 
-/// Shows the log of a disk, and before that takes it on if `upgrades`.
+/// Shows the log of a disk. If `upgrades`, a log with an entry of version 1 is renewed first.
 pub(crate) fn use_disk<D: Disk, K: Sink>(
     alloc: Global,
     number: u32,
@@ -146,8 +147,8 @@ pub(crate) fn use_disk<D: Disk, K: Sink>(
     disk: D,
     sink: &mut K,
 ) -> (u8, D)
-    ensures ends { LogEnds (log_cause upgrades number (seen (D.content disk) (D.faults disk)) (seen (D.content result.1) (D.faults result.1)))
-        (seen (K.written sink.old) (K.faults sink.old)) (seen (K.written sink.new) (K.faults sink.new)) result.0 }
+    ensures ends { LogEnds (log_cause upgrades number (device (D.content disk) (D.faults disk)) (device (D.content result.1) (D.faults result.1)))
+        (device (K.written sink.old) (K.faults sink.old)) (device (K.written sink.new) (K.faults sink.new)) result.0 }
     ensures crash { KeepsLast D.content D.image D.moment D.since disk result.1 }
     ensures disk_never_falls { D.faults disk ≤ D.faults result.1 }
     ensures never_falls { K.faults sink.old ≤ K.faults sink.new }

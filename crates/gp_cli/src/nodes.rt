@@ -1,14 +1,14 @@
-//! The subcommand that runs nodes in threads.
+//! The subcommands that run nodes in threads: `run`, `adapt` and `views`.
 ghost use Rattle.std.specs.Prelude.{◌≡◌, ◌≤◌, ℕ, List, [], Option, Some, None, Err, length};
 ghost use Rattle.gp_run.specs.Legal.{Legal};
-ghost use Rattle.gp_run.specs.Runs.{entries_in};
+ghost use Rattle.gp_run.specs.Runs.{newest_first};
 ghost use Rattle.gp_cluster.specs.declared.policy.RoundPolicy.{RoundPolicy};
 ghost use Rattle.gp_offers.specs.Answers.{Reads};
 ghost use Rattle.gp_offers.specs.Offering.{OffersReading, Offered, offers_reading};
 ghost use Rattle.gp_offers.specs.Offered.{AreOffered};
 ghost use Rattle.gp_cli.specs.declared.subcommand.Subcommand.TheVariants.{Run};
 ghost use Rattle.gp_cli.specs.declared.ran.Trail.TheVariants.{Folded};
-ghost use Rattle.gp_cli.specs.Outside.{seen, disks_seen};
+ghost use Rattle.gp_cli.specs.Outside.{device, disk_states};
 ghost use Rattle.gp_phase.specs.Beside.{topics};
 ghost use Rattle.gp_onlookers.specs.Ends.{AreWatching, topic_of};
 ghost use Rattle.gp_cli.specs.Endings.{Runs, end_text};
@@ -52,7 +52,7 @@ fn without_nodes<D: Disk>(alloc: Global, status: u8, disks: Vec<D>) -> Ran<D>
     }
 }
 
-// Prints how a run of nodes ended that posted these records.
+// Prints how a run of nodes ended. The nodes posted these records.
 fn tell_end<K: Sink>(
     alloc: Global,
     config: &Config,
@@ -60,8 +60,8 @@ fn tell_end<K: Sink>(
     records: &[Record],
     sink: &mut K,
 ) -> u8
-    requires legal { Legal config.now (entries_in records.now) }
-    ensures told { TellsEnding (Runs end config.now records.now (end_text end config.now records.now)) (seen (K.written sink.old) (K.faults sink.old)) (seen (K.written sink.new) (K.faults sink.new)) result }
+    requires legal { Legal config.now (newest_first records.now) }
+    ensures told { TellsEnding (Runs end config.now records.now (end_text end config.now records.now)) (device (K.written sink.old) (K.faults sink.old)) (device (K.written sink.new) (K.faults sink.new)) result }
     ensures never_falls { K.faults sink.old ≤ K.faults sink.new }
 {
     match end {
@@ -76,7 +76,8 @@ fn tell_end<K: Sink>(
     }
 }
 
-// Prints how a run of nodes ended that posted these records, and if all was learned what onlookers saw of the key.
+// Prints how a run of nodes ended and, if all was learned, what the onlookers saw of the key. The
+// nodes posted these records.
 fn tell_viewed<K: Sink, W: Wait>(
     rt: &W,
     alloc: Global,
@@ -87,9 +88,9 @@ fn tell_viewed<K: Sink, W: Wait>(
     onlookers: Onlookers,
     sink: &mut K,
 ) -> u8
-    requires legal { Legal config.now (entries_in records.now) }
+    requires legal { Legal config.now (newest_first records.now) }
     requires watching { AreWatching key (topics (λ p. p.feed) topic_of onlookers) }
-    ensures told { TellsViewed key end config.now records.now (seen (K.written sink.old) (K.faults sink.old)) (seen (K.written sink.new) (K.faults sink.new)) result }
+    ensures told { TellsViewed key end config.now records.now (device (K.written sink.old) (K.faults sink.old)) (device (K.written sink.new) (K.faults sink.new)) result }
     ensures never_falls { K.faults sink.old ≤ K.faults sink.new }
 {
     match end {
@@ -104,7 +105,7 @@ fn tell_viewed<K: Sink, W: Wait>(
     }
 }
 
-// Runs the nodes of a configuration, and prints how they ended.
+// Runs the nodes of a configuration, and prints how the run ended.
 fn run_plainly<K: Sink, D: Disk + Send, W: Threads + Wait + Sync, G: Gate + Sync>(
     rt: &W,
     alloc: Global,
@@ -119,10 +120,10 @@ fn run_plainly<K: Sink, D: Disk + Send, W: Threads + Wait + Sync, G: Gate + Sync
     requires low { LEAST_LIMIT ≤ limit }
     requires high { limit ≤ MOST_LIMIT }
     requires right { AreOffered offers.now }
-    ensures ends { EndsBy (IsOffersCause policy limit None (Offered offers.now) (disks_seen D.content D.faults disks.items) (disks_seen D.content D.faults result.disks.items))
-        (seen (K.written sink.old) (K.faults sink.old)) (seen (K.written sink.new) (K.faults sink.new)) result.status (records_in result.trail) }
+    ensures ends { EndsBy (IsOffersCause policy limit None (Offered offers.now) (disk_states D.content D.faults disks.items) (disk_states D.content D.faults result.disks.items))
+        (device (K.written sink.old) (K.faults sink.old)) (device (K.written sink.new) (K.faults sink.new)) result.status (records_in result.trail) }
     ensures posted { IsOfNodes result.status result.trail }
-    ensures others { KeepsUnused (Some (Run policy limit None)) (IsOffersCause policy limit None (Offered offers.now) (disks_seen D.content D.faults disks.items) (disks_seen D.content D.faults result.disks.items))
+    ensures others { KeepsUnused (Some (Run policy limit None)) (IsOffersCause policy limit None (Offered offers.now) (disk_states D.content D.faults disks.items) (disk_states D.content D.faults result.disks.items))
         disks.items result.disks.items }
     ensures disks_never_fall { EachDisk (λ was is. D.faults was ≤ D.faults is) disks.items result.disks.items }
     ensures never_falls { K.faults sink.old ≤ K.faults sink.new }
@@ -148,7 +149,8 @@ fn run_plainly<K: Sink, D: Disk + Send, W: Threads + Wait + Sync, G: Gate + Sync
     }
 }
 
-// Runs the nodes of a configuration while onlookers look at a key, and prints how they ended and what was seen.
+// Runs the nodes of a configuration while onlookers look at a key, and prints how the run ended and
+// what was seen.
 fn run_viewed<K: Sink, D: Disk + Send, W: Threads + Wait + Sync, G: Gate + Sync>(
     rt: &W,
     alloc: Global,
@@ -164,10 +166,10 @@ fn run_viewed<K: Sink, D: Disk + Send, W: Threads + Wait + Sync, G: Gate + Sync>
     requires low { LEAST_LIMIT ≤ limit }
     requires high { limit ≤ MOST_LIMIT }
     requires right { AreOffered offers.now }
-    ensures ends { EndsBy (IsOffersCause policy limit (Some key) (Offered offers.now) (disks_seen D.content D.faults disks.items) (disks_seen D.content D.faults result.disks.items))
-        (seen (K.written sink.old) (K.faults sink.old)) (seen (K.written sink.new) (K.faults sink.new)) result.status (records_in result.trail) }
+    ensures ends { EndsBy (IsOffersCause policy limit (Some key) (Offered offers.now) (disk_states D.content D.faults disks.items) (disk_states D.content D.faults result.disks.items))
+        (device (K.written sink.old) (K.faults sink.old)) (device (K.written sink.new) (K.faults sink.new)) result.status (records_in result.trail) }
     ensures posted { IsOfNodes result.status result.trail }
-    ensures others { KeepsUnused (Some (Run policy limit (Some key))) (IsOffersCause policy limit (Some key) (Offered offers.now) (disks_seen D.content D.faults disks.items) (disks_seen D.content D.faults result.disks.items))
+    ensures others { KeepsUnused (Some (Run policy limit (Some key))) (IsOffersCause policy limit (Some key) (Offered offers.now) (disk_states D.content D.faults disks.items) (disk_states D.content D.faults result.disks.items))
         disks.items result.disks.items }
     ensures disks_never_fall { EachDisk (λ was is. D.faults was ≤ D.faults is) disks.items result.disks.items }
     ensures never_falls { K.faults sink.old ≤ K.faults sink.new }
@@ -204,7 +206,7 @@ fn run_viewed<K: Sink, D: Disk + Send, W: Threads + Wait + Sync, G: Gate + Sync>
     }
 }
 
-// Runs the nodes of a configuration, and prints how they ended.
+// Runs the nodes of a configuration, and prints how the run ended.
 fn run_offers<K: Sink, D: Disk + Send, W: Threads + Wait + Sync, G: Gate + Sync>(
     rt: &W,
     alloc: Global,
@@ -220,10 +222,10 @@ fn run_offers<K: Sink, D: Disk + Send, W: Threads + Wait + Sync, G: Gate + Sync>
     requires low { LEAST_LIMIT ≤ limit }
     requires high { limit ≤ MOST_LIMIT }
     requires right { AreOffered offers.now }
-    ensures ends { EndsBy (IsOffersCause policy limit viewed (Offered offers.now) (disks_seen D.content D.faults disks.items) (disks_seen D.content D.faults result.disks.items))
-        (seen (K.written sink.old) (K.faults sink.old)) (seen (K.written sink.new) (K.faults sink.new)) result.status (records_in result.trail) }
+    ensures ends { EndsBy (IsOffersCause policy limit viewed (Offered offers.now) (disk_states D.content D.faults disks.items) (disk_states D.content D.faults result.disks.items))
+        (device (K.written sink.old) (K.faults sink.old)) (device (K.written sink.new) (K.faults sink.new)) result.status (records_in result.trail) }
     ensures posted { IsOfNodes result.status result.trail }
-    ensures others { KeepsUnused (Some (Run policy limit viewed)) (IsOffersCause policy limit viewed (Offered offers.now) (disks_seen D.content D.faults disks.items) (disks_seen D.content D.faults result.disks.items))
+    ensures others { KeepsUnused (Some (Run policy limit viewed)) (IsOffersCause policy limit viewed (Offered offers.now) (disk_states D.content D.faults disks.items) (disk_states D.content D.faults result.disks.items))
         disks.items result.disks.items }
     ensures disks_never_fall { EachDisk (λ was is. D.faults was ≤ D.faults is) disks.items result.disks.items }
     ensures never_falls { K.faults sink.old ≤ K.faults sink.new }
@@ -234,11 +236,11 @@ fn run_offers<K: Sink, D: Disk + Send, W: Threads + Wait + Sync, G: Gate + Sync>
     }
 }
 
-// No node runs for a script that was not read to its end. Prints its first refused line.
+// No node runs if the script was not read to its end. Prints its first refused line.
 fn refuse<K: Sink, D: Disk>(alloc: Global, why: Unread, sink: &mut K, disks: Vec<D>) -> Ran<D>
     ensures ends { (policy : RoundPolicy) (limit : ℕ) (viewed : Option (List ℕ)) (read : OffersReading) → Reads read (Err why)
-        → EndsBy (IsOffersCause policy limit viewed read (disks_seen D.content D.faults disks.items) (disks_seen D.content D.faults result.disks.items))
-        (seen (K.written sink.old) (K.faults sink.old)) (seen (K.written sink.new) (K.faults sink.new)) result.status (records_in result.trail) }
+        → EndsBy (IsOffersCause policy limit viewed read (disk_states D.content D.faults disks.items) (disk_states D.content D.faults result.disks.items))
+        (device (K.written sink.old) (K.faults sink.old)) (device (K.written sink.new) (K.faults sink.new)) result.status (records_in result.trail) }
     ensures posted { IsOfNodes result.status result.trail }
     ensures disks { result.disks.items ≡ disks.items }
     ensures never_falls { K.faults sink.old ≤ K.faults sink.new }
@@ -268,10 +270,10 @@ fn run_script<K: Sink, D: Disk + Send, W: Threads + Wait + Sync, G: Gate + Sync>
     requires twelve { length disks.items ≡ 12 }
     requires low { LEAST_LIMIT ≤ limit }
     requires high { limit ≤ MOST_LIMIT }
-    ensures ends { EndsBy (IsOffersCause policy limit viewed (offers_reading script.now) (disks_seen D.content D.faults disks.items) (disks_seen D.content D.faults result.disks.items))
-        (seen (K.written sink.old) (K.faults sink.old)) (seen (K.written sink.new) (K.faults sink.new)) result.status (records_in result.trail) }
+    ensures ends { EndsBy (IsOffersCause policy limit viewed (offers_reading script.now) (disk_states D.content D.faults disks.items) (disk_states D.content D.faults result.disks.items))
+        (device (K.written sink.old) (K.faults sink.old)) (device (K.written sink.new) (K.faults sink.new)) result.status (records_in result.trail) }
     ensures posted { IsOfNodes result.status result.trail }
-    ensures others { KeepsUnused (Some (Run policy limit viewed)) (IsOffersCause policy limit viewed (offers_reading script.now) (disks_seen D.content D.faults disks.items) (disks_seen D.content D.faults result.disks.items))
+    ensures others { KeepsUnused (Some (Run policy limit viewed)) (IsOffersCause policy limit viewed (offers_reading script.now) (disk_states D.content D.faults disks.items) (disk_states D.content D.faults result.disks.items))
         disks.items result.disks.items }
     ensures disks_never_fall { EachDisk (λ was is. D.faults was ≤ D.faults is) disks.items result.disks.items }
     ensures never_falls { K.faults sink.old ≤ K.faults sink.new }
@@ -282,8 +284,8 @@ fn run_script<K: Sink, D: Disk + Send, W: Threads + Wait + Sync, G: Gate + Sync>
     }
 }
 
-/// Reads a script of offers, and runs its nodes in threads over logs of this limit, while readers view the key if there
-/// is one.
+/// Reads a script of offers, and runs its nodes in threads over logs of this limit. If there is a
+/// key, readers view it while the nodes run.
 pub(crate) fn read_and_run<
     S: Source,
     K: Sink,
@@ -304,10 +306,10 @@ pub(crate) fn read_and_run<
     requires twelve { length disks.items ≡ 12 }
     requires low { LEAST_LIMIT ≤ limit }
     requires high { limit ≤ MOST_LIMIT }
-    ensures ends { EndsBy (IsNodesCause policy limit viewed (seen (S.rest source.old) (S.faults source.old)) (seen (S.rest source.new) (S.faults source.new)) (disks_seen D.content D.faults disks.items) (disks_seen D.content D.faults result.disks.items))
-        (seen (K.written sink.old) (K.faults sink.old)) (seen (K.written sink.new) (K.faults sink.new)) result.status (records_in result.trail) }
+    ensures ends { EndsBy (IsNodesCause policy limit viewed (device (S.rest source.old) (S.faults source.old)) (device (S.rest source.new) (S.faults source.new)) (disk_states D.content D.faults disks.items) (disk_states D.content D.faults result.disks.items))
+        (device (K.written sink.old) (K.faults sink.old)) (device (K.written sink.new) (K.faults sink.new)) result.status (records_in result.trail) }
     ensures posted { IsOfNodes result.status result.trail }
-    ensures others { KeepsUnused (Some (Run policy limit viewed)) (IsNodesCause policy limit viewed (seen (S.rest source.old) (S.faults source.old)) (seen (S.rest source.new) (S.faults source.new)) (disks_seen D.content D.faults disks.items) (disks_seen D.content D.faults result.disks.items))
+    ensures others { KeepsUnused (Some (Run policy limit viewed)) (IsNodesCause policy limit viewed (device (S.rest source.old) (S.faults source.old)) (device (S.rest source.new) (S.faults source.new)) (disk_states D.content D.faults disks.items) (disk_states D.content D.faults result.disks.items))
         disks.items result.disks.items }
     ensures disks_never_fall { EachDisk (λ was is. D.faults was ≤ D.faults is) disks.items result.disks.items }
     ensures source_never_falls { S.faults source.old ≤ S.faults source.new }

@@ -40,7 +40,7 @@ impl<D: Disk> Model for Ended<D> {
 }
 
 impl<D: Disk> Termination for Ended<D> {
-    /// The exit status of the run. Nothing more is printed.
+    /// The exit status of the run.
     fn report<R: Eprint>(self, _rt: &R) -> ExitCode
         ensures { exit_status result ≡ self.status }
     {
@@ -48,7 +48,8 @@ impl<D: Disk> Termination for Ended<D> {
     }
 }
 
-// The words after the program's name. If an argument is no text there are none, and so no subcommand.
+// The words after the program's name. If an argument is not text, there are none, so they name no
+// subcommand.
 fn words_after_name(alloc: Global, arguments: io::Result<Args>) -> Result<Vec<String>, NoMemory>
     ensures words { IfOk result (λ words. AreWords arguments (texts_of words.items)) }
     ensures refused { OnErr result (¬ IsNoText arguments) }
@@ -60,7 +61,7 @@ fn words_after_name(alloc: Global, arguments: io::Result<Args>) -> Result<Vec<St
     }
 }
 
-// A run without memory, which left everything as it was.
+// The end of a run without memory: no records, and the disks as they were.
 fn starved<D: Disk>(alloc: Global, disks: Vec<D>) -> Ran<D>
     ensures status { result.status ≡ 1 }
     ensures trail { result.trail ≡ Folded [] }
@@ -73,7 +74,7 @@ fn starved<D: Disk>(alloc: Global, disks: Vec<D>) -> Ran<D>
     }
 }
 
-// The subcommand that the arguments name runs over these disks.
+// Runs the subcommand that the arguments name, over these disks.
 fn run_arguments<W: Threads + Wait + Sync, S: Source, K: Sink, D: Disk + Send, G: Gate + Sync>(
     rt: &W,
     alloc: Global,
@@ -103,12 +104,16 @@ fn run_arguments<W: Threads + Wait + Sync, S: Source, K: Sink, D: Disk + Send, G
     }
 }
 
-/// Runs the program: the subcommand that its arguments name, over its input, its output and its disks.
+/// Runs the program: the subcommand that its arguments name, over its input, its output and its
+/// disks.
 ///
-/// The arguments are what `std::env::args` gives. The first is the program's name, and the others are the
-/// words that `serve` gets. If an argument is no text there is no subcommand, which ends with the usage
-/// and status 2. After any other error of `std::env::args`, and if memory runs out for the words or ran out
-/// for the disks, nothing is read or written, and the status is 1. What each exit status says is in `laws`.
+/// The arguments are what `std::env::args` gives: the program's name, followed by the words that
+/// `serve` gets. If an argument is not text, there is no subcommand: the usage is printed, and the
+/// status is 2, unless memory runs out. After any other error of `std::env::args`, nothing is
+/// printed, and the status is 1. After either error nothing is read. If memory ran out for the
+/// disks, nothing is printed, and the status is 1, whatever the arguments are. If memory runs out
+/// for the words, the run ends as if it had run out in the subcommand. `laws` says what each exit
+/// status means.
 pub fn run_program<W: Threads + Wait + Sync, S: Source, K: Sink, D: Disk + Send, G: Gate + Sync>(
     rt: &W,
     alloc: Global,
@@ -120,18 +125,21 @@ pub fn run_program<W: Threads + Wait + Sync, S: Source, K: Sink, D: Disk + Send,
 ) -> Ended<D>
     requires twelve { IfOk disks (λ d. length d.items ≡ 12) }
 
-    // Whatever the status is: the records are a legal run of the configuration of the script or the subcommand, what learners showed at any moments agrees, and so do replicas.
+    // For every status the records are a legal run of the configuration of the script or the
+    // subcommand, what learners showed at any moments agrees, and so do replicas.
     ensures agreement { IsInAgreementFor (IsProgramCause arguments (is_ok disks)) (outside S.rest S.faults K.written K.faults D.content D.faults source.old sink.old (given_disks disks))
         (outside S.rest S.faults K.written K.faults D.content D.faults source.new sink.new result.disks.items) (records_in result.trail) }
 
-    // The run ends in one way, which has its cause: its records, its text and its status are those of that ending.
+    // The records, the text and the status are those of one ending, which has its cause.
     ensures ends { Ends (IsProgramCause arguments (is_ok disks)) (outside S.rest S.faults K.written K.faults D.content D.faults source.old sink.old (given_disks disks))
         (outside S.rest S.faults K.written K.faults D.content D.faults source.new sink.new result.disks.items) result.status (records_in result.trail) }
 
-    // The records of `run` are those that nodes in threads posted. There are none if it ended before their list was closed.
+    // The records of `run`, `adapt` and `views` are those that nodes in threads posted. There are
+    // none if the run ended before their list was closed.
     ensures posted { IsMadeFor (subcommand_in arguments) result.status result.trail }
 
-    // But for `run`, a crash at any moment leaves of each disk what it might have left before the call, or a log with all its entries or with the last one.
+    // Except in `run`, `adapt` and `views`, a crash at any moment leaves of each disk what it might
+    // have left before the call, or a log with all its entries or with the last one.
     ensures crash { ¬ RunsNodes (subcommand_in arguments) → EachDisk (KeepsLast D.content D.image D.moment D.since) (given_disks disks) result.disks.items }
 
     ensures untouched { ¬ IsReader (subcommand_in arguments) → source.new ≡ source.old }

@@ -1,4 +1,4 @@
-//! The subcommands that make a run: of a script, of commands that are driven, of a workload.
+//! The subcommands that play a script, drive commands, or settle a workload.
 ghost use Rattle.std.specs.Prelude.{◌≡◌, ◌≤◌, [], None, IfOk, IfErr};
 ghost use Rattle.gp_round.specs.Configs.{bad_count};
 ghost use Rattle.gp_report.specs.Texts.{report};
@@ -10,7 +10,7 @@ ghost use Rattle.gp_text.specs.Limits.{SaysLegallyFor};
 ghost use Rattle.gp_world.specs.State.{entries_of};
 ghost use Rattle.gp_cli.specs.Machines.{profile_of, reading_of, IsInAgreementOfAll};
 ghost use Rattle.gp_cli.specs.Endings.{Drives, Simulates};
-ghost use Rattle.gp_cli.specs.Outside.{seen, Told};
+ghost use Rattle.gp_cli.specs.Outside.{device, Told};
 ghost use Rattle.gp_cli.specs.Causes.{IsReadCause, IsRunCause, IsScriptCause, driven_config};
 ghost use Rattle.gp_cli.specs.Serving.{EndsBy};
 
@@ -27,7 +27,7 @@ use gp_text::{MOST_BYTES, Played, Unplayed, play, play_bank, report};
 use std::alloc::Global;
 use std::sync::Wait;
 
-/// The most bytes that are read: one more than a script may have.
+/// The greatest number of bytes that are read: one more than a script may have.
 pub const MOST_READ: usize = MOST_BYTES + 1;
 
 /// The status with which a run ended, and its records.
@@ -48,12 +48,12 @@ pub(crate) fn without_run(alloc: Global, status: u8) -> Outcome
     }
 }
 
-/// Prints what a run that was made prints.
+/// Prints the text of a run, or ends with status 1 if there was no memory to make the run.
 pub(crate) fn print<K: Sink>(alloc: Global, made: Result<Played, NoMemory>, sink: &mut K) -> Outcome
     ensures made { IfOk made (λ played. (result.trail ≡ played.world.records)
-        × Told (seen (K.written sink.old) (K.faults sink.old)) (seen (K.written sink.new) (K.faults sink.new)) played.text.items 0 5 result.status) }
+        × Told (device (K.written sink.old) (K.faults sink.old)) (device (K.written sink.new) (K.faults sink.new)) played.text.items 0 5 result.status) }
     ensures starved { IfErr made (λ _. (result.trail ≡ [])
-        × Told (seen (K.written sink.old) (K.faults sink.old)) (seen (K.written sink.new) (K.faults sink.new)) [] 1 1 result.status) }
+        × Told (device (K.written sink.old) (K.faults sink.old)) (device (K.written sink.new) (K.faults sink.new)) [] 1 1 result.status) }
     ensures never_falls { K.faults sink.old ≤ K.faults sink.new }
 {
     match made {
@@ -76,7 +76,7 @@ fn play_for(alloc: Global, operations: Operations, script: &[u8]) -> Result<Play
     }
 }
 
-// Plays a script, and prints what it prints, or its first refused line.
+// Plays a script, and prints its output or its first refused line.
 fn play_script<K: Sink>(
     alloc: Global,
     operations: Operations,
@@ -84,7 +84,7 @@ fn play_script<K: Sink>(
     sink: &mut K,
 ) -> Outcome
     ensures ends { EndsBy (IsScriptCause operations (reading_of operations script.now))
-        (seen (K.written sink.old) (K.faults sink.old)) (seen (K.written sink.new) (K.faults sink.new)) result.status result.trail }
+        (device (K.written sink.old) (K.faults sink.old)) (device (K.written sink.new) (K.faults sink.new)) result.status result.trail }
     ensures never_falls { K.faults sink.old ≤ K.faults sink.new }
 {
     match play_for(alloc, operations, script) {
@@ -110,8 +110,8 @@ pub(crate) fn read_and_play<S: Source, K: Sink>(
     source: &mut S,
     sink: &mut K,
 ) -> Outcome
-    ensures ends { EndsBy (IsReadCause operations (seen (S.rest source.old) (S.faults source.old)) (seen (S.rest source.new) (S.faults source.new)))
-        (seen (K.written sink.old) (K.faults sink.old)) (seen (K.written sink.new) (K.faults sink.new)) result.status result.trail }
+    ensures ends { EndsBy (IsReadCause operations (device (S.rest source.old) (S.faults source.old)) (device (S.rest source.new) (S.faults source.new)))
+        (device (K.written sink.old) (K.faults sink.old)) (device (K.written sink.new) (K.faults sink.new)) result.status result.trail }
     ensures source_never_falls { S.faults source.old ≤ S.faults source.new }
     ensures sink_never_falls { K.faults sink.old ≤ K.faults sink.new }
 {
@@ -164,7 +164,7 @@ pub(crate) fn drive_and_report<W: Wait, K: Sink>(
     requires counts { bad_count acceptors 3 learners ≡ None }
     requires few { commands ≤ 64 }
     ensures ends { EndsBy (IsRunCause (Drives (driven_config acceptors learners) commands))
-        (seen (K.written sink.old) (K.faults sink.old)) (seen (K.written sink.new) (K.faults sink.new)) result.status result.trail }
+        (device (K.written sink.old) (K.faults sink.old)) (device (K.written sink.new) (K.faults sink.new)) result.status result.trail }
     ensures never_falls { K.faults sink.old ≤ K.faults sink.new }
 {
     let made = driven(rt, alloc, driven_config(acceptors, learners), commands);
@@ -197,7 +197,7 @@ pub(crate) fn simulate_and_summarize<W: Wait, K: Sink>(
     requires some { 1 ≤ commands }
     requires few { commands ≤ 256 }
     ensures ends { EndsBy (IsRunCause (Simulates seed commands))
-        (seen (K.written sink.old) (K.faults sink.old)) (seen (K.written sink.new) (K.faults sink.new)) result.status result.trail }
+        (device (K.written sink.old) (K.faults sink.old)) (device (K.written sink.new) (K.faults sink.new)) result.status result.trail }
     ensures never_falls { K.faults sink.old ≤ K.faults sink.new }
 {
     let made = simulated(rt, alloc, seed, commands);

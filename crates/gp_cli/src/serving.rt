@@ -2,9 +2,9 @@
 ghost use Rattle.std.specs.Prelude.{◌≡◌, ◌≤◌, ◌<◌, Some, length, vec_len, vec_capacity};
 ghost use Rattle.std.specs.List.{insert};
 ghost use Rattle.gp_cli.specs.Subcommands.{texts_of, named};
-ghost use Rattle.gp_cli.specs.Outside.{seen, disks_seen, outside, AllBut};
+ghost use Rattle.gp_cli.specs.Outside.{device, disk_states, outside, AllBut};
 ghost use Rattle.gp_cli.specs.declared.ran.Trail.TheVariants.{Folded};
-ghost use Rattle.gp_cli.specs.Causes.{IsCause, IsMisuse, IsReader, RunsNodes, log_cause, seen_at};
+ghost use Rattle.gp_cli.specs.Causes.{IsCause, IsMisuse, IsReader, RunsNodes, log_cause, device_at};
 ghost use Rattle.gp_cli.specs.Logs.{KeepsLast};
 ghost use Rattle.gp_cli.specs.Serving.{EndsBy, Ends, IsInAgreementFor, EachDisk, KeepsUnused};
 ghost use Rattle.gp_cli.specs.Trails.{records_in, IsFolded, IsMadeFor};
@@ -25,7 +25,7 @@ use std::thread::Threads;
 
 // Prints the usage.
 fn misuse<K: Sink>(alloc: Global, sink: &mut K) -> Outcome
-    ensures ends { EndsBy IsMisuse (seen (K.written sink.old) (K.faults sink.old)) (seen (K.written sink.new) (K.faults sink.new))
+    ensures ends { EndsBy IsMisuse (device (K.written sink.old) (K.faults sink.old)) (device (K.written sink.new) (K.faults sink.new))
         result.status result.trail }
     ensures never_falls { K.faults sink.old ≤ K.faults sink.new }
 {
@@ -35,7 +35,7 @@ fn misuse<K: Sink>(alloc: Global, sink: &mut K) -> Outcome
     }
 }
 
-// Puts a disk back to where it was taken from.
+// Puts a disk back into the place from which it was taken.
 fn put_back<D: Disk>(disks: &mut Vec<D>, index: usize, disk: D)
     requires within { index ≤ vec_len disks.old }
     requires room { vec_len disks.old < vec_capacity disks.old }
@@ -47,7 +47,7 @@ fn put_back<D: Disk>(disks: &mut Vec<D>, index: usize, disk: D)
     }
 }
 
-// Gives the disks back beside how a run ended that used none of them.
+// The end of a run that used no disk, with the disks.
 fn with_disks<D: Disk>(outcome: Outcome, disks: Vec<D>) -> Ran<D>
     ensures status { result.status ≡ outcome.status }
     ensures trail { result.trail ≡ Folded outcome.trail }
@@ -60,7 +60,8 @@ fn with_disks<D: Disk>(outcome: Outcome, disks: Vec<D>) -> Ran<D>
     }
 }
 
-// Shows the log of one of the disks, and before that takes it on if `upgrades`.
+// Shows the log of one of the disks. If `upgrades`, a log with an entry of version 1 is renewed
+// first.
 fn use_log<D: Disk, K: Sink>(
     alloc: Global,
     number: u32,
@@ -69,8 +70,8 @@ fn use_log<D: Disk, K: Sink>(
     sink: &mut K,
 ) -> Ran<D>
     requires within { number < length disks.items }
-    ensures ends { EndsBy (log_cause upgrades number (seen_at number (disks_seen D.content D.faults disks.items)) (seen_at number (disks_seen D.content D.faults result.disks.items)))
-        (seen (K.written sink.old) (K.faults sink.old)) (seen (K.written sink.new) (K.faults sink.new)) result.status (records_in result.trail) }
+    ensures ends { EndsBy (log_cause upgrades number (device_at number (disk_states D.content D.faults disks.items)) (device_at number (disk_states D.content D.faults result.disks.items)))
+        (device (K.written sink.old) (K.faults sink.old)) (device (K.written sink.new) (K.faults sink.new)) result.status (records_in result.trail) }
     ensures folded { IsFolded result.trail }
     ensures others { AllBut (Some number) disks.items result.disks.items }
     ensures crash { EachDisk (KeepsLast D.content D.image D.moment D.since) disks.items result.disks.items }
@@ -89,23 +90,29 @@ fn use_log<D: Disk, K: Sink>(
     }
 }
 
-/// Runs the subcommand that the words name: it reads its input from the source, writes its text to the
-/// sink, and uses the disks, of which there are twelve.
+/// Runs the subcommand that the words name. It reads its input from the source, writes its text to
+/// the sink, and uses the twelve disks.
 ///
-/// `play` reads a script to its end, or to one byte past the most that a script may have, plays it, and
-/// prints what its `show` lines ask for and the report. If a read fails the script is not played. If a
-/// line is refused only the refusal is printed. `bank` does the same with a script whose operations are on
-/// accounts, and its report has the totals of each learner's accounts. `run` reads a script of offers, makes
-/// new logs on the disks of the nodes of its configuration, and runs the nodes in threads until each learner
-/// holds each offered command. It prints the trace of what they posted, a line `--` and the report, or why
-/// they ended before. `adapt` does so in rounds that adapt, and `views` while two readers look at a key; behind the
-/// report it prints what they saw. The gate is for their steps; no contract speaks of it. `sim` makes the workload of a
-/// seed, settles it, and prints a summary. `drive` drives commands one by one in a multi round of which one coordinator takes no
-/// part, and prints the report. `log` prints the entries of the log of a disk, and changes no byte of it;
-/// `upgrade` does the same after it has renewed a log with entries of version 1 of the format. `audit` reads
-/// what `run` prints, to its end or to one byte past the most that it may have, and prints the word `legal`
-/// and a certificate for each learned command, or the first line that is not in order. Words that name no
-/// subcommand get the usage. What each exit status says is in `laws`.
+/// `play` reads a script to its end, or to one byte past the most that a script may have, plays it,
+/// and prints what its `show` lines ask for and the report. If a read fails, the script is not
+/// played. If a line is refused, only the refusal is printed. `bank` does the same with a script
+/// whose operations are on accounts, and its report has the totals of each learner's accounts.
+///
+/// `run` reads a script of offers, makes new logs on the disks of the nodes of its configuration,
+/// and runs the nodes in threads until every learner holds every offered command. It prints the
+/// trace of what they posted, a line `--` and the report, or why they ended early. `adapt` does so
+/// in rounds that adapt. `views` does so while two readers look at a key, and prints what they saw
+/// after the report. The steps of the nodes pass the gate; no contract says what it does.
+///
+/// `sim` makes the workload of a seed, settles it, and prints a summary. `drive` drives commands,
+/// one after another, in a multi round in which one coordinator takes no part, and prints the
+/// report. `log` prints the entries of the log of a disk, and changes no byte of it. `upgrade`
+/// first renews a log with entries of version 1 of the format, and then prints its entries.
+///
+/// `audit` reads what `run` or `adapt` printed, to its end or to one byte past the most that it may
+/// have, and prints the word `legal` and a certificate for each learned command, or the first line
+/// that breaks a rule. If the words name no subcommand, the usage is printed. `laws` says what each
+/// exit status means.
 pub fn serve<W: Threads + Wait + Sync, S: Source, K: Sink, D: Disk + Send, G: Gate + Sync>(
     rt: &W,
     alloc: Global,
@@ -117,23 +124,28 @@ pub fn serve<W: Threads + Wait + Sync, S: Source, K: Sink, D: Disk + Send, G: Ga
 ) -> Ran<D>
     requires twelve { length disks.items ≡ 12 }
 
-    // Whatever the status is: the records are a legal run of the configuration of the script or the subcommand, what learners showed at any moments agrees, and so do replicas.
+    // For every status the records are a legal run of the configuration of the script or the
+    // subcommand, what learners showed at any moments agrees, and so do replicas.
     ensures agreement { IsInAgreementFor (IsCause (texts_of words.now)) (outside S.rest S.faults K.written K.faults D.content D.faults source.old sink.old disks.items)
         (outside S.rest S.faults K.written K.faults D.content D.faults source.new sink.new result.disks.items) (records_in result.trail) }
 
-    // The run ends in one way, which has its cause: its records, its text and its status are those of that ending.
+    // The records, the text and the status are those of one ending, which has its cause.
     ensures ends { Ends (IsCause (texts_of words.now)) (outside S.rest S.faults K.written K.faults D.content D.faults source.old sink.old disks.items)
         (outside S.rest S.faults K.written K.faults D.content D.faults source.new sink.new result.disks.items) result.status (records_in result.trail) }
 
-    // The records of `run`, `adapt` and `views` are those that nodes in threads posted. There are none if it ended before their list was closed.
+    // The records of `run`, `adapt` and `views` are those that nodes in threads posted. There are
+    // none if the run ended before their list was closed.
     ensures posted { IsMadeFor (named (texts_of words.now)) result.status result.trail }
 
-    // But for these three, a crash at any moment leaves of each disk what it might have left before the call, or a log with all its entries or with the last one.
+    // Except in these three, a crash at any moment leaves of each disk what it might have left
+    // before the call, or a log with all its entries or with the last one.
     ensures crash { ¬ RunsNodes (named (texts_of words.now)) → EachDisk (KeepsLast D.content D.image D.moment D.since) disks.items result.disks.items }
 
     ensures untouched { ¬ IsReader (named (texts_of words.now)) → source.new ≡ source.old }
 
-    // The disks that the subcommand does not use are as before: all but that of `log` and `upgrade`, and with `run` those of no node of the script's configuration.
+    // The disks that the subcommand does not use are as before: all except that of `log` or
+    // `upgrade`, and all except those of the nodes of the script's configuration in `run`, `adapt`
+    // and `views`.
     ensures others { KeepsUnused (named (texts_of words.now)) (IsCause (texts_of words.now) (outside S.rest S.faults K.written K.faults D.content D.faults source.old sink.old disks.items)
         (outside S.rest S.faults K.written K.faults D.content D.faults source.new sink.new result.disks.items)) disks.items result.disks.items }
 

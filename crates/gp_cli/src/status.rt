@@ -1,6 +1,6 @@
-//! The statuses with which a run ends.
+//! The exit statuses of a run.
 
-/// The input was read to its end, and all was written.
+/// The subcommand ran to its end, and all was written.
 pub const DONE: u8 = 0;
 
 /// Memory ran out.
@@ -24,5 +24,5 @@ pub const DISK_FAILED: u8 = 6;
 /// A log has no room for an entry.
 pub const LOG_FULL: u8 = 7;
 
-/// The bytes of a disk are no log.
+/// The bytes of a disk are not a log, or not the log that was written there.
 pub const NO_LOG: u8 = 8;

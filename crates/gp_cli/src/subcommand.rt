@@ -5,12 +5,10 @@ ghost use Rattle.gp_cli.specs.Subcommands.{texts_of, number_within, drive_named,
 use gp_cluster::RoundPolicy;
 use gp_command::Key;
 use gp_random::MOST_COMMANDS;
+use gp_shelf::DISKS;
 use gp_sim::MOST_DRIVEN;
 use gp_vlog::{LEAST_LIMIT, MOST_LIMIT};
 use gp_words::number_of;
-
-/// The number of disks: one for each acceptor, 0 to 6, and one for each coordinator, 7 to 11.
-pub const DISKS: u32 = 12;
 
 /// The machine that the operations of a script are for.
 #[derive(Clone, Copy, Debug, PartialEq, Eq)]
@@ -29,9 +27,10 @@ pub enum Subcommand {
         /// The machine that the script's operations are for.
         operations: Operations,
     },
-    /// Read a configuration and offers, run the nodes in threads, and print their trace and report.
+    /// Read a configuration and offers, run the nodes in threads, and print their trace, their
+    /// report and, if a key is viewed, what the readers saw.
     Run {
-        /// Which rounds are begun.
+        /// How the rounds are chosen.
         policy: RoundPolicy,
         /// The limit of each log, in bytes, 64 to 67,108,864.
         limit: u32,
@@ -45,8 +44,8 @@ pub enum Subcommand {
         /// The number of commands, 1 to 256.
         commands: u32,
     },
-    /// Drive commands one by one to all learners, and print the report. Of three coordinators the last
-    /// does nothing.
+    /// Drive commands, one after another, to all learners, and print the report. The last of three
+    /// coordinators takes no part.
     Drive {
         /// The number of acceptors, 3 to 7.
         acceptors: u32,
@@ -65,7 +64,8 @@ pub enum Subcommand {
         /// The number of the disk, 0 to 11.
         disk: u32,
     },
-    /// Read what `run` printed, and print whether it is right, with a certificate for each learned command.
+    /// Read what a run printed, and print the word `legal` and a certificate for each learned
+    /// command, or the first refused line.
     Audit,
 }
 
@@ -100,7 +100,7 @@ fn sim_of(seed: &str, commands: &str) -> Option<Subcommand>
     })
 }
 
-// A word alone.
+// One word.
 fn of_one(word: &str) -> Option<Subcommand>
     ensures { result ≡ named_by_one word.now }
 {

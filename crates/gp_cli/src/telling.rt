@@ -1,7 +1,7 @@
 //! The texts that are printed, and the status that goes with each.
 ghost use Rattle.std.specs.Prelude.{ℕ, ◌≡◌, ◌≤◌, ◌<◌, List, length, IfOk, IfErr};
 ghost use Rattle.gp_cli.specs.Texts.{reason_text, audit_reason_text, line_text, refusal_text, rejection_text, full_text, broken_text};
-ghost use Rattle.gp_cli.specs.Outside.{seen, Told};
+ghost use Rattle.gp_cli.specs.Outside.{device, Told};
 
 use crate::status::NO_MEMORY;
 use gp_command::NoMemory;
@@ -21,8 +21,8 @@ pub const READ_FAULT: &[u8] = b"read fault\n";
 /// What is printed if a disk failed.
 pub const DISK_FAULT: &[u8] = b"disk fault\n";
 
-/// What is printed if, after a fault of its disk, the log of a node has neither the durable part before its
-/// last move nor that after it.
+/// What is printed if, after a fault of its disk, the log of a node has neither the durable part
+/// from before its last move nor the one from after it.
 pub const LOG_CHANGED: &[u8] = b"log changed\n";
 
 fn reason_text(reason: Reason) -> &'static [u8]
@@ -53,7 +53,7 @@ fn audit_reason_text(reason: AuditReason) -> &'static [u8]
     }
 }
 
-// A line, by its number from 1, and these words on it.
+// The text for a line, by its number from 1, with these words about it.
 fn line_text(alloc: Global, line: u64, why: &[u8]) -> Result<Vec<u8>, NoMemory>
     ensures { IfOk result (λ text. text.items ≡ line_text line why.now) }
 {
@@ -80,7 +80,8 @@ pub fn rejection_text(alloc: Global, line: u64, reason: AuditReason) -> Result<V
     line_text(alloc, line, audit_reason_text(reason))
 }
 
-/// What is printed if a log of this size, in bytes, has no room for an entry of this need.
+/// What is printed if a log of this size has no room for an entry that needs this much, both in
+/// bytes.
 pub fn full_text(alloc: Global, size: u64, need: u64) -> Result<Vec<u8>, NoMemory>
     ensures { IfOk result (λ text. text.items ≡ full_text size need) }
 {
@@ -104,17 +105,17 @@ pub fn broken_text(alloc: Global, place: u64) -> Result<Vec<u8>, NoMemory>
     Ok(text)
 }
 
-/// Writes a text that may not have been made for want of memory, and answers the status as `tell` does: 1 too
-/// if the text was not made.
+/// Writes a text, and returns the status as `tell` does. The status is 1 too if there was no memory
+/// to make the text.
 pub fn tell_of<K: Sink>(
     sink: &mut K,
     text: Result<Vec<u8>, NoMemory>,
     whole: u8,
     at_fault: u8,
 ) -> u8
-    ensures told { IfOk text (λ t. Told (seen (K.written sink.old) (K.faults sink.old)) (seen (K.written sink.new) (K.faults sink.new))
+    ensures told { IfOk text (λ t. Told (device (K.written sink.old) (K.faults sink.old)) (device (K.written sink.new) (K.faults sink.new))
         t.items whole at_fault result) }
-    ensures untold { IfErr text (λ _. (meant : List ℕ) → 0 < length meant → Told (seen (K.written sink.old) (K.faults sink.old)) (seen (K.written sink.new) (K.faults sink.new))
+    ensures untold { IfErr text (λ _. (meant : List ℕ) → 0 < length meant → Told (device (K.written sink.old) (K.faults sink.old)) (device (K.written sink.new) (K.faults sink.new))
         meant whole at_fault result) }
     ensures never_falls { K.faults sink.old ≤ K.faults sink.new }
 {
@@ -124,10 +125,10 @@ pub fn tell_of<K: Sink>(
     }
 }
 
-/// Writes a text, and answers the status: `whole` if all of it was written, `at_fault` if the sink failed,
-/// and 1 if the sink found no memory.
+/// Writes a text, and returns the status: `whole` if all of it was written, `at_fault` if the sink
+/// failed, and 1 if memory ran out in the sink.
 pub fn tell<K: Sink>(sink: &mut K, text: &[u8], whole: u8, at_fault: u8) -> u8
-    ensures told { Told (seen (K.written sink.old) (K.faults sink.old)) (seen (K.written sink.new) (K.faults sink.new))
+    ensures told { Told (device (K.written sink.old) (K.faults sink.old)) (device (K.written sink.new) (K.faults sink.new))
         text.now whole at_fault result }
     ensures never_falls { K.faults sink.old ≤ K.faults sink.new }
 {

@@ -38,14 +38,14 @@ events 17 messages 10
 // an amount above the greatest
 const TOO_GREAT: &[u8] = b"nodes 3 1 1\noffer p0 deposit a 4294967296\n";
 
-// the same behind an event
+// the same after an event
 const TOO_GREAT_LATER: &[u8] =
     b"nodes 3 1 1\noffer p0 deposit a 10\noffer p1 transfer a b 4294967296\n";
 
 // an operation of the key store
 const PUT: &[u8] = b"nodes 3 1 1\noffer p0 put a 5\n";
 
-// Whether a word with this script ends with this status and so many records, and prints this.
+// Whether a word with this script ends with this status and this many records, and prints this.
 fn ends<W: Threads + Wait + Sync>(
     rt: &W,
     alloc: Global,

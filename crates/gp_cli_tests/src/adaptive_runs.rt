@@ -1,4 +1,4 @@
-//! Nodes that run in threads, whose rounds adapt to clashes.
+//! Nodes that run in threads, whose rounds adapt to collisions.
 use crate::audited_runs::is_audited;
 use crate::many_runs::config_of;
 use crate::nodes::{CHECKPOINT, EIGHT, Printed, count, parts_of, plays_again, show_eight, shows};

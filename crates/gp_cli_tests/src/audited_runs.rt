@@ -1,4 +1,4 @@
-//! Audits of runs, whose certificates are checked against the votes that are counted.
+//! Audits of runs, whose certificates are compared with the votes that are counted.
 use crate::counted_votes::all_counted;
 use crate::many_runs::{config_of, script_with};
 use crate::nodes::{CHECKPOINT, EIGHT, TWO};
@@ -21,7 +21,7 @@ const OFFERS: usize = 8;
 // More records than the runs here make.
 const MANY: usize = 100_000;
 
-// The world in which the events of these records happen, or `None` if one is refused.
+// The world after the events of these records, or `None` if one is refused.
 fn world_of(alloc: Global, config: Config, records: &[Record]) -> Result<Option<World>, Fail> {
     let mut world = World::new(alloc, config)?;
     for record in records {
@@ -72,7 +72,7 @@ fn each_stored_run_is_upheld(rt: HostRuntime) -> Result<(), Fail> {
     Ok(())
 }
 
-// How many nodes fell.
+// How many nodes crashed.
 fn falls(records: &[Record]) -> usize {
     let mut count = 0usize;
     for record in records {
@@ -83,7 +83,8 @@ fn falls(records: &[Record]) -> usize {
     count
 }
 
-// The run of a seed, in which a call of the disk of an acceptor or of coordinator 0 fails behind those that make its log.
+// The run of a seed, in which a call of the disk of an acceptor or of coordinator 0 fails after
+// those that make its log.
 fn fallen_run<W: Threads + Wait + Sync>(
     rt: &W,
     alloc: Global,
@@ -101,7 +102,7 @@ fn fallen_run<W: Threads + Wait + Sync>(
     )
 }
 
-// How many nodes fell in the runs of these seeds, or `None` if one of the runs was not upheld.
+// How many nodes crashed in the runs of these seeds, or `None` if one of the runs was not upheld.
 fn falls_in_runs<W: Threads + Wait + Sync>(
     rt: &W,
     alloc: Global,

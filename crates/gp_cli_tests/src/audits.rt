@@ -103,7 +103,7 @@ fn is_folded(ran: &Ran<MemDisk>) -> bool {
     }
 }
 
-// Whether an audit of this input ends with this status and so many records, and prints this.
+// Whether an audit of this input ends with this status and this many records, and prints this.
 fn ends<W: Threads + Wait + Sync>(
     rt: &W,
     alloc: Global,
@@ -138,7 +138,7 @@ fn an_input_is_legal_or_refused_at_a_line(rt: HostRuntime) -> Result<(), Fail> {
     Ok(())
 }
 
-// The bytes of a script at most.
+// The greatest number of bytes of a script.
 const MOST_BYTES: usize = 1_048_576;
 
 #[test]
@@ -152,8 +152,8 @@ fn a_line_may_be_too_long(rt: HostRuntime) -> Result<(), Fail> {
     Ok(())
 }
 
-// Whether what `run` prints of a script is legal, in so many lines with a certificate in each but the first, also if
-// these calls of a disk failed.
+// Whether what `run` prints for a script is legal, in this many lines with a certificate in each
+// except the first. These calls of a disk fail in the run.
 fn is_upheld<W: Threads + Wait + Sync>(
     rt: &W,
     alloc: Global,
@@ -184,7 +184,7 @@ fn what_run_prints_is_legal(rt: HostRuntime) -> Result<(), Fail> {
     Ok(())
 }
 
-// The first write of the first entry of coordinator 0 fails, so it falls.
+// The first write of the first entry of coordinator 0 fails, so it crashes.
 #[test]
 fn what_run_prints_after_a_fall_is_legal(rt: HostRuntime) -> Result<(), Fail> {
     let alloc = rt.alloc();

@@ -1,4 +1,4 @@
-//! Certificates against the records of their run: the votes of each quorum are counted here.
+//! Compares certificates with the records of their run: the votes of each quorum are counted here.
 use gp_audit::{Cause, Proof, certify};
 use gp_command::CommandId;
 use gp_history::Hist;
@@ -39,8 +39,8 @@ fn voter_of(message: &Msg, in_epoch: u32, in_round: Round, id: CommandId) -> Opt
     }
 }
 
-// Which acceptors voted for the command, by the votes that the learner took in its present life up to the record of its
-// certificate. Whether that record is one of these takings is told too.
+// Which acceptors voted for the command, by the votes that the learner took after its last crash
+// and up to the record of its certificate; and whether it took one of them in that record.
 fn voters(
     world: &World,
     learner: u32,

@@ -1,4 +1,4 @@
-//! Nodes of which one disk fails at one call.
+//! Nodes with one disk that fails at one call.
 use crate::nodes::{EIGHT, count, parts_of};
 use crate::stage::{disks_with, served_with};
 use std::alloc::Global;
@@ -9,12 +9,12 @@ use std::thread::Threads;
 // The calls that make a log: a cut, a write and a sync.
 const MAKING: u64 = 3;
 
-// Behind these calls there may be no other, since a node may take many messages at once.
+// After these calls there may be no other, since a node may take many messages at once.
 const SURE: u64 = 5;
 
 const MOST_CALLS: u64 = 40;
 
-// The status of a run of which this call of disk 0 fails, and how often acceptor 0 fell.
+// The status of a run in which this call of disk 0 fails, and how often acceptor 0 crashed.
 fn fail_at<W: Threads + Wait + Sync>(
     rt: &W,
     alloc: Global,

@@ -1,4 +1,4 @@
-//! Tests of the subcommands that read no script of the key store, and of the words that name a subcommand.
+//! Tests of the subcommands other than `play`, and of the words that name a subcommand.
 #![tactic(auto)]
 
 #[cfg(test)]

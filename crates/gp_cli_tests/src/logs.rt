@@ -47,7 +47,7 @@ acceptor epoch 0 1.single.0 voted 0.single.0: -
 acceptor epoch 0 1.single.0 voted 1.single.0: p0.1
 ";
 
-// Whether the log of disk 3 with these bytes is shown so, and left as it is.
+// Whether the log of disk 3 with these bytes is shown as this text, and left as it is.
 fn shows<W: Threads + Wait + Sync>(
     rt: &W,
     alloc: Global,

@@ -1,4 +1,4 @@
-//! Runs of nodes of several configurations, each of which `play` makes again from its trace.
+//! Runs of nodes of several configurations, each of which `play` repeats from its trace.
 use crate::audited_runs::is_audited;
 use crate::nodes::{parts_of, plays_again};
 use crate::stage::{disks_with, served_with};
@@ -38,7 +38,8 @@ pub fn config_of(seed: usize) -> Result<Config, Fail> {
     Ok(Config::new(acceptors, coordinators, learners)?)
 }
 
-/// So many offers by eight proposers. Another seed has another configuration, and takes other operations.
+/// A script of this many offers by eight proposers. Another seed has another configuration, and
+/// takes other operations.
 pub fn script_with(alloc: Global, seed: usize, offers: usize) -> Result<Vec<u8>, Fail> {
     let (acceptors, coordinators, learners) = COUNTS[seed % COUNTS.len()];
     let nodes = format!(in alloc; "nodes {acceptors} {coordinators} {learners}\n")?;

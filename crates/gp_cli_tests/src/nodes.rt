@@ -7,11 +7,11 @@ use std::sync::Wait;
 use std::test::Fail;
 use std::thread::Threads;
 
-/// Eight commands of which no two conflict.
+/// Eight commands, no two of which conflict.
 pub const EIGHT: &[u8] =
     b"nodes 3 3 2\noffer p0 put a 1\noffer p1 add b 2\noffer p2 add b 3\noffer p3 get z\noffer p4 put c 4\noffer p5 del d\noffer p6 cas e 1 2\noffer p7 copy f g\n";
 
-// What each learner of these shows, behind its name.
+// What each learner of these commands shows, after its name.
 const EIGHT_LEARNED: [&[u8]; 3] = [
     b" learned 8: p0.1 p1.1 p2.1 p3.1 p4.1 p5.1 p6.1 p7.1",
     b" state: a=1 b=5 c=4",
@@ -52,7 +52,7 @@ pub fn parts_of(alloc: Global, text: &[u8]) -> Result<Printed, Fail> {
     Ok(Printed { trace, report })
 }
 
-/// How many lines of a text are this one.
+/// How many lines of a text are equal to this one.
 pub fn count(text: &[u8], wanted: &[u8]) -> usize {
     text.split(|byte| *byte == b'\n')
         .filter(|line| **line == *wanted)

@@ -45,7 +45,7 @@ pub struct Finished<D: Disk> {
     pub sink: CalmSink,
 }
 
-/// A command with this input over these disks.
+/// Runs a command with this input over these disks.
 pub fn served_with<W: Threads + Wait + Sync, D: Disk + Send>(
     rt: &W,
     alloc: Global,
@@ -69,7 +69,7 @@ pub fn served_with<W: Threads + Wait + Sync, D: Disk + Send>(
     Ok(Finished { ran, sink })
 }
 
-/// A command without input over these disks.
+/// Runs a command without input over these disks.
 pub fn served<W: Threads + Wait + Sync, D: Disk + Send>(
     rt: &W,
     alloc: Global,

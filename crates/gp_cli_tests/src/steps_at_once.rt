@@ -1,4 +1,4 @@
-//! Steps of two nodes at one time.
+//! Steps of two nodes at the same time.
 use crate::nodes::EIGHT;
 use crate::stage::{disks_with, owned};
 use gp_cli::serve;
@@ -8,10 +8,10 @@ use std::sync::atomic::{AtomicU64, Ordering};
 use std::test::Fail;
 use std::thread;
 
-// How often a step looks whether the other one has come.
+// How often a step looks whether the other one has begun.
 const LOOKS: u32 = 1_000_000;
 
-// Whether a step has come, and whether it has seen that the other one has.
+// Whether a step has begun, and whether it has seen that the other one has.
 #[derive(Drop)]
 struct Visitor {
     came: AtomicU64,
@@ -62,7 +62,8 @@ impl Gate for Meeting {
     }
 }
 
-// A run that handles one node after another, or holds a lock round whole steps, lets only one of them see the other.
+// A run that handles one node after another, or holds a lock during whole steps, lets only one of
+// them see the other.
 #[test]
 fn two_steps_at_once(rt: HostRuntime) -> Result<(), Fail> {
     let alloc = rt.alloc();

@@ -1,4 +1,4 @@
-//! The subcommand that takes on a log of version 1.
+//! The subcommand that renews a log of version 1.
 
 use crate::logs::{OLD_LOG, old_log, old_log_of_a_vote};
 use crate::stage::{Finished, content_of, disks_with, served};

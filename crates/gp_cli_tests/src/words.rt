@@ -87,7 +87,7 @@ fn ends<R: Eprint + Threads + Wait + Sync>(
     Ok(ended.report(rt) == ExitCode::from(status) && sink.written() == prints)
 }
 
-// The same, where the environment gives these arguments.
+// The same, if the environment gives these arguments.
 fn given<R: Eprint + Threads + Wait + Sync>(
     rt: &R,
     alloc: Global,

@@ -5,12 +5,12 @@ use Rattle.std.specs.List.{All}
 use Rattle.gp_round.specs.Counts.{Counts}
 use Rattle.gp_msg.specs.declared.record.Record.{Record}
 use Rattle.gp_run.specs.Legal.{Legal}
-use Rattle.gp_run.specs.Runs.{entries_in}
+use Rattle.gp_run.specs.Runs.{newest_first}
 use Rattle.gp_vlog.specs.Logs.{LogState}
 use Rattle.gp_wire.specs.Ends.{Closed}
 use Rattle.gp_wire.specs.Known.{WireState, records}
 use Rattle.gp_rules.specs.Lawful.{paxos_legal}
-use Rattle.gp_rules.specs.Own.{own_events}
+use Rattle.gp_rules.specs.Own.{own_events, IsBehind}
 use Rattle.gp_rules.specs.declared.rules.PaxosRules.{PaxosRules}
 use Rattle.gp_cell.specs.Cells.{CellState, pass_of}
 use Rattle.gp_driver.specs.declared.stage.StageFault.{StageFault}
@@ -19,7 +19,6 @@ use Rattle.gp_driver.specs.Settled.{Settles}
 use Rattle.gp_driver.specs.Stages.{IsProposer, NodesGo, FailsByNode, HasDriven}
 use Rattle.gp_stage.specs.Held.{HeldCells, stage_of, whole_list, seen_by}
 use Rattle.gp_stage.specs.Gathered.{AreSameBut, AreBehind}
-use Rattle.gp_stage.specs.Gathered as stage
 use Rattle.gp_stage.specs.Kept.{AreHeld}
 use Rattle.gp_ending.specs.declared.ends.RunEnd.{RunEnd}
 use Rattle.gp_ending.specs.declared.ends.RunEnd.TheVariants.{NoMemory}
@@ -27,7 +26,7 @@ use Rattle.gp_closing.specs.Cells.{IsKnownCell, AreCellsAt, HasLearned, CellsGo,
 use Rattle.gp_closing.specs.Closing.{IsClosedBy, EndsAs, IsRunOfCells, StoodTo, IsConclusion, Stood, Settled, SettledTo, Leaves, end_of}
 use Rattle.gp_closing.proofs.Going.{cells_same, cells_on}
 use Rattle.gp_closing.proofs.Standing.{run_of_cells}
-use Rattle.gp_closing.proofs.Settled.{as_behind, go_same, go_nodes, configs_are, same_rests, settled_to}
+use Rattle.gp_closing.proofs.Settled.{go_same, go_nodes, configs_are, same_rests, settled_to}
 
 ends_none : (meant end : RunEnd) (posted : Option (List Record)) → EndsAs meant posted end → posted ≡ None → end ≡ NoMemory
 ends_none meant end None h e = h
@@ -67,9 +66,9 @@ module _ {D : Type 0} (faults : D → ℕ) (config : Counts) (commands : ℕ) (c
 
   -- a run that was settled
   module _ (wire : WireState PaxosRules) (old new : HeldCells D) (r : Result ℕ StageFault) (config_is : old.config ≡ config) (configs : (i : ℕ) (c : CellState D) → slice_get cells i ≡ Some c → c.config ≡ config)
-      (same : AreSameBut cells old.cells) (lists : AreBehind cells (whole_list old)) (legal : Legal config (entries_in (whole_list old)))
-      (driven : HasDriven (stage_of faults old) (stage_of faults new) (settle old.config (entries_in (whole_list old))) r) (nodes : NodesGo IsProposer (stage_of faults old).nodes (stage_of faults new).nodes)
-      (failed : FailsByNode (stage_of faults old).nodes (stage_of faults new).nodes r) (brings : OnOk r (Settles old.config (entries_in (whole_list old)))) (held : AreHeld wire new.config new.cells new.holder)
+      (same : AreSameBut cells old.cells) (lists : AreBehind cells (whole_list old)) (legal : Legal config (newest_first (whole_list old)))
+      (driven : HasDriven (stage_of faults old) (stage_of faults new) (settle old.config (newest_first (whole_list old))) r) (nodes : NodesGo IsProposer (stage_of faults old).nodes (stage_of faults new).nodes)
+      (failed : FailsByNode (stage_of faults old).nodes (stage_of faults new).nodes r) (brings : OnOk r (Settles old.config (newest_first (whole_list old)))) (held : AreHeld wire new.config new.cells new.holder)
       (closed_is : (out : List Record) → Closed (paxos_legal wire.rules.config) wire.nodes (map pass_of new.cells) out → out ≡ whole_list new) where
     wire_config : wire.rules.config ≡ config
     wire_config = sym held.config_is ∙ driven.same_config ∙ config_is
@@ -90,14 +89,14 @@ module _ {D : Type 0} (faults : D → ℕ) (config : Counts) (commands : ℕ) (c
 
       run : IsRunOfCells config new.cells list
       run = record {
-        legal = subst (λ k. Legal k (entries_in list)) wire_config closed.legal;
-        behind = λ i c e. as_behind c.node (records c.pass) list (subst (λ rs. stage.IsBehind c.node (records c.pass) rs) (lead_list ∙ sym list_is) (held.behind i c e));
+        legal = subst (λ k. Legal k (newest_first list)) wire_config closed.legal;
+        behind = λ i c e. subst (λ rs. IsBehind c.node (records c.pass) rs) (lead_list ∙ sym list_is) (held.behind i c e);
       }
 
       conclusion : (end : RunEnd) → end ≡ end_of r → ¬ All (HasLearned commands) cells → IsConclusion faults config commands cells new.cells None end list
       conclusion end is lacking = Settled refl (record {
         before = whole_list old;
-        run = record { legal = legal; behind = λ i c e. as_behind c.node (records c.pass) (whole_list old) (lists i c e) };
+        run = record { legal = legal; behind = lists };
         lacking = lacking;
         rest = λ i c p e q. subst (λ rs. own_events c.node rs ≡ own_events c.node (whole_list old)) (sym list_is) (same_rests faults cells old.cells new.cells (whole_list old) (whole_list new) first_goes nodes.each i c p e q);
         settled = subst (λ x. SettledTo faults config (whole_list old) cells new.cells list x) (sym is) (settled_to faults config cells old new list config_is list_is first_goes r driven failed brings);

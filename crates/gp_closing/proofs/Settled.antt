@@ -8,7 +8,7 @@ use Rattle.gp_msg.specs.declared.node.Node.TheVariants.{Proposer}
 use Rattle.gp_msg.specs.declared.record.Record.{Record}
 use Rattle.gp_round.specs.Counts.{Counts}
 use Rattle.gp_run.specs.Legal.{fits}
-use Rattle.gp_run.specs.Runs.{entries_in}
+use Rattle.gp_run.specs.Runs.{newest_first}
 use Rattle.gp_rules.specs.Own.{own_events}
 use Rattle.gp_cell.specs.Cells.{CellState}
 use Rattle.gp_cell.specs.Refusals.{faults_of, limit_of}
@@ -19,8 +19,6 @@ use Rattle.gp_driver.specs.Settled.{AllLearned, Settles}
 use Rattle.gp_driver.specs.Stages.{StageNode, IsProposer, NodeGoes, HasRisen, SomeNodeRose, FailsByNode, HasDriven}
 use Rattle.gp_stage.specs.Held.{HeldCells, stage_node, stage_of, whole_list}
 use Rattle.gp_stage.specs.Gathered.{AreSameBut, rest_of}
-use Rattle.gp_stage.specs.Gathered as gathered
-use Rattle.gp_quiet.specs.Ended.{IsBehind}
 use Rattle.gp_closing.specs.Cells.{CellGoes, CellsGo, SomeCellRose}
 use Rattle.gp_closing.specs.Closing.{SettledTo, end_of}
 
@@ -29,9 +27,6 @@ some_is e = cc
 
 no_some : {A P : Type 0} {x : A} → None ≡ Some x → P
 no_some {A} {P} {x} e = absurd (let wrong : None ≡ Some x = e in cc)
-
-pub as_behind : (n : Node) (start list : List Record) → gathered.IsBehind n start list → IsBehind n start list
-as_behind n start list b = record { more = b.more; split = b.split; others = b.others }
 
 module _ {D : Type 0} (faults : D → ℕ) where
   -- but for their passes they are the same
@@ -152,15 +147,15 @@ module _ {D : Type 0} (faults : D → ℕ) where
 -- ---- how settling ended
 
 module _ {D : Type 0} (faults : D → ℕ) (config : Counts) (cells : List (CellState D)) (old new : HeldCells D) (list : List Record) (config_is : old.config ≡ config) (list_is : list ≡ whole_list new) (goes : CellsGo faults cells old.cells) where
-  run_is : entries_in (whole_list new) ≡ entries_in list
-  run_is = ap entries_in (sym list_is)
+  run_is : newest_first (whole_list new) ≡ newest_first list
+  run_is = ap newest_first (sym list_is)
 
-  pub settled_to : (r : Result ℕ StageFault) → HasDriven (stage_of faults old) (stage_of faults new) (settle old.config (entries_in (whole_list old))) r → FailsByNode (stage_of faults old).nodes (stage_of faults new).nodes r
-      → OnOk r (Settles old.config (entries_in (whole_list old))) → SettledTo faults config (whole_list old) cells new.cells list (end_of r)
+  pub settled_to : (r : Result ℕ StageFault) → HasDriven (stage_of faults old) (stage_of faults new) (settle old.config (newest_first (whole_list old))) r → FailsByNode (stage_of faults old).nodes (stage_of faults new).nodes r
+      → OnOk r (Settles old.config (newest_first (whole_list old))) → SettledTo faults config (whole_list old) cells new.cells list (end_of r)
   settled_to (Ok n) d f b =
-      let same : entries_in list ≡ settle config (entries_in (whole_list old)) = sym run_is ∙ d.outcome.0 ∙ ap (λ k. settle k (entries_in (whole_list old))) config_is in (
+      let same : newest_first list ≡ settle config (newest_first (whole_list old)) = sym run_is ∙ d.outcome.0 ∙ ap (λ k. settle k (newest_first (whole_list old))) config_is in (
         same,
-        subst (AllLearned config) (sym same) (subst (λ k. AllLearned k (settle k (entries_in (whole_list old)))) config_is b.learned),
+        subst (AllLearned config) (sym same) (subst (λ k. AllLearned k (settle k (newest_first (whole_list old)))) config_is b.learned),
         d.outcome.2,
       )
   settled_to (Err fault.NoMemory) d f b = tt
@@ -173,6 +168,6 @@ module _ {D : Type 0} (faults : D → ℕ) (config : Counts) (cells : List (Cell
         pass = y.pass;
         whole = y.whole ∙ sym list_is;
         event = x.event;
-        may_come = subst (λ k. fits k (entries_in list) x.event ≡ true) config_is (subst (λ es. fits old.config es x.event ≡ true) run_is x.event_fits);
+        may_come = subst (λ k. fits k (newest_first list) x.event ≡ true) config_is (subst (λ es. fits old.config es x.event ≡ true) run_is x.event_fits);
         great = y.great;
       }

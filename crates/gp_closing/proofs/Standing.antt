@@ -5,7 +5,7 @@ use Rattle.gp_round.specs.Counts.{Counts}
 use Rattle.gp_msg.specs.declared.node.Node.{Node}
 use Rattle.gp_msg.specs.declared.record.Record.{Record}
 use Rattle.gp_run.specs.Legal.{Legal}
-use Rattle.gp_run.specs.Runs.{entries_in}
+use Rattle.gp_run.specs.Runs.{newest_first}
 use Rattle.gp_wire.specs.Lists.{Each, Has, IsDistinct}
 use Rattle.gp_wire.specs.Known.{WireState, records}
 use Rattle.gp_wire.specs.Ends.{AreOf, IsHeld}
@@ -13,7 +13,7 @@ use Rattle.gp_rules.specs.declared.rules.PaxosRules.{PaxosRules}
 use Rattle.gp_cell.specs.Cells.{CellState, pass_of}
 use Rattle.gp_cell.specs.Working.{IsAt}
 use Rattle.gp_node.specs.Endings.{AreAllCells}
-use Rattle.gp_quiet.specs.Ended.{IsBehind}
+use Rattle.gp_rules.specs.Own.{IsBehind}
 use Rattle.gp_quiet.proofs.Indexing.{each_of, get_each, each_then}
 use Rattle.gp_quiet.proofs.Holding.{each_begun}
 use Rattle.gp_stage.specs.Held.{AreReady, AreUp, AreCellsOf, HasCell}
@@ -80,7 +80,7 @@ module _ {D : Type 0} (wire : WireState PaxosRules) (cells : List (CellState D))
   -- what they have seen begins the list with which they close the wire
   pub run_of_cells : (config : Counts) (list : List Record) → config ≡ wire.rules.config → IsClosedBy wire cells list → IsRunOfCells config cells list
   run_of_cells config list same c = record {
-    legal = subst (λ k. Legal k (entries_in list)) (sym same) c.legal;
+    legal = subst (λ k. Legal k (newest_first list)) (sym same) c.legal;
     behind = get_each (λ x. IsBehind x.node (records x.pass) list) cells (subst (λ rs. Each (λ x. IsBehind x.node (records x.pass) rs) cells) (sym c.closed.list)
         (each_begun c.closed.log cells c.closed.lists (each_then IsKnownCell (λ x. x.pass.node ≡ x.node) (λ x k. k.node) cells each_known) (each_then (λ x. IsAt x wire) (λ x. Has x.pass.node x.pass.holds) (λ x a. a.holds) cells each_at)));
   }

@@ -4,7 +4,7 @@ use Rattle.std.specs.Option.{option_to_list}
 use Rattle.std.specs.List.{All, AllZip}
 use Rattle.gp_history.specs.History.{size}
 use Rattle.gp_msg.specs.declared.node.Node.{Node}
-use Rattle.gp_run.specs.Runs.{entries_in}
+use Rattle.gp_run.specs.Runs.{newest_first}
 use Rattle.gp_vlog.specs.Logs.{LogState}
 use Rattle.gp_wire.specs.Known.{WireState, records}
 use Rattle.gp_rules.specs.declared.rules.PaxosRules.{PaxosRules}
@@ -14,13 +14,13 @@ use Rattle.gp_cell.specs.Refusals.{faults_of, limit_of}
 use Rattle.gp_cell.specs.Working.{IsAt}
 use Rattle.gp_edge.specs.Faults.{Rose}
 
--- what is known of each cell: its pass is that of its node, its core is the state of the node's own records, and while the node is up its log keeps the durable part of the core
+-- what is known of each cell: its pass is that of its node, its core is the state that the node's own records make, and if the node is up its log keeps the durable part of the core
 pub record IsKnownCell {D : Type 0} (c : CellState D) : Type 0 where
   pub node : c.pass.node ≡ c.node
-  pub core : c.core ≡ core_at c.config c.node (entries_in (records c.pass))
+  pub core : c.core ≡ core_at c.config c.node (newest_first (records c.pass))
   pub kept : c.down ≡ None → Keeps (part_in (opening c.config c.node)) (part_in c.core) c.log
 
--- if its node is a learner, it holds at least so many commands
+-- if its node is a learner, it holds at least n commands
 abbrev pub HasLearned : {D : Type 0} → ℕ → CellState D → Type 0
 HasLearned n c = IfSome (learned_in c.core) (λ h. n ≤ size h)
 
@@ -42,7 +42,7 @@ pub record AreCellsAt {D : Type 0} (wire : WireState PaxosRules) (cells : List (
   pub known : All IsKnownCell cells
   pub nodes : map node_in cells ≡ wire.nodes
 
--- the same node later: its log has the same limit, and its disk failed no less often
+-- the same node later: its log has the same limit, and its disk failed at least as often
 pub record CellGoes {D : Type 0} (faults : D → ℕ) (c d : CellState D) : Type 0 where
   pub node : d.node ≡ c.node
   pub config : d.config ≡ c.config

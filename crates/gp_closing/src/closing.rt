@@ -16,7 +16,8 @@ use gp_vlog::Log;
 use gp_wire::Wire;
 use std::alloc::Global;
 
-/// What is left of a run: why it ended, what was posted if its wire was closed, and the logs of its nodes, in their order.
+/// What is left of a run: why it ended, the list that was posted if its wire was closed, and the
+/// logs of its nodes, in their order.
 #[derive(Drop)]
 pub struct Closed<D: Disk> {
     pub end: RunEnd,
@@ -85,7 +86,8 @@ fn logs_of<D: Disk>(cells: Vec<Cell<D>>, room: Vec<Log<D>>) -> Vec<Log<D>>
     found
 }
 
-/// The logs of cells whose wire is not closed, since memory ran out. `room` is empty and has room for the logs.
+/// What is left of a run whose wire is not closed, since memory ran out: the logs of its cells, in
+/// their order. `room` must be empty and have room for the logs.
 pub fn leave<D: Disk>(cells: Vec<Cell<D>>, room: Vec<Log<D>>) -> Closed<D>
     requires { HasRoomFor (length (logs_of cells.items)) room }
     ensures posted { result.posted ≡ None }
@@ -102,8 +104,9 @@ pub fn leave<D: Disk>(cells: Vec<Cell<D>>, room: Vec<Log<D>>) -> Closed<D>
     }
 }
 
-/// Closes a wire with the cells of all its nodes. `room` is empty and has room for their logs. If memory runs out, nothing is
-/// said to be posted, and the logs come back all the same.
+/// Closes a wire with the cells of all its nodes. `room` must be empty and have room for their
+/// logs. If memory runs out, no list is returned and the end is `NoMemory`. The logs are returned
+/// in either case.
 pub(crate) fn close<D: Disk>(
     alloc: Global,
     wire: Wire<PaxosRules>,

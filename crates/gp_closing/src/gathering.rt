@@ -17,7 +17,8 @@ fn take_cell<D: Disk>(job: Job<D>) -> Cell<D>
     job.cell
 }
 
-/// Appends the cells of jobs, in their order. It takes no memory.
+/// Appends the cells of jobs, in their order. `cells` must have room for them, and its capacity
+/// stays.
 pub fn take_cells<D: Disk>(jobs: Vec<Job<D>>, cells: &mut Vec<Cell<D>>)
     requires { length jobs.items + vec_len cells.old ≤ vec_capacity cells.old }
     ensures cells { cells.new.items ≡ cells.old.items ++ cells_of jobs.items }
@@ -31,7 +32,7 @@ pub fn take_cells<D: Disk>(jobs: Vec<Job<D>>, cells: &mut Vec<Cell<D>>)
     }
 }
 
-// Whether a learner holds at least so many commands. Another node holds enough.
+// Whether the node of a cell is no learner, or holds at least so many commands.
 fn has_learned<D: Disk>(cell: &Cell<D>, commands: usize) -> bool
     ensures { IsTrue result ↔ HasLearned commands cell.now }
 {
@@ -41,7 +42,7 @@ fn has_learned<D: Disk>(cell: &Cell<D>, commands: usize) -> bool
     }
 }
 
-/// Whether each learner among the nodes of these cells holds at least so many commands. It takes no memory.
+/// Whether each learner among the nodes of these cells holds at least so many commands.
 pub(crate) fn have_learned<D: Disk>(cells: &[Cell<D>], commands: usize) -> bool
     ensures all { result ≡ true → All (HasLearned commands) cells.now }
     ensures some { result ≡ false → ¬ All (HasLearned commands) cells.now }

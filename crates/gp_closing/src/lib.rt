@@ -1,4 +1,5 @@
-//! The end of a run of nodes in threads: it is settled if something is left to learn, its wire is closed, and its logs come back.
+//! The end of a run of nodes in threads: the run is settled if something is left to learn, its wire
+//! is closed, and the logs of its nodes are returned.
 #![tactic(auto)]
 
 mod closing;

@@ -22,7 +22,7 @@ use gp_wire::Wire;
 use std::alloc::Global;
 use std::sync::Wait;
 
-// How a run ended that was settled.
+// How a settled run ended.
 fn end_of(settled: Result<u64, StageFault>) -> RunEnd
     ensures { result ≡ end_of settled }
 {
@@ -62,8 +62,13 @@ fn settle_and_close<D: Disk, W: Wait, G: Gate>(
     close(alloc, wire, cells, room, end)
 }
 
-/// Closes a run of cells. A run that ended early is closed as it stands. If nothing was left to do, and some learner has fewer
-/// commands than so many, the run is settled first.
+/// Ends a run of cells and closes its wire. If the run ended early, `end` says why, and the run is
+/// closed as it is. If `end` is `None`, nothing was left to do, and the cells must be up: the run
+/// is settled first if some learner has fewer than `commands` commands. `room` must be empty and
+/// have room for the logs.
+///
+/// If the wire could not be closed, memory ran out: no list is returned and the end is `NoMemory`.
+/// The logs are returned in every case.
 pub fn conclude<D: Disk, W: Wait, G: Gate>(
     rt: &W,
     alloc: Global,

@@ -7,7 +7,7 @@ use Rattle.gp_command.specs.Views.{DraftView}
 use Rattle.gp_round.specs.Counts.{Counts}
 use Rattle.gp_msg.specs.declared.record.Record.{Record}
 use Rattle.gp_run.specs.Legal.{Legal}
-use Rattle.gp_run.specs.Runs.{entries_in}
+use Rattle.gp_run.specs.Runs.{newest_first}
 use Rattle.gp_edge.specs.Faults.{Rose}
 use Rattle.gp_vlog.specs.Logs.{LogState}
 use Rattle.gp_wire.specs.Known.{WireState, records}
@@ -15,7 +15,8 @@ use Rattle.gp_rules.specs.declared.rules.PaxosRules.{PaxosRules}
 use Rattle.gp_work.specs.declared.job.Job.{Job}
 use Rattle.gp_cell.specs.Cells.{CellState}
 use Rattle.gp_cell.specs.Refusals.{faults_of}
-use Rattle.gp_quiet.specs.Ended.{cells_of, cells_in, EndedRun, EndsQuietly, IsBehind, IsListOf, StaysSteady}
+use Rattle.gp_quiet.specs.Ended.{cells_of, cells_in, EndedRun, EndsQuietly, IsListOf, StaysSteady}
+use Rattle.gp_rules.specs.Own.{IsBehind}
 use Rattle.gp_quiet.proofs.Ending.{is_quiet, is_adaptive}
 use Rattle.gp_seats.specs.Offering.{HasOffered, IsKnown, given_to}
 use Rattle.gp_shelf.specs.Lists.{disk_in}
@@ -89,7 +90,7 @@ module _ {D : Type 0} (policy : RoundPolicy) (faults : D → ℕ) (config : Coun
         is_list : IsListOf wire ends.run list
         is_list = record {
           behind = subst (λ cs. (i : ℕ) (c : CellState D) → slice_get cs i ≡ Some c → IsBehind c.node (records c.pass) list) (sym cells_are) r.behind;
-          legal = subst (λ k. Legal k (entries_in list)) (sym s.rules) r.legal;
+          legal = subst (λ k. Legal k (newest_first list)) (sym s.rules) r.legal;
         }
 
   by_conclusion : (list : List Record) → IsRunOfCells config left.after list → IsConclusion faults config (length offers) (cells_of worked ++ cells_of offered) left.after end e list → e ≡ Learned → ¬ SomeRose faults (map disk_in (logs_in jobs)) (map disk_in logs) → IsQuietOrSettled policy config offers list

@@ -21,7 +21,7 @@ use Rattle.gp_run.specs.Messages.{messages, on_message}
 use Rattle.gp_msg.specs.Nodes.{is_present, may_keep, fits_among, node_of}
 use Rattle.gp_run.specs.States.{coordinator_acts, coordinator_kept, acceptor_acts, acceptor_kept}
 use Rattle.gp_run.specs.Legal.{fits}
-use Rattle.gp_run.specs.Runs.{entries_in}
+use Rattle.gp_run.specs.Runs.{newest_first}
 use Rattle.gp_run.proofs.Choices.{right_true}
 use Rattle.gp_run.proofs.Telling.{messages-append}
 use Rattle.gp_vlog.specs.Logs.{LogState}
@@ -35,7 +35,7 @@ use Rattle.gp_rules.specs.Still.{AreOthers, lawful_still, entries_append}
 use Rattle.gp_cell.specs.Cells.{CellState}
 use Rattle.gp_cell.specs.Refusals.{IsTooGreat}
 use Rattle.gp_cell.proofs.Posting.{nothing_own}
-use Rattle.gp_quiet.specs.Ended.{IsBehind}
+use Rattle.gp_rules.specs.Own.{IsBehind}
 use Rattle.gp_closing.specs.Cells.{LogGoes, logs_of}
 use Rattle.gp_closing.specs.Closing.{IsTooGreatFor}
 use Rattle.gp_cluster.specs.Runs.{IsOverLimit}
@@ -53,15 +53,15 @@ named_below config n k have h = ltb-true k have (right_true (is_present config n
 keeps : (config : Counts) (n : Node) (what : Option Kept) (have : ℕ) → fits_among config have (Fall n what) ≡ true → may_keep config have n what ≡ true
 keeps config n what have h = right_true (is_present config n) (may_keep config have n what) h
 
-coordinator_left : (config : Counts) (b : ℕ) (s : CoordinatorInEpoch) (ms more : List Stamped) (what : Option Kept) → may_keep config (length ms) (node.Coordinator b) what ≡ true → coordinator_kept s (ms ++ more) what ≡ coordinator_kept s ms what
-coordinator_left config b s ms more None h = refl
-coordinator_left config b s ms more (Some (kept.Begin r)) h = refl
-coordinator_left config b s ms more (Some (kept.Take k)) h = ap (λ o. on_message (coordinator.durable s) (λ m. coordinator.durable (coordinator.take s m).0) o) (get_front ms more k (ltb-true k (length ms) h))
+coordinator_after_crash : (config : Counts) (b : ℕ) (s : CoordinatorInEpoch) (ms more : List Stamped) (what : Option Kept) → may_keep config (length ms) (node.Coordinator b) what ≡ true → coordinator_kept s (ms ++ more) what ≡ coordinator_kept s ms what
+coordinator_after_crash config b s ms more None h = refl
+coordinator_after_crash config b s ms more (Some (kept.Begin r)) h = refl
+coordinator_after_crash config b s ms more (Some (kept.Take k)) h = ap (λ o. on_message (coordinator.durable s) (λ m. coordinator.durable (coordinator.take s m).0) o) (get_front ms more k (ltb-true k (length ms) h))
 
-acceptor_left : (config : Counts) (b : ℕ) (s : AcceptorInEpoch) (ms more : List Stamped) (what : Option Kept) → may_keep config (length ms) (node.Acceptor b) what ≡ true → acceptor_kept s (ms ++ more) what ≡ acceptor_kept s ms what
-acceptor_left config b s ms more None h = refl
-acceptor_left config b s ms more (Some (kept.Begin r)) h = refl
-acceptor_left config b s ms more (Some (kept.Take k)) h = ap (λ o. on_message (acceptor.durable s) (λ m. acceptor.durable (acceptor.take s m).0) o) (get_front ms more k (ltb-true k (length ms) h))
+acceptor_after_crash : (config : Counts) (b : ℕ) (s : AcceptorInEpoch) (ms more : List Stamped) (what : Option Kept) → may_keep config (length ms) (node.Acceptor b) what ≡ true → acceptor_kept s (ms ++ more) what ≡ acceptor_kept s ms what
+acceptor_after_crash config b s ms more None h = refl
+acceptor_after_crash config b s ms more (Some (kept.Begin r)) h = refl
+acceptor_after_crash config b s ms more (Some (kept.Take k)) h = ap (λ o. on_message (acceptor.durable s) (λ m. acceptor.durable (acceptor.take s m).0) o) (get_front ms more k (ltb-true k (length ms) h))
 
 coordinator_next : (config : Counts) (c : ℕ) (s : CoordinatorInEpoch) (ms more : List Stamped) (event : Event) → fits_among config (length ms) event ≡ true → (coordinator_acts c s (ms ++ more) event).0 ≡ (coordinator_acts c s ms event).0
 coordinator_next config c s ms more (Offer p d) h = refl
@@ -73,7 +73,7 @@ coordinator_next config c s ms more (Take (node.Acceptor a) k) h = refl
 coordinator_next config c s ms more (Take (node.Learner l) k) h = refl
 coordinator_next config c s ms more (Fall (node.Proposer p) what) h = refl
 coordinator_next config c s ms more (Fall (node.Coordinator b) what) h =
-    ap (λ x. (cond {A = CoordinatorInEpoch × Option Stamped} (nat_eq c b) (coordinator.fall s x, None) (s, None)).0) (coordinator_left config b s ms more what (keeps config (node.Coordinator b) what (length ms) h))
+    ap (λ x. (cond {A = CoordinatorInEpoch × Option Stamped} (nat_eq c b) (coordinator.fall s x, None) (s, None)).0) (coordinator_after_crash config b s ms more what (keeps config (node.Coordinator b) what (length ms) h))
 coordinator_next config c s ms more (Fall (node.Acceptor a) what) h = refl
 coordinator_next config c s ms more (Fall (node.Learner l) what) h = refl
 
@@ -88,7 +88,7 @@ acceptor_next config a s ms more (Take (node.Learner l) k) h = refl
 acceptor_next config a s ms more (Fall (node.Proposer p) what) h = refl
 acceptor_next config a s ms more (Fall (node.Coordinator c) what) h = refl
 acceptor_next config a s ms more (Fall (node.Acceptor b) what) h =
-    ap (λ x. (cond {A = AcceptorInEpoch × Option Stamped} (nat_eq a b) (acceptor.fall s x, None) (s, None)).0) (acceptor_left config b s ms more what (keeps config (node.Acceptor b) what (length ms) h))
+    ap (λ x. (cond {A = AcceptorInEpoch × Option Stamped} (nat_eq a b) (acceptor.fall s x, None) (s, None)).0) (acceptor_after_crash config b s ms more what (keeps config (node.Acceptor b) what (length ms) h))
 acceptor_next config a s ms more (Fall (node.Learner l) what) h = refl
 
 part_next : (config : Counts) (n : Node) (core : Core) (ms more : List Stamped) (event : Event) → fits_among config (length ms) event ≡ true → part_in (acts n core (ms ++ more) event).0 ≡ part_in (acts n core ms event).0
@@ -113,50 +113,50 @@ part_next config (node.Learner l) (Learner s) ms more event h = refl
 
 module _ {D : Type 0} (config : Counts) (limit : ℕ) (list : List Record) (size needed : ℕ) where
   -- at a cell that has seen a beginning of the list
-  pub over_behind : (c : CellState D) (event : Event) → c.config ≡ config → c.core ≡ core_at config c.node (entries_in list) → ((log : LogState D) → c.log ≡ Some log → log.limit ≡ limit) → IsBehind c.node (records c.pass) list
-      → IsTooGreat c event size needed → IsOverLimit config limit (entries_in list) size needed
+  pub over_behind : (c : CellState D) (event : Event) → c.config ≡ config → c.core ≡ core_at config c.node (newest_first list) → ((log : LogState D) → c.log ≡ Some log → log.limit ≡ limit) → IsBehind c.node (records c.pass) list
+      → IsTooGreat c event size needed → IsOverLimit config limit (newest_first list) size needed
   over_behind c event same core limits b g = record {
     event = event;
     may_come = may_come;
     part = g.part;
     changed = (λ i. part_in (acts (own i) (core' i) (messages' i) event).0)
-        ∙ part_next config c.node c.core (messages (entries_in (records c.pass))) (messages (entries_in b.more)) event fit ∙ g.after;
-    other = λ e. g.changes (ap part_in core ∙ ap (λ n. part_in (core_at config n (entries_in list))) (sym own) ∙ e);
+        ∙ part_next config c.node c.core (messages (newest_first (records c.pass))) (messages (newest_first b.more)) event fit ∙ g.after;
+    other = λ e. g.changes (ap part_in core ∙ ap (λ n. part_in (core_at config n (newest_first list))) (sym own) ∙ e);
     smallest = g.size_is;
     its_need = g.no_room.needed_is;
     great = let a = g.no_room.not_alone in let l = limits g.log g.log_is in let s = g.size_is in let n = g.no_room.needed_is in omega (arith, a, l, s, n);
   }
     where
-      lawful : IsLawful config (entries_in (records c.pass)) (entry_of g.item)
-      lawful = subst (λ k. IsLawful k (entries_in (records c.pass)) (entry_of g.item)) same g.lawful
+      lawful : IsLawful config (newest_first (records c.pass)) (entry_of g.item)
+      lawful = subst (λ k. IsLawful k (newest_first (records c.pass)) (entry_of g.item)) same g.lawful
 
       own : node_of event ≡ c.node
       own = ap node_of (sym g.event_is) ∙ sym lawful.own_node ∙ g.own
 
-      fit : fits_among config (length (messages (entries_in (records c.pass)))) event ≡ true
-      fit = subst (λ e. fits config (entries_in (records c.pass)) e ≡ true) g.event_is lawful.event_fits
+      fit : fits_among config (length (messages (newest_first (records c.pass)))) event ≡ true
+      fit = subst (λ e. fits config (newest_first (records c.pass)) e ≡ true) g.event_is lawful.event_fits
 
-      whole : entries_in list ≡ entries_in b.more ++ entries_in (records c.pass)
-      whole = ap entries_in b.split ∙ entries_append (records c.pass) b.more
+      whole : newest_first list ≡ newest_first b.more ++ newest_first (records c.pass)
+      whole = ap newest_first b.split ∙ entries_append (records c.pass) b.more
 
-      may_come : fits config (entries_in list) event ≡ true
-      may_come = subst (λ es. fits config es event ≡ true) (sym whole) (subst (λ e. fits config (entries_in b.more ++ entries_in (records c.pass)) e ≡ true) g.event_is
-          (lawful_still config (entries_in b.more) (entries_in (records c.pass)) (entry_of g.item) lawful (subst (λ n. AreOthers n (entries_in b.more)) (sym g.own) (nothing_own c.node b.more b.others))).event_fits)
+      may_come : fits config (newest_first list) event ≡ true
+      may_come = subst (λ es. fits config es event ≡ true) (sym whole) (subst (λ e. fits config (newest_first b.more ++ newest_first (records c.pass)) e ≡ true) g.event_is
+          (lawful_still config (newest_first b.more) (newest_first (records c.pass)) (entry_of g.item) lawful (subst (λ n. AreOthers n (newest_first b.more)) (sym g.own) (nothing_own c.node b.more b.others))).event_fits)
 
-      messages' : messages (entries_in list) ≡ messages (entries_in (records c.pass)) ++ messages (entries_in b.more)
-      messages' = ap messages whole ∙ messages-append (entries_in b.more) (entries_in (records c.pass))
+      messages' : messages (newest_first list) ≡ messages (newest_first (records c.pass)) ++ messages (newest_first b.more)
+      messages' = ap messages whole ∙ messages-append (newest_first b.more) (newest_first (records c.pass))
 
-      core' : core_at config (node_of event) (entries_in list) ≡ c.core
-      core' = ap (λ n. core_at config n (entries_in list)) own ∙ sym core
+      core' : core_at config (node_of event) (newest_first list) ≡ c.core
+      core' = ap (λ n. core_at config n (newest_first list)) own ∙ sym core
 
   -- at a cell that has seen the whole list
-  pub over_whole : (cells : List (CellState D)) (x : IsTooGreatFor config cells list size needed) → x.cell.core ≡ core_at config x.cell.node (entries_in list) → ((log : LogState D) → x.cell.log ≡ Some log → log.limit ≡ limit) → IsOverLimit config limit (entries_in list) size needed
+  pub over_whole : (cells : List (CellState D)) (x : IsTooGreatFor config cells list size needed) → x.cell.core ≡ core_at config x.cell.node (newest_first list) → ((log : LogState D) → x.cell.log ≡ Some log → log.limit ≡ limit) → IsOverLimit config limit (newest_first list) size needed
   over_whole cells x core limits = let g = x.great in record {
     event = x.event;
     may_come = x.may_come;
     part = g.part;
-    changed = (λ i. part_in (acts (own i) (core' i) (messages (entries_in (sym x.whole i))) x.event).0) ∙ g.after;
-    other = λ e. g.changes (ap part_in core ∙ ap (λ n. part_in (core_at config n (entries_in list))) (sym own) ∙ e);
+    changed = (λ i. part_in (acts (own i) (core' i) (messages (newest_first (sym x.whole i))) x.event).0) ∙ g.after;
+    other = λ e. g.changes (ap part_in core ∙ ap (λ n. part_in (core_at config n (newest_first list))) (sym own) ∙ e);
     smallest = g.size_is;
     its_need = g.no_room.needed_is;
     great = let a = g.no_room.not_alone in let l = limits g.log g.log_is in let s = g.size_is in let n = g.no_room.needed_is in omega (arith, a, l, s, n);
@@ -165,8 +165,8 @@ module _ {D : Type 0} (config : Counts) (limit : ℕ) (list : List Record) (size
       own : node_of x.event ≡ x.cell.node
       own = ap node_of (sym x.great.event_is) ∙ sym x.great.lawful.own_node ∙ x.great.own
 
-      core' : core_at config (node_of x.event) (entries_in list) ≡ x.cell.core
-      core' = ap (λ n. core_at config n (entries_in list)) own ∙ sym core
+      core' : core_at config (node_of x.event) (newest_first list) ≡ x.cell.core
+      core' = ap (λ n. core_at config n (newest_first list)) own ∙ sym core
 
 -- ---- limits
 

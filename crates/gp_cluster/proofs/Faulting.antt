@@ -9,7 +9,7 @@ use Rattle.gp_msg.specs.declared.event.Event.{Event}
 use Rattle.gp_msg.specs.declared.record.Record.{Record}
 use Rattle.gp_edge.specs.Faults.{Rose}
 use Rattle.gp_rules.specs.Cores.{core_at}
-use Rattle.gp_run.specs.Runs.{entries_in}
+use Rattle.gp_run.specs.Runs.{newest_first}
 use Rattle.gp_vlog.specs.Logs.{LogState}
 use Rattle.gp_wire.specs.Lists.{Each}
 use Rattle.gp_wire.specs.Known.{WireState}
@@ -80,7 +80,7 @@ module _ {D : Type 0} (faults : D → ℕ) (config : Counts) (wire : WireState P
   some_rose r = subst (λ xs. SomeRose faults (map disk_in xs) (map disk_in logs)) before_logs (subst (λ ys. SomeRose faults (map disk_in (logs_of before)) (map disk_in ys)) (sym left.logs_are)
       (cell_rose faults before left.after (outcome.go_on faults config wire offers jobs proposing worked offered s size carried as_many has known_worked known_offered end decided known_offers some e posted logs left) r))
 
-  core_at_list : (list : List Record) → IsRunOfCells config left.after list → (i : ℕ) (c : CellState D) → slice_get left.after i ≡ Some c → c.core ≡ core_at config c.node (entries_in list)
+  core_at_list : (list : List Record) → IsRunOfCells config left.after list → (i : ℕ) (c : CellState D) → slice_get left.after i ≡ Some c → c.core ≡ core_at config c.node (newest_first list)
   core_at_list list r i c is =
       core_behind config c list (outcome.configs_after faults config wire offers jobs proposing worked offered s size carried as_many has known_worked known_offered end decided known_offers some e posted logs left i c is)
       (get_each IsKnownCell left.after (each_of IsKnownCell left.after left.concludes.known) i c is) (r.behind i c is)
@@ -95,7 +95,7 @@ module _ {D : Type 0} (faults : D → ℕ) (config : Counts) (wire : WireState P
       rose_of_job : (i : ℕ) (d : Job (CellState D)) (l : i < length jobs) → Rose (faults_of faults (get_or jobs i d).cell.log) (faults_of faults (get_or worked i d).cell.log) → SomeRose faults (map disk_in (logs_in jobs)) (map disk_in logs)
       rose_of_job i d l x = some_rose (subst (SomeCellRose faults before) (sym same) (first_rose faults jobs proposing worked offered size as_many i d l x))
 
-      over_of_job : (i : ℕ) (d : Job (CellState D)) → i < length worked → (needs seen : ℕ) (x : Event) → IsTooGreat (get_or worked i d).cell x seen needs → IsOverLimit config limit (entries_in list) seen needs
+      over_of_job : (i : ℕ) (d : Job (CellState D)) → i < length worked → (needs seen : ℕ) (x : Event) → IsTooGreat (get_or worked i d).cell x seen needs → IsOverLimit config limit (newest_first list) seen needs
       over_of_job i d l needs seen x g =
           let there : slice_get left.after i ≡ Some (get_or worked i d).cell = ap (λ cs. slice_get cs i) same ∙ get-append_left (cells_of worked) (cells_of offered) i (let n = length-map worked cell_in in omega (arith, l, n)) ∙ cell_there worked i d l in
           over_behind config limit list seen needs (get_or worked i d).cell x

@@ -5,7 +5,7 @@ use Rattle.std.specs.List.{All}
 use Rattle.gp_command.specs.Views.{DraftView}
 use Rattle.gp_round.specs.Counts.{Counts}
 use Rattle.gp_msg.specs.declared.record.Record.{Record}
-use Rattle.gp_run.specs.Runs.{entries_in}
+use Rattle.gp_run.specs.Runs.{newest_first}
 use Rattle.gp_vlog.specs.Logs.{LogState, IsReady}
 use Rattle.gp_wire.specs.Lists.{Each}
 use Rattle.gp_wire.specs.Known.{WireState}
@@ -60,16 +60,16 @@ module _ {D : Type 0} (policy : RoundPolicy) (faults : D → ℕ) (content : D �
     ready_after : Each (λ (l : LogState D). l.ready ≡ true → IsReady content image l) (logs_of left.after)
     ready_after = subst (Each (λ l. l.ready ≡ true → IsReady content image l)) left.logs_are (each_of (λ l. l.ready ≡ true → IsReady content image l) logs ready)
 
-    each_log : Each (HasItsLog (Ends content image config limit (entries_in list))) left.after
-    each_log = each_got (HasItsLog (Ends content image config limit (entries_in list))) left.after (λ i c is.
+    each_log : Each (HasItsLog (Ends content image config limit (newest_first list))) left.after
+    each_log = each_got (HasItsLog (Ends content image config limit (newest_first list))) left.after (λ i c is.
         let same = outcome.configs_after faults config wire offers jobs proposing worked offered s size carried as_many has known_worked known_offered end decided known_offers some e posted logs left i c is in
         let k = get_each IsKnownCell left.after (each_of IsKnownCell left.after left.concludes.known) i c is in
-        its_log content image config limit (entries_in list) c same (core_behind config c list same k (r.behind i c is)) (k.kept (are_up i c is))
+        its_log content image config limit (newest_first list) c same (core_behind config c list same k (r.behind i c is)) (k.kept (are_up i c is))
         (λ log there. (in_logs (λ l. l.limit ≡ limit) left.after limits_after i c is log there, in_logs (λ l. l.ready ≡ true → IsReady content image l) left.after ready_after i c is log there)))
 
-    hold : HoldLogs content config limit (entries_in list) logs
-    hold = subst (HoldLogs content config limit (entries_in list)) (sym left.logs_are)
-        (all_logs (Ends content image config limit (entries_in list)) left.after (logged_nodes config) (first_of Learner config.learners ++ proposer_nodes)
+    hold : HoldLogs content config limit (newest_first list) logs
+    hold = subst (HoldLogs content config limit (newest_first list)) (sym left.logs_are)
+        (all_logs (Ends content image config limit (newest_first list)) left.after (logged_nodes config) (first_of Learner config.learners ++ proposer_nodes)
         (outcome.nodes_after faults config wire offers jobs proposing worked offered s size carried as_many has known_worked known_offered end decided known_offers some e posted logs left ∙ assoc (logged_nodes config) (first_of Learner config.learners) proposer_nodes)
         (logged_have config) (others_lack config) each_log)
 

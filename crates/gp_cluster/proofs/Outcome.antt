@@ -5,7 +5,7 @@ use Rattle.std.specs.List.{All, AllZip}
 use Rattle.gp_command.specs.Views.{DraftView}
 use Rattle.gp_round.specs.Counts.{Counts}
 use Rattle.gp_msg.specs.declared.record.Record.{Record}
-use Rattle.gp_run.specs.Runs.{entries_in}
+use Rattle.gp_run.specs.Runs.{newest_first}
 use Rattle.gp_vlog.specs.Logs.{LogState}
 use Rattle.gp_wire.specs.Lists.{Each, Has}
 use Rattle.gp_wire.specs.Known.{WireState}
@@ -145,18 +145,18 @@ module _ {D : Type 0} (faults : D → ℕ) (config : Counts) (wire : WireState P
     run_is policy list is = let c = left.concludes.some list is in record { legal = c.0.legal; offered = made policy list (offered_all list (keeps list c.0 c.1)) }
 
     -- all learners hold all that the cells hold
-    pub learned_if : (list : List Record) (r : IsRunOfCells config cells list) → Each (KeepsProposer list) cells → All (HasLearned (length offers)) cells → AllLearned config (entries_in list)
+    pub learned_if : (list : List Record) (r : IsRunOfCells config cells list) → Each (KeepsProposer list) cells → All (HasLearned (length offers)) cells → AllLearned config (newest_first list)
     learned_if list r k h =
         held.hold_all config offers known_offers list r.legal (offered_all list k) some
         (show_all config list r.legal (length offers) cells (stand_all config cells list r (length offers) configs are_at.known nodes_are) (each_of (HasLearned (length offers)) cells h)
         (λ m there. subst (Has m) (sym nodes_are) (all_present config m there)))
 
-    pub held_if : (list : List Record) (r : IsRunOfCells config cells list) → Each (KeepsProposer list) cells → AllLearned config (entries_in list) → All (HasLearned (length offers)) cells
+    pub held_if : (list : List Record) (r : IsRunOfCells config cells list) → Each (KeepsProposer list) cells → AllLearned config (newest_first list) → All (HasLearned (length offers)) cells
     held_if list r k all =
         all_of (HasLearned (length offers)) cells (hold_all config list r.legal (length offers) cells (stand_all config cells list r (length offers) configs are_at.known nodes_are)
         (held.have_as_many config offers known_offers list r.legal (offered_all list k) some all))
 
-    learned_by : (list : List Record) → IsRunOfCells config after list → IsConclusion faults config (length offers) cells after end e list → e ≡ Learned → AllLearned config (entries_in list)
+    learned_by : (list : List Record) → IsRunOfCells config after list → IsConclusion faults config (length offers) cells after end e list → e ≡ Learned → AllLearned config (newest_first list)
     learned_by list r (Stood same st) l =
         let run = subst (λ cs. IsRunOfCells config cs list) same r in
         learned_if list run (run_keeps config cells list run) (learned_quietly worked (length offers) cells end e decided st l).1

@@ -11,7 +11,7 @@ use Rattle.gp_msg.specs.declared.record.Record.{Record}
 use Rattle.gp_msg.specs.Messages.{Entry}
 use Rattle.gp_edge.specs.Disks.{IfRevealed}
 use Rattle.gp_edge.specs.Faults.{Rose}
-use Rattle.gp_run.specs.Runs.{entries_in}
+use Rattle.gp_run.specs.Runs.{newest_first}
 use Rattle.gp_vlog.specs.Logs.{LogState}
 use Rattle.gp_wire.specs.Lists.{Each}
 use Rattle.gp_rules.specs.Cores.{opening, core_at, part_in}
@@ -19,10 +19,10 @@ use Rattle.gp_seats.specs.Nodes.{logged_nodes}
 use Rattle.gp_seats.specs.Seats.{IsBlank}
 use Rattle.gp_shelf.specs.declared.making.LendFault.{LendFault}
 use Rattle.gp_shelf.specs.declared.making.LendFault.TheVariants as lending
-use Rattle.gp_shelf.specs.Lists.{disk_in, lent_of, kept_of, shelved, KeepsOthers}
+use Rattle.gp_shelf.specs.Lists.{disk_in, lent_of, unlent_of, shelved, KeepsOthers}
 use Rattle.gp_shelf.specs.Making.{IsMade, SomeRose, NoneFell, HasCause}
 use Rattle.gp_shelf.specs.Places.{logged}
-use Rattle.gp_shelf.proofs.Segments.{length-lent, length-kept, shelved_at, others_stay}
+use Rattle.gp_shelf.proofs.Segments.{length-lent, length-unlent, shelved_at, others_stay}
 use Rattle.gp_shelf.proofs.Zips.{zip_all, fell_there}
 use Rattle.gp_ending.specs.declared.ends.RunEnd.{RunEnd}
 use Rattle.gp_ending.specs.declared.ends.RunEnd.TheVariants.{Learned, NoMemory, Disk, Full, NotLog, Changed}
@@ -123,7 +123,7 @@ module _ {D : Type 0} (policy : RoundPolicy) (content : D → Option (List ℕ))
     (acceptors : config.acceptors ≤ 7) (coordinators : config.coordinators ≤ 5) (twelve : length disks ≡ 12)
     (made : AllZip (IsMade content image faults limit) (lent_of config disks) first) (run : RunsFrom policy faults content config offers first last posted end) where
   abbrev back : List D
-  back = shelved config (kept_of config disks) (map disk_in last)
+  back = shelved config (unlent_of config disks) (map disk_in last)
 
   pub count_first : length first ≡ logged config
   count_first = AllZip-long (IsMade content image faults limit) (lent_of config disks) first made ∙ length-lent config disks twelve acceptors coordinators
@@ -155,21 +155,21 @@ module _ {D : Type 0} (policy : RoundPolicy) (content : D → Option (List ℕ))
   pub cause : EndCause faults config limit disks back posted end
   cause = cause_on faults config limit (map disk_in first) (map disk_in last) disks back posted rose end (run.cause limit limits)
 
-  named_within : (list : List Record) (ns : List Node) (logs : List (LogState D)) → AllZip (λ n log. HoldsPart content config limit (entries_in list) n log.disk) ns logs → (k : ℕ) (n : Node) → slice_get ns k ≡ Some n → k < length logs
+  named_within : (list : List Record) (ns : List Node) (logs : List (LogState D)) → AllZip (λ n log. HoldsPart content config limit (newest_first list) n log.disk) ns logs → (k : ℕ) (n : Node) → slice_get ns k ≡ Some n → k < length logs
   named_within list [] logs z k n e = absurd (let wrong : None ≡ Some n = e in cc)
   named_within list (m ∷ ns) [] z k n e = absurd z
   named_within list (m ∷ ns) (l ∷ ls) z zero n e = omega arith
   named_within list (m ∷ ns) (l ∷ ls) z (suc k) n e = let b = named_within list ns ls z.1 k n e in omega (arith, b)
 
-  hold_parts : (list : List Record) → HoldLogs content config limit (entries_in list) last → HoldParts content config limit (entries_in list) back
+  hold_parts : (list : List Record) → HoldLogs content config limit (newest_first list) last → HoldParts content config limit (newest_first list) back
   hold_parts list h k n disk named there =
       let within : k < logged config = (let b = named_within list (logged_nodes config) last h k n named in let c = count_last in omega (arith, b, c)) in
-      held_at content config limit (entries_in list) (logged_nodes config) last h k n disk named
-      (sym (shelved_at config (kept_of config disks) (map disk_in last) acceptors coordinators (length-kept config disks twelve acceptors coordinators) count_back k within) ∙ there)
+      held_at content config limit (newest_first list) (logged_nodes config) last h k n disk named
+      (sym (shelved_at config (unlent_of config disks) (map disk_in last) acceptors coordinators (length-unlent config disks twelve acceptors coordinators) count_back k within) ∙ there)
 
-  parts_of : (o : Option (List Record)) → IfSome o (λ list. HoldLogs content config limit (entries_in list) last) → IfSome o (λ list. HoldParts content config limit (entries_in list) back)
+  parts_of : (o : Option (List Record)) → IfSome o (λ list. HoldLogs content config limit (newest_first list) last) → IfSome o (λ list. HoldParts content config limit (newest_first list) back)
   parts_of None h = tt
   parts_of (Some list) h = hold_parts list h
 
-  pub parts : end ≡ Learned → IfSome posted (λ list. HoldParts content config limit (entries_in list) back)
+  pub parts : end ≡ Learned → IfSome posted (λ list. HoldParts content config limit (newest_first list) back)
   parts l = parts_of posted (run.parts limit limits l)

@@ -1,4 +1,4 @@
--- What a run comes to, by how its rounds are chosen.
+-- What a run leads to, by the policy of its rounds.
 use Rattle.std.specs.Prelude.{◌⊎◌, ℕ, List, []}
 use Rattle.gp_command.specs.Views.{DraftView}
 use Rattle.gp_round.specs.Counts.{Counts}
@@ -16,7 +16,7 @@ abbrev pub answers_of : RoundPolicy → Answers
 answers_of Multi = IsCalled
 answers_of Adaptive = IsAdapted
 
--- the run is quiet, and its rounds are begun as they were to be
+-- the run is quiet, and its rounds began as the policy says
 abbrev pub IsQuietBy : RoundPolicy → Counts → List Record → Type 0
 IsQuietBy Multi config list = IsQuietRun config list
 IsQuietBy Adaptive config list = IsAdaptiveRun config list

@@ -1,4 +1,4 @@
--- What a run of nodes in threads comes to.
+-- The result of a run of nodes in threads.
 use Rattle.std.specs.Prelude.{true, ◌≡◌, ◌≢◌, ◌⊎◌, ◌<◌, ℕ, ◌+◌, List, Option, Some, None, IfSome, slice_get}
 use Rattle.gp_command.specs.Views.{DraftView}
 use Rattle.gp_round.specs.Counts.{Counts}
@@ -10,7 +10,7 @@ use Rattle.gp_edge.specs.Disks.{IfRevealed}
 use Rattle.gp_run.specs.Messages.{messages}
 use Rattle.gp_msg.specs.Nodes.{node_of}
 use Rattle.gp_run.specs.Legal.{Legal, fits}
-use Rattle.gp_run.specs.Runs.{entries_in}
+use Rattle.gp_run.specs.Runs.{newest_first}
 use Rattle.gp_vlog.specs.Bodies.{LogEntry, need}
 use Rattle.gp_vlog.specs.Logs.{HoldsEntries}
 use Rattle.gp_rules.specs.Cores.{opening, acts, core_at, part_in}
@@ -26,24 +26,24 @@ use Rattle.gp_ending.specs.declared.ends.RunEnd.TheVariants.{Learned, NoMemory, 
 use Rattle.gp_cluster.specs.declared.policy.RoundPolicy.{RoundPolicy}
 use Rattle.gp_cluster.specs.Policies.{IsQuietBy, MayBeOffered}
 
--- what the nodes posted is a legal run of the configuration, in which each proposer made its own offers, in their order, and did nothing else
+-- what the nodes posted is a legal run of the configuration, in which each proposer made its own offers, in their order, and did nothing else; if rounds adapt, no offer may have been made yet
 pub record IsRunOf (policy : RoundPolicy) (config : Counts) (offers : List (ℕ × DraftView)) (list : List Record) : Type 0 where
-  pub legal : Legal config (entries_in list)
+  pub legal : Legal config (newest_first list)
   pub offered : MayBeOffered policy offers list
 
 -- all was learned: each proposer made its own offers, and each learner holds every command that was offered
 pub record HasLearnedAll (config : Counts) (offers : List (ℕ × DraftView)) (list : List Record) : Type 0 where
   pub offered : AreOffered offers list
-  pub learned : AllLearned config (entries_in list)
+  pub learned : AllLearned config (newest_first list)
 
--- the run ended when nothing was left to do, and if a learner lacked an offered command then, and only then, it was settled
+-- the run ended when nothing was left to do, and it was settled if and only if a learner lacked an offered command then
 pub record IsQuietOrSettled (policy : RoundPolicy) (config : Counts) (offers : List (ℕ × DraftView)) (list : List Record) : Type 0 where
   pub before : List Record
   pub quiet : IsQuietBy policy config before
   pub offered : AreOffered offers before
-  pub settled : ((list ≡ before) × AllLearned config (entries_in before)) ⊎ ((¬ AllLearned config (entries_in before)) × (entries_in list ≡ settle config (entries_in before)))
+  pub settled : ((list ≡ before) × AllLearned config (newest_first before)) ⊎ ((¬ AllLearned config (newest_first before)) × (newest_first list ≡ settle config (newest_first before)))
 
--- an event may come next at a node with a log and changes its durable part to one that needs so many bytes, which are more than the limit leaves beside a log without entries, of this size
+-- an event may come next at a node with a log and changes its durable part to one that needs this many bytes, which is more than the limit leaves beside a log without entries, of this size
 pub record IsOverLimit (config : Counts) (limit : ℕ) (run : List Entry) (size needed : ℕ) : Type 0 where
   pub event : Event
   pub may_come : fits config run event ≡ true
@@ -54,16 +54,16 @@ pub record IsOverLimit (config : Counts) (limit : ℕ) (run : List Entry) (size 
   pub its_need : needed ≡ need None part
   pub great : limit < size + needed
 
--- why a run ended so: a disk failed, or its bytes were others after it had failed, only if the count of faults of some disk rose, and a log was full only if a part was too great for it
+-- why a run ended in this way: a disk failed, or its bytes had changed after a failure, only if the count of faults of some disk rose, and a log was full only if a part was too great for it
 abbrev pub EndCause : {D : Type 0} → (D → ℕ) → Counts → ℕ → List D → List D → Option (List Record) → RunEnd → Type 0
 EndCause faults config limit old new posted Learned = Unit {0}
 EndCause faults config limit old new posted NoMemory = Unit {0}
 EndCause faults config limit old new posted Disk = SomeRose faults old new
-EndCause faults config limit old new posted (Full size needed) = IfSome posted (λ list. IsOverLimit config limit (entries_in list) size needed)
+EndCause faults config limit old new posted (Full size needed) = IfSome posted (λ list. IsOverLimit config limit (newest_first list) size needed)
 EndCause faults config limit old new posted (NotLog at) = SomeRose faults old new
 EndCause faults config limit old new posted Changed = SomeRose faults old new
 
--- these bytes are a log of this limit whose last entry has a part, and a log without entries counts as one with the first part
+-- these bytes are a log of this limit whose last entry has this part; a log without entries counts as one with the first part
 abbrev pub EndsWith : ℕ → Option EpochPart → Option EpochPart → List ℕ → Type 0
 EndsWith limit first part s = (es : List LogEntry) × HoldsEntries limit es s × (last_part first es ≡ part)
 

@@ -1,4 +1,4 @@
--- A run from its first list to its last one, by the logs of its nodes.
+-- A run from the logs with which it begins to those with which it ends.
 use Rattle.std.specs.Prelude.{◌≡◌, ◌<◌, ℕ, List, [], map, length, slice_index_or, Option, None, IfSome}
 use Rattle.std.specs.Global.{Vec}
 use Rattle.std.specs.List.{All, AllZip}
@@ -7,7 +7,7 @@ use Rattle.gp_round.specs.Counts.{Counts}
 use Rattle.gp_msg.specs.declared.record.Record.{Record}
 use Rattle.gp_msg.specs.Messages.{Entry}
 use Rattle.gp_edge.specs.Disks.{IfRevealed}
-use Rattle.gp_run.specs.Runs.{entries_in}
+use Rattle.gp_run.specs.Runs.{newest_first}
 use Rattle.gp_vlog.specs.Logs.{LogState}
 use Rattle.gp_wire.specs.Known.{WireState}
 use Rattle.gp_rules.specs.declared.rules.PaxosRules.{PaxosRules}
@@ -52,7 +52,7 @@ HaveLimit limit logs = All (λ log. log.limit ≡ limit) logs
 abbrev pub HoldLogs : {D : Type 0} → (D → Option (List ℕ)) → Counts → ℕ → List Entry → List (LogState D) → Type 0
 HoldLogs content config limit run logs = AllZip (λ n log. IfRevealed (content log.disk) (EndsWith limit (part_in (opening config n)) (part_in (core_at config n run)))) (logged_nodes config) logs
 
--- the nodes of a run have worked: the jobs of those that work were carried so far, and those of the proposers have made these offers. If nothing is left to do, the phases have ended quietly, and else faults or memory say why
+-- the nodes of a run have worked: the jobs of those that work were carried this far, and those of the proposers have made these offers. If the run did not end early, its work phases ended quietly, and otherwise faults or memory say why
 pub record IsCarriedRun {D : Type 0} (faults : D → ℕ) (policy : RoundPolicy) (config : Counts) (wire : WireState PaxosRules) (offers : List (ℕ × DraftView)) (jobs proposing worked offered : List (Job (CellState D))) (end : Option RunEnd) : Type 0 where
   pub seated : IsSeated config wire jobs proposing (logs_in jobs)
   pub size : length worked ≡ length jobs
@@ -73,7 +73,7 @@ pub record CanClose {D : Type 0} (faults : D → ℕ) (config : Counts) (wire : 
   pub many : commands ≡ length offers
   pub fits : HasRoomFor (length (logs_in jobs)) room
 
--- what a run comes to that begins with these logs and ends with those
+-- the result of a run that begins with the first logs and ends with the last ones
 pub record RunsFrom {D : Type 0} (policy : RoundPolicy) (faults : D → ℕ) (content : D → Option (List ℕ)) (config : Counts) (offers : List (ℕ × DraftView)) (first last : List (LogState D)) (posted : Option (List Record)) (end : RunEnd) : Type 0 where
   pub going : AllZip (LogGoes faults) first last
   pub run : IfSome posted (IsRunOf policy config offers)
@@ -81,9 +81,9 @@ pub record RunsFrom {D : Type 0} (policy : RoundPolicy) (faults : D → ℕ) (co
   pub learned : end ≡ Learned → IfSome posted (HasLearnedAll config offers)
   pub quiet : end ≡ Learned → ¬ SomeRose faults (map disk_in first) (map disk_in last) → IfSome posted (IsQuietOrSettled policy config offers)
   pub cause : (limit : ℕ) → HaveLimit limit first → EndCause faults config limit (map disk_in first) (map disk_in last) posted end
-  pub parts : (limit : ℕ) → HaveLimit limit first → end ≡ Learned → IfSome posted (λ list. HoldLogs content config limit (entries_in list) last)
+  pub parts : (limit : ℕ) → HaveLimit limit first → end ≡ Learned → IfSome posted (λ list. HoldLogs content config limit (newest_first list) last)
 
--- how a run ends whose logs cannot be made
+-- how a run ends if its logs cannot be made
 abbrev pub lent_end : LendFault → RunEnd
 lent_end fault.Disk = Disk
 lent_end fault.NoMemory = NoMemory

@@ -1,4 +1,4 @@
-//! Runs whose rounds adapt to clashes.
+//! Runs whose rounds adapt to collisions.
 ghost use Rattle.std.specs.Prelude.{◌≡◌, ◌<◌, ◌+◌, ◌^◌, length};
 ghost use Rattle.std.specs.List.{All};
 ghost use Rattle.gp_seats.specs.Offering.{IsKnown};

@@ -1,7 +1,7 @@
 //! Runs of nodes.
 ghost use Rattle.std.specs.Prelude.{◌≡◌, ◌⊎◌, ◌<◌, ◌≤◌, ◌^◌, None, length, IfSome};
 ghost use Rattle.std.specs.List.{All};
-ghost use Rattle.gp_run.specs.Runs.{entries_in};
+ghost use Rattle.gp_run.specs.Runs.{newest_first};
 ghost use Rattle.gp_seats.specs.Offering.{IsKnown};
 ghost use Rattle.gp_shelf.specs.Lists.{KeepsOthers};
 ghost use Rattle.gp_shelf.specs.Making.{SomeRose, NoneFell};
@@ -31,13 +31,14 @@ use std::thread::Threads;
 #[derive(Drop)]
 pub struct NodesRun<D: Disk> {
     pub end: RunEnd,
-    /// What the nodes posted. `None` if the run ended before its wire was closed, since memory ran out or a disk failed.
+    /// What the nodes posted. `None` if the run ended before its wire was closed, because memory
+    /// ran out or a disk failed.
     pub posted: Option<Posted>,
     /// The disks, in the order in which they were given.
     pub disks: Vec<D>,
 }
 
-// How a run ends whose logs cannot be made.
+// How a run ends if its logs cannot be made.
 fn end_of(why: LendFault) -> RunEnd
     ensures { result ≡ lent_end why }
 {
@@ -47,12 +48,14 @@ fn end_of(why: LendFault) -> RunEnd
     }
 }
 
-/// Runs the nodes of a configuration, each in a thread of its own, until each learner holds each command that was offered.
+/// Runs the nodes of a configuration in threads, until every learner holds every command that was
+/// offered.
 ///
-/// New logs of this limit, in bytes, are made on the disks of the acceptors and the coordinators; the other disks stay as they
-/// are. The proposers post the offers, and phases follow in which all other nodes work, until nothing is left to do; the policy
-/// says which rounds begin, and whether phases come before the offers too. If a learner still lacks an offered command, the
-/// run is settled. Why a run ends is told by `RunEnd`.
+/// New logs with this limit, in bytes, are made on the disks of the acceptors and the coordinators;
+/// the other disks stay as they are. The proposers post the offers. In the work phases that follow,
+/// all other nodes work until nothing is left to do. The policy says which rounds begin, and
+/// whether there are work phases before the offers too. If a learner then lacks an offered command,
+/// the run is settled. `RunEnd` says why a run ends.
 pub fn run_nodes<
     D: Disk + Send,
     A: Beside<Wire<PaxosRules>, Cell<D>> + Send,
@@ -80,7 +83,7 @@ pub fn run_nodes<
     ensures learned { result.end ≡ RunEnd.Learned → IfSome result.posted (HasLearnedAll config offers.now) }
     ensures quiet { result.end ≡ RunEnd.Learned → ¬ SomeRose D.faults disks.items result.disks.items → IfSome result.posted (IsQuietOrSettled policy config offers.now) }
     ensures cause { EndCause D.faults config limit disks.items result.disks.items result.posted result.end }
-    ensures parts { result.end ≡ RunEnd.Learned → IfSome result.posted (λ list. HoldParts D.content config limit (entries_in list) result.disks.items) }
+    ensures parts { result.end ≡ RunEnd.Learned → IfSome result.posted (λ list. HoldParts D.content config limit (newest_first list) result.disks.items) }
     ensures others { KeepsOthers config disks.items result.disks.items }
     ensures none_fell { NoneFell D.faults disks.items result.disks.items }
     ensures topics { topics A.topic B.topic beside.new ≡ topics A.topic B.topic beside.old }

@@ -32,10 +32,11 @@ use std::alloc::Global;
 use std::sync::Wait;
 use std::thread::Threads;
 
-/// The nodes of the greatest configuration: seven acceptors, five coordinators, four learners and the eight proposers.
+/// The number of nodes in the greatest configuration: seven acceptors, five coordinators, four
+/// learners and the eight proposers.
 const MAX_NODES: usize = 24;
 
-/// Room that is taken before a run, so that its logs come back also if memory runs out.
+/// Room that is reserved before a run, so that its logs are returned even if memory runs out.
 #[derive(Drop)]
 pub(crate) struct Room<D: Disk> {
     pub(crate) cells: Vec<Cell<D>>,
@@ -61,11 +62,12 @@ pub(crate) fn take_room<D: Disk>(alloc: Global) -> Result<Room<D>, NoMemory>
     let mut cells = Vec::new(alloc);
     let mut logs = Vec::new(alloc);
     cells.reserve(MAX_NODES)?;
-    logs.reserve(DISKS)?;
+    logs.reserve(DISKS as usize)?;
     Ok(Room { cells, logs })
 }
 
-/// The end of a run before its wire is closed, since memory ran out: the logs of the nodes that work come back.
+/// The end of a run whose wire is not closed because memory ran out: the logs of the nodes that
+/// work are returned.
 pub(crate) fn unclosed<D: Disk>(jobs: Vec<Job<D>>, room: Room<D>) -> Closed<D>
     requires cells_room { HasRoomFor (length jobs.items) room.cells }
     requires logs_room { HasRoomFor (length (logs_in jobs.items)) room.logs }
@@ -78,8 +80,9 @@ pub(crate) fn unclosed<D: Disk>(jobs: Vec<Job<D>>, room: Room<D>) -> Closed<D>
     leave(cells, logs)
 }
 
-/// Closes the wire of a run of nodes, with the jobs of those that work and those of the proposers. If nothing was left to do,
-/// the run is settled if a learner has fewer commands than so many.
+/// Closes the wire of a run of nodes, with the jobs of the nodes that work and those of the
+/// proposers. If nothing was left to do and a learner has fewer than `commands` commands, the run
+/// is settled.
 pub(crate) fn close_run<D: Disk, W: Wait, G: Gate>(
     rt: &W,
     alloc: Global,
@@ -107,7 +110,8 @@ pub(crate) fn close_run<D: Disk, W: Wait, G: Gate>(
     )
 }
 
-/// Runs the nodes of a configuration that are seated at a wire, in rounds that are chosen so, and closes the wire.
+/// Runs the nodes of a configuration that are seated at a wire, in the rounds of the policy, and
+/// closes the wire.
 fn run_seated<
     D: Disk + Send,
     A: Beside<Wire<PaxosRules>, Cell<D>> + Send,
@@ -141,7 +145,8 @@ fn run_seated<
     }
 }
 
-/// Runs the nodes of a configuration that have these logs, from the seating of the nodes to the closing of their wire.
+/// Runs the nodes of a configuration over these logs, from the seating of the nodes to the closing
+/// of their wire.
 pub(crate) fn run_logs<
     D: Disk + Send,
     A: Beside<Wire<PaxosRules>, Cell<D>> + Send,

@@ -1,4 +1,5 @@
-//! Runs whose rounds are begun in turn: a multi round of each epoch, and the single round that answers its clash.
+//! Runs whose rounds begin in turn: in each epoch a multi round, and the single round that resolves
+//! its collision.
 ghost use Rattle.std.specs.Prelude.{◌≡◌, ◌<◌, ◌+◌, ◌^◌, length};
 ghost use Rattle.std.specs.List.{All};
 ghost use Rattle.gp_seats.specs.Offering.{IsKnown};

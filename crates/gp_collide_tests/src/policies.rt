@@ -1,4 +1,4 @@
-//! A policy that answers a clash with a single round.
+//! A policy that answers a collision with a single round.
 ghost use Rattle.std.specs.Prelude.{◌≡◌, true, IfSome};
 ghost use Rattle.gp_round.specs.Configs.{is_owner};
 ghost use Rattle.gp_round.specs.Rounds.{earlier};
@@ -22,7 +22,7 @@ const SINGLE_LAST: Round = Round {
     lead: 0,
 };
 
-// The highest round, whether it has clashed, and the round that is to begin next.
+// The highest round, whether it has collided, and the round that is to begin next.
 type Case = (Round, bool, Option<Round>);
 
 const CASES: [Case; 5] = [

@@ -1,4 +1,5 @@
-//! Watches, as tables: a message that is seen, and whether the watch has clashed after it.
+//! Watches, as tables: a message that is seen, and whether the watch has noticed a collision after
+//! it.
 use crate::scene::{FAST_1, MULTI_1, SINGLE_2, Text, message};
 use gp_collide::Watch;
 use gp_round::{Mode, Round};
@@ -9,7 +10,7 @@ use std::test::Fail;
 // The epoch that is watched.
 const EPOCH: u32 = 2;
 
-// A message of the watched epoch, and whether the watch has clashed after it.
+// A message of the watched epoch, and whether the watch has noticed a collision after it.
 type Step = (Text, bool);
 
 // The same with the epoch of the message.
@@ -115,14 +116,14 @@ fn other_rounds_and_other_messages_change_nothing(rt: HostRuntime) -> Result<(),
 #[test]
 fn the_round_of_another_epoch_changes_nothing(rt: HostRuntime) -> Result<(), Fail> {
     const STEPS: [EpochStep; 8] = [
-        // X is not kept, so Y does not clash
+        // X is not kept, so Y does not collide
         (1, Text::P2b(FAST_1, 0, "X"), false),
         (EPOCH, Text::P2b(FAST_1, 1, "Y"), false),
         (0, Text::P2b(FAST_1, 0, "X"), false),
         (1, Text::P2a(FAST_1, 0, "X"), false),
         (3, Text::P2b(FAST_1, 0, "X"), false),
         (3, Text::P2a(FAST_1, 0, "X"), false),
-        // more commands, which go with X, and are not kept either
+        // more commands, which are compatible with X, and are not kept either
         (1, Text::P2b(FAST_1, 1, "XY"), false),
         (EPOCH, Text::P2b(FAST_1, 0, "X"), true),
     ];
@@ -153,7 +154,7 @@ fn a_value_gives_way_to_more_commands_alone(rt: HostRuntime) -> Result<(), Fail>
         // more commands, at first after what was kept
         (Text::P2b(FAST_1, 0, "aXY"), false),
         (Text::P2b(FAST_1, 0, "YXab"), true),
-        // and then a value with which those of the others go again
+        // and then a value with which those of the others are compatible again
         (Text::P2b(FAST_1, 1, "YXabc"), false),
     ];
     sees(&rt, rt.alloc(), FAST_1, &STEPS)

@@ -4,6 +4,6 @@ use Rattle.std.specs.List.{flat_map}
 use Rattle.gp_command.specs.declared.touch.Touch.{Touch}
 use Rattle.gp_command.specs.Spelling.{mark_number, touch_spelling}
 
--- mark, number of touches, touches and body
+-- checkpoint mark, number of touches, touches and body
 abbrev pub draft_code : Bool → List Touch → List ℕ → List ℕ
 draft_code checkpoint foot body = mark_number checkpoint ∷ (length foot ∷ (flat_map touch_spelling foot ++ body))

@@ -12,11 +12,11 @@ use std::marker::Model;
 // The number of bytes that a head has.
 const HEAD_BYTES: usize = 32;
 
-/// The bytes of a code. A contract sees a code as the list of them.
+/// The bytes of a code. A contract sees a code as the list of these bytes.
 #[derive(Drop, Debug)]
 pub struct Code {
     bytes: Vec<u8>,
-    // the first 32 bytes, so that most codes are compared without a look at the others
+    // the first 32 bytes, which are compared before the others
     head: Head,
 }
 
@@ -41,7 +41,7 @@ impl Model for Code {
 }
 
 impl Code {
-    /// The code with these bytes. It takes no memory.
+    /// The code with these bytes.
     pub fn new(bytes: Vec<u8>) -> Code
         ensures { result ≡ bytes.items }
     {
@@ -49,7 +49,7 @@ impl Code {
         Code { bytes, head }
     }
 
-    /// Whether both have the same bytes. It takes no memory.
+    /// Whether both codes have the same bytes.
     #[inline(always)]
     pub fn is_same(&self, other: &Code) -> bool
         ensures { IsTrue result ↔ (self.now ≡ other.now) }
@@ -66,7 +66,8 @@ impl Code {
     }
 }
 
-/// The code of the draft with these parts. Different drafts have different codes.
+/// The code of the draft with these parts: at most 8 touches, and a body of at most 64 bytes.
+/// `NoMemory` if memory runs out.
 pub fn code_of(
     alloc: Global,
     checkpoint: bool,
@@ -77,7 +78,7 @@ pub fn code_of(
     requires short { length body.now ≤ 64 }
     ensures { IfOk result (λ code. code ≡ draft_code checkpoint foot.now body.now) }
 {
-    // the two numbers, at most 18 bytes a touch, and the body
+    // the two numbers, at most 18 bytes for each touch, and the body
     let room = 2 + 18 * foot.len() + body.len();
     let mut code = Vec::with_capacity(alloc, room)?;
     code.push(u8::from(checkpoint))?;
@@ -98,7 +99,7 @@ fn head_of(bytes: &[u8]) -> Head
     }
 }
 
-// Eight bytes from a place on as a number, with zeros after the end.
+// The eight bytes from place `from` on as a little-endian number, with zeros after the end.
 fn word(bytes: &[u8], from: usize) -> u64
     requires { from ≤ 24 }
     ensures { IsWord result bytes.now from }

@@ -1,4 +1,4 @@
-//! When two commands conflict.
+//! The conflict relation of commands.
 ghost use Rattle.std.specs.Prelude.{◌≡◌, ◌≢◌, ◌↔◌, IsTrue};
 ghost use Rattle.std.specs.List.{list_any};
 ghost use Rattle.gp_command.specs.Conflict.{conflict, is_clash, touches_clash};
@@ -7,10 +7,11 @@ use crate::command::Command;
 use crate::touch::{Access, Touch};
 
 /// Whether the two commands conflict: they differ, and one is a checkpoint or they share a key
-/// whose accesses are neither both reads nor both additions.
+/// whose two accesses are neither both reads nor both additions.
 ///
-/// The relation is symmetric, and no command conflicts with itself. Generalized consensus leaves it
-/// open (Lamport, *Generalized Consensus and Paxos*, 2005). It takes no memory.
+/// The relation is symmetric, and no command conflicts with itself (law
+/// `conflicts_are_symmetric_and_irreflexive`). Generalized consensus leaves the choice of the
+/// relation open (Lamport, *Generalized Consensus and Paxos*, 2005).
 #[inline(always)]
 pub fn conflicts(a: &Command, b: &Command) -> bool
     ensures { result ≡ conflict a.now b.now }
@@ -21,7 +22,7 @@ pub fn conflicts(a: &Command, b: &Command) -> bool
     are_in_conflict(a, b)
 }
 
-// The test by its definition.
+// Whether the two commands conflict, tested as the definition says.
 #[tactic(auto, unfolding(crate::specs::Conflict::conflict))]
 fn are_in_conflict(a: &Command, b: &Command) -> bool
     ensures { result ≡ conflict a.now b.now }

@@ -15,21 +15,22 @@ use std::cmp::Ordering;
 use std::marker::Model;
 use std::sync::Arc;
 
-/// A command without its identity: a mark whether it is a checkpoint, a footprint and a body.
+/// A command without its identity: a checkpoint mark, a footprint and a body. The mark says whether
+/// it is a checkpoint.
 ///
-/// A checkpoint has no touches. Drafts are ordered by mark (a checkpoint last), footprint and body.
-/// A draft never changes, so its copies share one place in memory.
+/// A checkpoint has no touches. Drafts are ordered by checkpoint mark (a checkpoint last),
+/// footprint and body.
 #[derive(Drop, Debug)]
 pub struct Draft {
     parts: Arc<Parts>,
 }
 
-// What copies of a draft share.
+// The parts of a draft, which its copies share.
 #[derive(Drop, Debug)]
 struct Parts {
     // drafts are equal exactly if their codes are
     code: Code,
-    // drafts whose marks differ, with neither mark 0, do not conflict
+    // the mark of the footprint: drafts with different marks do not conflict if neither is 0
     mark: u64,
     checkpoint: bool,
     foot: Foot,
@@ -49,10 +50,10 @@ impl Model for Draft {
     ghost invariant = { λ d. (d.parts.value.checkpoint ≡ true → d.parts.value.foot ≡ []) × (d.parts.value.mark ≡ foot_mark d.parts.value.foot) × (d.parts.value.code ≡ draft_code d.parts.value.checkpoint d.parts.value.foot d.parts.value.body) };
 }
 
-/// Why there is no draft. The first cause in this order decides.
+/// Why no draft is made. If several causes hold, the first of them in this order is the error.
 #[derive(Clone, Copy, Debug, PartialEq, Eq)]
 pub enum DraftRefused {
-    /// Touch `at` is the first whose key is not greater than the one before.
+    /// Touch `at`, counted from 0, is the first whose key is not greater than the key before it.
     Unsorted { at: usize },
     /// There are `given` touches, more than 8.
     TooMany { given: usize },
@@ -74,7 +75,10 @@ impl From<NoMemory> for DraftRefused {
 }
 
 impl Draft {
-    /// The draft that touches these keys, with this body.
+    /// The draft with these touches and this body. The touches must be at most 8, in ascending
+    /// order of their keys and without duplicate keys, and the body must have at most 64 bytes. If
+    /// not, the error is the first cause that holds, in the order of `DraftRefused`. If no such
+    /// cause holds, it is `NoMemory`: memory ran out.
     pub fn new(alloc: Global, foot: &[Touch], body: &[u8]) -> Result<Draft, DraftRefused>
         ensures made { IfOk result (λ draft. draft ≡ touching foot.now body.now) }
         ensures accepted { OnOk result (refusal foot.now body.now ≡ None) }
@@ -94,7 +98,8 @@ impl Draft {
         Ok(Draft::of_parts(alloc, false, foot, body)?)
     }
 
-    /// A checkpoint with this body.
+    /// The checkpoint with this body of at most 64 bytes. `TooLong` if the body is longer, and
+    /// otherwise `NoMemory` if memory runs out.
     pub fn checkpoint(alloc: Global, body: &[u8]) -> Result<Draft, DraftRefused>
         ensures made { IfOk result (λ draft. draft ≡ checkpoint_of body.now) }
         ensures accepted { OnOk result (long_body body.now ≡ None) }
@@ -108,7 +113,7 @@ impl Draft {
         Ok(Draft::of_parts(alloc, true, foot, body)?)
     }
 
-    // The draft of parts that were checked before.
+    // The draft with parts that were checked before.
     pub(crate) fn of_parts(
         alloc: Global,
         checkpoint: bool,
@@ -134,7 +139,7 @@ impl Draft {
         })
     }
 
-    /// An equal draft.
+    /// An equal draft. `NoMemory` if memory runs out.
     pub fn copy(&self) -> Result<Draft, NoMemory>
         ensures { IfOk result (λ copy. copy ≡ self.now) }
     {
@@ -143,7 +148,8 @@ impl Draft {
         })
     }
 
-    /// Whether it is a checkpoint, which conflicts with every other command.
+    /// Whether it is a checkpoint. A checkpoint has no touches, and conflicts with every other
+    /// command.
     pub fn is_checkpoint(&self) -> bool
         ensures value { result ≡ self.now.checkpoint }
         ensures bare { result ≡ true → self.now.foot ≡ [] }
@@ -158,9 +164,9 @@ impl Draft {
         &self.parts.code
     }
 
-    /// The mark of its footprint: 0 unless there is exactly one touch, and else a number that depends on
-    /// its key alone. Two commands whose marks differ do not conflict, if neither mark is 0. It takes no
-    /// memory.
+    /// The mark of its footprint: 0 unless there is exactly one touch, and otherwise a number that
+    /// depends only on the key of that touch. Two commands with different marks do not conflict if
+    /// neither mark is 0.
     #[tactic(auto, using(crate::proofs::Marks::marked_is_plain))]
     pub fn mark(&self) -> u64
         ensures value { result ≡ foot_mark self.now.foot }

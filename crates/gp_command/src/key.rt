@@ -1,4 +1,4 @@
-//! Keys.
+//! Keys of the store.
 ghost use Rattle.std.specs.Prelude.{◌≡◌, ◌↔◌, ◌≤◌, ◌<◌, ◌-◌, ◌++◌, IsTrue, IsOk, IfOk, length, replicate};
 ghost use Rattle.std.specs.List.{list_all};
 ghost use Rattle.gp_command.specs.Key.{is_key_byte, is_key};
@@ -7,9 +7,9 @@ ghost use Rattle.gp_command.specs.Mark.{mark_from};
 use std::cmp::Ordering;
 use std::marker::Model;
 
-/// The name of one value of the store: 1 to 16 bytes of `a` to `z`, `0` to `9` and `_`.
+/// A key of the store: 1 to 16 bytes, each of them one of `a` to `z`, `0` to `9` and `_`.
 ///
-/// A contract sees a key as the list of its bytes. Keys are ordered as byte strings are.
+/// A contract sees a key as the list of its bytes. Keys are ordered as byte strings.
 #[derive(Clone, Copy, Debug)]
 pub struct Key {
     bytes: [u8; 16],
@@ -31,12 +31,13 @@ impl Model for Key {
     ghost inverse_ok = { padded_undoes };
 }
 
-/// The bytes are no key: there are none or more than 16, or one of them is no byte of a key.
+/// The bytes are not a key: there are none, there are more than 16, or one of them is not a byte of
+/// a key.
 #[derive(Clone, Copy, Debug, PartialEq, Eq)]
 pub struct BadKey;
 
 impl Key {
-    /// The key with these bytes. It takes no memory.
+    /// The key with these bytes. `BadKey` if they are not a key.
     pub fn new(bytes: &[u8]) -> Result<Key, BadKey>
         ensures accepted { IsOk result ↔ IsTrue (is_key bytes.now) }
         ensures value { IfOk result (λ key. key ≡ bytes.now) }
@@ -58,7 +59,7 @@ impl Key {
         &self.bytes[..self.len as usize]
     }
 
-    // A number that depends on the key alone, so keys with different marks differ.
+    // A number that depends only on the key, so keys with different marks differ.
     pub(crate) fn mark(&self) -> u64
         ensures value { result ≡ mark_from 0 self.now }
         ensures small { result < 1000003 }
@@ -148,7 +149,7 @@ fn is_key_byte(b: u8) -> bool
     b.is_ascii_lowercase() || b.is_ascii_digit() || b == b'_'
 }
 
-// The bytes, and zeros up to 16.
+// The bytes, followed by zeros up to 16 bytes.
 fn padded(bytes: &[u8]) -> [u8; 16]
     requires { length bytes.now ≤ 16 }
     ensures { result ≡ bytes.now ++ replicate (16 - length bytes.now) 0 }

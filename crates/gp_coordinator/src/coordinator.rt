@@ -16,8 +16,9 @@ use std::alloc::Global;
 use std::marker::Model;
 
 /// A coordinator (Lamport, *Generalized Consensus and Paxos*, 2005; Camargos, Schmidt, Pedone,
-/// *Multicoordinated Paxos*, 2007): its epoch, its state there, and the commands that are done, which are
-/// those of the Finals that it took since its last crash. The epoch and the round survive a crash.
+/// *Multicoordinated Paxos*, 2007): its epoch, its state there, and the commands that are done,
+/// which are those in the Finals that it took since its last crash. The epoch and the round survive
+/// a crash.
 #[derive(Drop, Debug)]
 pub struct Coordinator {
     alloc: Global,
@@ -38,8 +39,8 @@ impl Model for Coordinator {
 }
 
 impl Coordinator {
-    /// A coordinator to which nothing has happened: it is in epoch 0. `number` is its number among the
-    /// coordinators, from 0.
+    /// A coordinator at its start: it is in epoch 0. `number` is its number among the coordinators,
+    /// from 0. `NoMemory` if memory runs out.
     pub fn new(alloc: Global, config: &Config, number: u32) -> Result<Coordinator, NoMemory>
         ensures { IfOk result (λ c. c ≡ opening config.now number) }
     {
@@ -51,21 +52,21 @@ impl Coordinator {
         })
     }
 
-    /// Its epoch. It takes no memory.
+    /// Its epoch.
     pub fn epoch(&self) -> u32
         ensures { result ≡ self.now.epoch }
     {
         self.epoch
     }
 
-    /// Its round. It takes no memory.
+    /// Its round.
     pub fn round(&self) -> Round
         ensures { result ≡ self.now.state.round }
     {
         self.part.round()
     }
 
-    /// The part that survives a crash. It takes no memory.
+    /// The part that survives a crash.
     pub fn durable(&self) -> Durable
         ensures { part_of result ≡ durable self.now }
     {
@@ -75,8 +76,9 @@ impl Coordinator {
         }
     }
 
-    /// Begins a round of its epoch that it owns, and asks the acceptors to join. A round that is not above
-    /// its own changes nothing and sends nothing. If memory runs out, nothing changes.
+    /// Begins a round of its epoch that it owns, and returns the message that asks the acceptors to
+    /// join. If the round is not greater than its own, nothing changes, and there is no message. If
+    /// memory runs out, nothing changes.
     pub fn begin(&mut self, round: Round) -> Result<Outs, NoMemory>
         requires { is_owner self.old.state.config.coordinators self.old.state.number round ≡ true }
         ensures next { OnOk result (self.new ≡ (begin self.old round).0) }
@@ -86,13 +88,15 @@ impl Coordinator {
         self.part.begin(self.epoch, round)
     }
 
-    /// Takes a message, and returns what it sends for it: at most one value.
+    /// Takes a message, and returns what it sends for it: at most one message, which carries a
+    /// value. If memory runs out, nothing changes. The epoch of a Final must be below 2^32 - 1.
     ///
-    /// In its epoch it sends a value when a quorum of acceptors has answered in phase 1, and from then on
-    /// with each proposed command that extends the value. It ignores a proposal of a command that is done.
-    /// After a Final the commands of its value are done, and no longer pending. If the Final is not of an
-    /// earlier epoch, the coordinator enters the epoch after it, in round zero, and keeps what else is
-    /// pending. If memory runs out, nothing changes.
+    /// In its epoch the coordinator sends a value when a quorum of acceptors has answered in phase
+    /// 1. After that, in a round that is not fast, it sends a value for each proposed command that
+    /// its value lacks. It ignores a proposal of a command that is done. It enters a multi round
+    /// that another coordinator began, if that is greater than its own. After a Final the commands
+    /// of its value are done, and no longer pending. If the Final is not of an earlier epoch, the
+    /// coordinator enters the epoch after it, in round zero, and keeps the other pending commands.
     pub fn take(&mut self, m: &Msg) -> Result<Outs, NoMemory>
         requires { closed_by (message_of m.now) < 2 ^ 32 - 1 }
         ensures next { OnOk result (self.new ≡ (take self.old (message_of m.now)).0) }
@@ -129,8 +133,9 @@ impl Coordinator {
         }
     }
 
-    /// Crashes and restarts with this durable part, its epoch and its round: no command is known to be done. Of
-    /// the durable part of an acceptor it takes the epoch alone. It takes no memory.
+    /// Crashes and restarts with the epoch and the round of this durable part. The rest of its
+    /// state is lost, and no command counts as done. If the durable part is that of an acceptor,
+    /// only the epoch is taken from it: the state there stays, and no command counts as done.
     pub fn fall(&mut self, durable: Durable)
         ensures { self.new ≡ fall self.old (part_of durable) }
     {
@@ -146,7 +151,7 @@ impl Coordinator {
         self.done.clear();
     }
 
-    /// An equal coordinator.
+    /// An equal coordinator. `NoMemory` if memory runs out.
     pub fn copy(&self) -> Result<Coordinator, NoMemory>
         ensures { IfOk result (λ copy. copy ≡ self.now) }
     {
@@ -158,7 +163,8 @@ impl Coordinator {
         })
     }
 
-    // The commands of a closed epoch are done, and no longer pending. If memory runs out, nothing changes.
+    // Counts the commands of a closed epoch as done, and no longer as pending. If memory runs out,
+    // nothing changes.
     fn settle(&mut self, value: &History) -> Result<(), NoMemory>
         ensures next { OnOk result (self.new ≡ settled self.old (history_of value.now)) }
         ensures unchanged { OnErr result (self.new ≡ self.old) }

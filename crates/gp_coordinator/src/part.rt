@@ -1,4 +1,4 @@
-//! What a coordinator keeps of its epoch, and what it does there.
+//! The state of a coordinator in its epoch, and what it does there.
 ghost use Rattle.std.specs.Prelude.{◌≡◌, ◌<◌, IfOk, OnOk, OnErr, true, not, Option, Some, None, map, filter};
 ghost use Rattle.std.specs.Option.{option_map, option_to_list, option_copied};
 ghost use Rattle.gp_history.specs.History.{has, pushes};
@@ -8,7 +8,7 @@ ghost use Rattle.gp_safe.specs.Choice.{reply_of};
 ghost use Rattle.gp_msg.specs.Messages.{message_of, maybe_stamped, Asked, Proposed, Answered, Coordinators};
 ghost use Rattle.gp_coordinator.specs.Replies.{reply_at};
 ghost use Rattle.gp_coordinator.specs.Table.{opening, begun, expects, answered, coordinator_begin, coordinator_take, coordinator_fall};
-ghost use Rattle.gp_coordinator.specs.Steps.{left, with_pending, with_reply, with_value, sent_of, extension, choice};
+ghost use Rattle.gp_coordinator.specs.Steps.{in_round_zero, with_pending, with_reply, with_value, sent_of, extension, choice};
 
 use crate::answers::Answers;
 use gp_command::{Command, NoMemory};
@@ -20,11 +20,11 @@ use gp_safe::{Answer, pick};
 use std::alloc::Global;
 use std::marker::Model;
 
-/// The state of a coordinator in its epoch, with all that is pending.
+/// The state of a coordinator in its epoch, with all pending commands.
 ///
-/// It is in one round at a time, and takes answers of phase 1 only while it is awake: after it began its
-/// round, or entered a multi round that another coordinator began, and until a crash or the next epoch.
-/// A contract sees the answer of each acceptor, and the value as a history.
+/// It is in one round at a time. It takes answers of phase 1 only while it is awake: after it began
+/// its round, or entered a multi round that another coordinator began, and until a crash or the
+/// next epoch. A contract sees the answer of each acceptor, and the value as a history.
 #[derive(Drop, Debug)]
 pub struct Part {
     alloc: Global,
@@ -54,7 +54,7 @@ impl Model for Part {
 }
 
 impl Part {
-    /// Nothing has happened yet: it is in round zero.
+    /// The state at the start: it is in round zero. `NoMemory` if memory runs out.
     #[tactic(auto, using(crate::proofs::Replying::length_unanswered))]
     pub fn new(alloc: Global, config: &Config, number: u32) -> Result<Part, NoMemory>
         ensures { IfOk result (λ c. c ≡ opening config.now number) }
@@ -71,15 +71,16 @@ impl Part {
         })
     }
 
-    /// Its round, which survives a crash. It takes no memory.
+    /// Its round, which survives a crash.
     pub fn round(&self) -> Round
         ensures { result ≡ self.now.round }
     {
         self.round
     }
 
-    /// Begins a round that it owns, and asks the acceptors to join. A round that is not above its own
-    /// changes nothing and sends nothing. If memory runs out, nothing changes.
+    /// Begins a round that it owns, and returns the message that asks the acceptors to join. If the
+    /// round is not greater than its own, nothing changes, and there is no message. If memory runs
+    /// out, nothing changes.
     pub fn begin(&mut self, epoch: u32, round: Round) -> Result<Outs, NoMemory>
         requires { is_owner self.old.config.coordinators self.old.number round ≡ true }
         ensures next { OnOk result (self.new ≡ (coordinator_begin self.old round).0) }
@@ -94,7 +95,7 @@ impl Part {
         Ok(outs)
     }
 
-    /// Crashes and restarts with this round: it is not awake, and nothing is pending. It takes no memory.
+    /// Crashes and restarts with this round: it is not awake, and nothing is pending.
     #[tactic(auto, using(crate::proofs::Replying::length_unanswered))]
     pub fn fall(&mut self, durable: Round)
         ensures { self.new ≡ coordinator_fall self.old (Coordinators durable) }
@@ -106,7 +107,7 @@ impl Part {
         self.pending.clear();
     }
 
-    /// An equal part.
+    /// An equal part. `NoMemory` if memory runs out.
     pub fn copy(&self) -> Result<Part, NoMemory>
         ensures { IfOk result (λ copy. copy ≡ self.now) }
     {
@@ -122,11 +123,11 @@ impl Part {
         })
     }
 
-    /// Leaves its epoch: it is in round zero, not awake and without a value, and what is pending stays. It
-    /// takes no memory.
+    /// Leaves its epoch: it is then in round zero, not awake, and without answers and value. The
+    /// pending commands stay.
     #[tactic(auto, using(crate::proofs::Replying::length_unanswered))]
     pub fn leave(&mut self)
-        ensures { self.new ≡ left self.old }
+        ensures { self.new ≡ in_round_zero self.old }
     {
         self.round = Round::zero();
         self.awake = false;
@@ -134,7 +135,7 @@ impl Part {
         self.value = None;
     }
 
-    /// The pending commands that a value does not have, in their order.
+    /// The pending commands that a value lacks, in their order. `NoMemory` if memory runs out.
     pub fn rest(&self, value: &History) -> Result<History, NoMemory>
         ensures { IfOk result (λ rest. rest ≡ filter (λ c. not (has (history_of value.now) c)) self.now.pending) }
     {
@@ -148,7 +149,7 @@ impl Part {
         Ok(rest)
     }
 
-    /// Makes these the pending commands. It takes no memory.
+    /// Replaces the pending commands by these.
     pub fn set_pending(&mut self, pending: History)
         ensures { self.new ≡ record self.old { pending = pending } }
     {
@@ -166,7 +167,8 @@ impl Part {
         self.value = None;
     }
 
-    /// Enters a multi round that another coordinator began, if it is above its own. It takes no memory.
+    /// Enters a multi round that another coordinator began, if it is greater than its own.
+    /// Otherwise nothing changes.
     pub fn follow(&mut self, round: Round)
         ensures { self.new ≡ (coordinator_take self.old (Asked round)).0 }
     {
@@ -175,8 +177,10 @@ impl Part {
         }
     }
 
-    /// Keeps a proposed command as pending, and sends it at once if it extends the value. In a fast round no
-    /// command does: the acceptors take commands from the proposers. If memory runs out, nothing changes.
+    /// Keeps a proposed command as pending. If its value lacks the command and the round is not
+    /// fast, it appends the command to the value, and returns the message that sends the value. In
+    /// a fast round the acceptors take commands from the proposers. If memory runs out, nothing
+    /// changes.
     pub fn propose(&mut self, epoch: u32, c: &Command) -> Result<Outs, NoMemory>
         ensures next { OnOk result (self.new ≡ (coordinator_take self.old (Proposed c.now)).0) }
         ensures sent { IfOk result (λ outs. map message_of outs ≡ option_to_list (maybe_stamped epoch (coordinator_take self.old (Proposed c.now)).1)) }
@@ -204,7 +208,7 @@ impl Part {
         }
     }
 
-    // Keeps a command at the end of what is pending, if it is not there.
+    // Appends a command to the pending ones, if it is not there.
     #[tactic(auto, using(crate::proofs::Stepping::kept))]
     fn keep(&mut self, c: Command) -> Result<(), NoMemory>
         ensures kept { OnOk result (self.new ≡ with_pending self.old c) }
@@ -239,8 +243,9 @@ impl Part {
         }
     }
 
-    /// Collects an answer of phase 1, and sends a value when a quorum has answered. If memory runs out,
-    /// nothing changes.
+    /// Takes an answer of phase 1 for its round, the first of its acceptor. When a quorum has
+    /// answered, it chooses a value, and returns the message that sends the value. Any other answer
+    /// changes nothing. If memory runs out, nothing changes.
     #[tactic(auto, using(crate::proofs::Stepping::expected_first, crate::proofs::Stepping::expected_known, crate::proofs::Stepping::forgotten))]
     pub fn collect(
         &mut self,
@@ -301,7 +306,7 @@ impl Part {
         self.answers.remove(acceptor);
     }
 
-    // Takes and sends the value that the answers give, if they are those of a quorum.
+    // Chooses and sends the value that the answers give, if they are those of a quorum.
     fn decide(&mut self, epoch: u32) -> Result<Outs, NoMemory>
         ensures next { OnOk result (self.new ≡ (answered self.old).0) }
         ensures sent { IfOk result (λ outs. map message_of outs ≡ option_to_list (maybe_stamped epoch (answered self.old).1)) }
@@ -313,7 +318,7 @@ impl Part {
         Ok(outs)
     }
 
-    // The safe choice with all that is pending after it, if a quorum has answered.
+    // The safe choice, followed by all pending commands, if a quorum of phase 1 has answered.
     #[tactic(auto, using(crate::proofs::Stepping::chosen_by))]
     fn choose(&self) -> Result<Option<History>, NoMemory>
         ensures { IfOk result (λ v. option_map history_of v ≡ choice self.now) }

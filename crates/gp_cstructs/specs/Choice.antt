@@ -22,7 +22,7 @@ abbrev pub vote_at : {V : Type 0} → Round → Option (Round × V) → Option V
 vote_at k None = None
 vote_at k (Some a) = cond (same_round a.0 k) (Some a.1) None
 
--- the votes of those that answered round k
+-- the votes of the acceptors that answered with round k
 abbrev pub votes_at : {V : Type 0} → Round → (ℕ → Option (Round × V)) → ℕ → Option V
 votes_at k f i = vote_at k (f i)
 
@@ -35,10 +35,10 @@ lowest f (suc n) = option_or (lowest f n) (f n)
 abbrev pub counting_values : {V : Type 0} → (V → V → V) → ℕ → (ℕ → Option (Round × V)) → Round → List V
 counting_values meet n f k = quorum_meets meet (votes_at k f) (answers_by f) n (masks n (quorum_size n k.mode))
 
--- their join, or if there are none the vote of the lowest acceptor that answered round k
+-- their join, or if there are none the vote of the lowest acceptor that answered with round k
 abbrev pub choice_at : {V : Type 0} → V → (V → V → V) → (V → V → V) → ℕ → (ℕ → Option (Round × V)) → Round → Option V
 choice_at empty meet join n f k = option_or (all_joined empty join (counting_values meet n f k)) (lowest (votes_at k f) n)
 
--- the choice at the greatest round that was answered
+-- the choice at the greatest round among the answers
 abbrev pub safe_choice : {V : Type 0} → V → (V → V → V) → (V → V → V) → ℕ → (ℕ → Option (Round × V)) → V
 safe_choice empty meet join n f = unwrap_or (choice_at empty meet join n f (top_round f n)) empty

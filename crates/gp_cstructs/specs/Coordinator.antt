@@ -1,4 +1,4 @@
--- What a coordinator keeps, and what it does. What is pending is kept beside it.
+-- What a coordinator keeps, and what it does. The pending commands are not part of its state here.
 use Rattle.std.specs.Prelude.{ℕ, Bool, true, false, cond, not, ◌&&◌, nat_lt, List, [], Option, Some, None}
 use Rattle.gp_cstructs.specs.Tables.{Tables, Message, Propose, P1a, P1b, P2a, P2b, nothing, set_at, is_missing, pushes}
 
@@ -12,7 +12,7 @@ pub record Coordinator (T : Tables) : Type 0 where
 abbrev pub coordinator_opening : (T : Tables) → Coordinator T
 coordinator_opening T = record { round = T.zero; awake = false; answers = nothing; value = None }
 
--- in the first phase of a round, with no answer yet
+-- in phase 1 of a round, with no answer yet
 abbrev pub begun : (T : Tables) → T.Round → Coordinator T
 begun T r = record { round = r; awake = true; answers = nothing; value = None }
 
@@ -20,7 +20,7 @@ begun T r = record { round = r; awake = true; answers = nothing; value = None }
 abbrev pub coordinator_begin : (T : Tables) → Coordinator T → T.Round → Coordinator T × Option (Message T)
 coordinator_begin T s r = cond (T.earlier s.round r) (begun T r, Some (P1a r)) (s, None)
 
--- with these answers: a quorum gives the value, the safe choice with these commands pushed
+-- with these answers: if they are those of a quorum, the value is the safe choice with these commands pushed
 abbrev pub answered : (T : Tables) → ℕ → Coordinator T → (ℕ → Option (T.Round × T.Value)) → List T.Command → Coordinator T × Option (Message T)
 answered T c s f cs =
     cond (T.is_enough f)
@@ -35,7 +35,7 @@ extended T c s (Some w) d =
     (record { round = s.round; awake = s.awake; answers = s.answers; value = Some (T.push w d) }, Some (P2a s.round c (T.push w d)))
     (s, None)
 
--- the answer is one that is waited for
+-- the coordinator waits for this answer
 abbrev pub expects : (T : Tables) → Coordinator T → T.Round → ℕ → Bool
 expects T s r a = s.awake && T.same r s.round && is_missing s.value && nat_lt a T.acceptors && is_missing (s.answers a)
 
@@ -47,7 +47,7 @@ coordinator_take T c s (P1b r a q v) cs = cond (expects T s r a) (answered T c s
 coordinator_take T c s (P2a r b v) cs = (s, None)
 coordinator_take T c s (P2b r b v) cs = (s, None)
 
--- what a fall keeps: nothing that was not durable before, or the durable part of a step
+-- what a crash keeps: nothing that was not durable before, or the durable part of a step
 pub data Kept (T : Tables) : Type 0 where
   KeptNothing : Kept T
   KeptBegin : T.Round → Kept T
@@ -56,7 +56,7 @@ pub data Kept (T : Tables) : Type 0 where
 abbrev pub asleep : (T : Tables) → T.Round → Coordinator T
 asleep T r = record { round = r; awake = false; answers = nothing; value = None }
 
--- it falls and starts again with its round alone
+-- after a crash and a restart with its round alone
 abbrev pub coordinator_fall : (T : Tables) → ℕ → Coordinator T → Kept T → Coordinator T
 coordinator_fall T c s KeptNothing = asleep T s.round
 coordinator_fall T c s (KeptBegin r) = asleep T (coordinator_begin T s r).0.round

@@ -1,7 +1,7 @@
 -- The facts that each step keeps.
-use Rattle.std.specs.Prelude.{◌≡◌, ◌⊎◌, ◌<◌, ◌≤◌, ℕ, Bool, true, false, List, ◌++◌, Some, None}
+use Rattle.std.specs.Prelude.{◌≡◌, ◌⊎◌, ◌<◌, ◌≤◌, ℕ, Bool, true, false, List, ◌++◌, Option, Some, None}
 use Rattle.gp_round.specs.Sets.{members}
-use Rattle.gp_cstructs.specs.CStructs.{Among, IsUpperBound}
+use Rattle.gp_cstructs.specs.CStructs.{Among, IsUpperBound, Compatible}
 use Rattle.gp_cstructs.specs.Tables.{Tables, P1b, P2a, P2b}
 use Rattle.gp_cstructs.specs.Acceptor.{Acceptor}
 use Rattle.gp_cstructs.specs.Coordinator.{Coordinator}
@@ -18,7 +18,7 @@ pub record Ledger (T : Tables) : Type 1 where
   pub values : ℕ → T.Round → T.Value → Type 0
   pub answers : T.Round → ℕ → T.Round → T.Value → Type 0
 
--- acceptor a had the vote x of round r, as each had the empty one of round zero
+-- acceptor a had the vote x of round r; every acceptor had the empty value of round zero
 abbrev pub IsVote : (T : Tables) → List (ℕ × T.Round × T.Value) → ℕ → T.Round → T.Value → Type 0
 IsVote T cast a r x = Among cast (a, r, x) ⊎ ((r ≡ T.zero) × (x ≡ T.empty))
 
@@ -65,7 +65,7 @@ pub record IsJoined (T : Tables) (leads : T.Round → (ℕ → Bool) → Type 0)
   pub above : IsUpperBound T.prefix w parts
   pub least : (z : T.Value) → IsUpperBound T.prefix z parts → T.prefix w z
 
--- what is true of an answer of acceptor a to round r, with the vote v of round q
+-- what holds of an answer of acceptor a to round r, with the vote v of round q
 pub record AnswerFacts (T : Tables) (G : Ledger T) (r : T.Round) (a : ℕ) (q : T.Round) (v : T.Value) : Type 0 where
   -- q is below r
   pub below : T.earlier q r ≡ true
@@ -93,7 +93,7 @@ pub record LedgerFacts (T : Tables) (leads : T.Round → (ℕ → Bool) → Type
   pub values_late : (c : ℕ) (r : T.Round) (x : T.Value) → G.values c r x → T.earlier T.zero r ≡ true
   -- each value is safe at its round
   pub values_safe : (c : ℕ) (r : T.Round) (x : T.Value) → G.values c r x → IsSafe T G x r
-  -- each answer is true
+  -- `AnswerFacts` holds of each answer
   pub answers_true : (r : T.Round) (a : ℕ) (q : T.Round) (v : T.Value) → G.answers r a q v → AnswerFacts T G r a q v
 
 -- ---- the nodes
@@ -135,7 +135,7 @@ pub record Heard (T : Tables) (taken : List (T.Round × ℕ × T.Value)) (u : T.
 pub record LearnerFacts (T : Tables) (G : Ledger T) (s : Learner T) : Type 0 where
   -- the votes that it took were cast
   pub taken_cast : (r : T.Round) (a : ℕ) (v : T.Value) → Among s.taken (r, a, v) → G.votes a r v
-  -- it holds only votes that it took, and of each acceptor in each round the last
+  -- it holds only votes that it took, and of each acceptor in each round one that the others are prefixes of
   pub held_taken : (r : T.Round) (a : ℕ) (v : T.Value) → s.votes r a ≡ Some v → Among s.taken (r, a, v)
   pub taken_held : (r : T.Round) (a : ℕ) (v : T.Value) → Among s.taken (r, a, v) → (x : T.Value) × (s.votes r a ≡ Some x) × T.prefix v x
   -- what it learned is the least upper bound of values that it heard
@@ -143,7 +143,7 @@ pub record LearnerFacts (T : Tables) (G : Ledger T) (s : Learner T) : Type 0 whe
   pub heard : (u : T.Value) → Among parts u → Heard T s.taken u
   pub above : IsUpperBound T.prefix s.learned parts
   pub least : (z : T.Value) → IsUpperBound T.prefix z parts → T.prefix s.learned z
-  -- and what whole quorums voted, by what it holds, is a prefix of it
+  -- the meet of each quorum whose votes it all holds is a prefix of what it learned
   pub whole_learned : (r : T.Round) (u : T.Value) → Among (T.acceptor_meets r (s.votes r)) u → T.prefix u s.learned
 
 -- ---- all of them
@@ -156,3 +156,18 @@ pub record Facts (T : Tables) (leads : T.Round → (ℕ → Bool) → Type 0) (w
   -- each vote that a learner took was sent, and each that was sent was cast
   pub taken_sent : (i : ℕ) (r : T.Round) (a : ℕ) (v : T.Value) → Among (w.learners i).taken (r, a, v) → Among w.sent (P2b r a v)
   pub sent_cast : (r : T.Round) (a : ℕ) (v : T.Value) → Among w.sent (P2b r a v) → IsVote T w.cast a r v
+
+-- ---- what the facts give
+
+-- the choice from the answers of a quorum of phase 1 of a round is safe at that round
+abbrev pub ChoosesSafely : (T : Tables) → System T → Type 0
+ChoosesSafely T w = (r : T.Round) (answers : ℕ → Option (T.Round × T.Value)) → ((i : ℕ) (q : T.Round) (v : T.Value) → answers i ≡ Some (q, v) → Among w.sent (P1b r i q v))
+    → T.is_enough answers ≡ true → IsSafe T (ledger_of T w) (T.safe_choice answers) r
+
+-- every two votes of one round that is not fast are compatible
+abbrev pub AreVotesCompatible : (T : Tables) → System T → Type 0
+AreVotesCompatible T w = (r : T.Round) → T.fast r ≡ false → (i j : ℕ) (x y : T.Value) → IsVote T w.cast i r x → IsVote T w.cast j r y → Compatible T.prefix x y
+
+-- every two chosen values, of any rounds, are compatible
+abbrev pub AreChosenCompatible : (T : Tables) → System T → Type 0
+AreChosenCompatible T w = (x y : T.Value) (r j : T.Round) → IsChosen T (ledger_of T w) x r → IsChosen T (ledger_of T w) y j → Compatible T.prefix x y

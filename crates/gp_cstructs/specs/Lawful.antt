@@ -1,4 +1,4 @@
--- What the proof asks of the tables.
+-- What the proof requires of the tables.
 use Rattle.std.specs.Prelude.{◌≡◌, ◌⊎◌, ◌<◌, ◌≤◌, ℕ, Bool, true, false, not, List, Option, Some, unwrap_or}
 use Rattle.gp_round.specs.Sets.{members}
 use Rattle.gp_cstructs.specs.CStructs.{Among, BoundLaws}
@@ -22,7 +22,7 @@ pub record IsMeet {V : Type 0} (prefix : V → V → Type 0) (n : ℕ) (f : ℕ 
   pub all : (i : ℕ) → i < n → R i ≡ true → (v : V) × (f i ≡ Some v) × prefix m v
   pub greatest : (z : V) → ((i : ℕ) (v : V) → i < n → R i ≡ true → f i ≡ Some v → prefix z v) → prefix z m
 
--- the safe choice is made of answers of a quorum of the first phase, from the values of the sets that count
+-- the safe choice is made from answers of a quorum of phase 1, from the values of the sets that count
 pub record IsSafeChoice (T : Tables) (f : ℕ → Option (T.Round × T.Value)) : Type 0 where
   pub top : T.Round
   pub values : List T.Value
@@ -51,12 +51,12 @@ pub record IsLawful (T : Tables) (leads : T.Round → (ℕ → Bool) → Type 0)
       → ((i : ℕ) → i < T.acceptors → R i ≡ true → (v : T.Value) × (f i ≡ Some v)) → (m : T.Value) × Among (T.acceptor_meets r f) m × IsMeet T.prefix T.acceptors f R m
   pub choices : (f : ℕ → Option (T.Round × T.Value)) → T.is_enough f ≡ true → IsSafeChoice T f
 
--- a command tells the proposer and the number of its offer
+-- a command has the proposer and the number of its offer
 pub record TellsIdentity (T : Tables) : Type 0 where
   pub proposer_told : (p n : ℕ) (d : T.Draft) → T.proposer_of (T.numbered p n d) ≡ p
   pub number_told : (p n : ℕ) (d : T.Draft) → T.number_of (T.numbered p n d) ≡ n
 
--- no operation makes up a command: each command of what it gives was in what it was given
+-- no operation invents a command: each command of its result was in what it was given
 pub record KeepsCommands (T : Tables) : Type 0 where
   pub in_empty : (d : T.Command) → T.has T.empty d ≡ true → ⊥
   pub in_push : (u : T.Value) (c d : T.Command) → T.has (T.push u c) d ≡ true → (T.has u d ≡ true) ⊎ (c ≡ d)

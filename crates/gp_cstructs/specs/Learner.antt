@@ -12,11 +12,11 @@ pub record Learner (T : Tables) : Type 0 where
 abbrev pub learner_opening : (T : Tables) → Learner T
 learner_opening T = record { votes = λ r a. None; learned = T.empty; taken = [] }
 
--- a vote is held if nothing is held of its acceptor in the round, or what is held has fewer commands
+-- a vote is held if no vote of its acceptor in the round is held, or one with fewer commands
 abbrev pub votes_with : (T : Tables) → (T.Round → ℕ → Option T.Value) → T.Round → ℕ → T.Value → T.Round → ℕ → Option T.Value
 votes_with T f r a v i b = cond (T.same i r && nat_eq b a) (Some (newer T (f r a) v)) (f i b)
 
--- what is learned with what quorums voted, if any did
+-- what is learned, joined with what quorums voted for, if any did
 abbrev pub learned_with : (T : Tables) → T.Value → Option T.Value → T.Value
 learned_with T u None = u
 learned_with T u (Some v) = T.join u v

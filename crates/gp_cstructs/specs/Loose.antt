@@ -1,4 +1,4 @@
--- Loose lists of events, newest first, and the system after them. An event names the message itself that is taken, which may be any that was sent, and the commands that a coordinator pushes may be any that were proposed. Proposers and learners are not counted.
+-- Loose lists of events, newest first, and the system after them. An event names the message that is taken, which may be any that was sent. The commands that a coordinator pushes may be any that were proposed. The numbers of proposers and learners have no bound.
 use Rattle.std.specs.Prelude.{◌≡◌, ◌<◌, ◌+◌, ℕ, true, List, [], ◌∷◌, Option, Some, None}
 use Rattle.gp_cstructs.specs.CStructs.{Among}
 use Rattle.gp_cstructs.specs.Tables.{Tables, Message, Propose, set_at}
@@ -39,7 +39,7 @@ abbrev pub send : (T : Tables) → Option (Message T) → List (Message T) → L
 send T None ms = ms
 send T (Some m) ms = m ∷ ms
 
--- proposer p proposes this command, and has had one offer more
+-- proposer p proposes this command, and has had one more offer
 abbrev pub proposer_now : (T : Tables) → System T → ℕ → T.Command → System T
 proposer_now T w p d = record {
   acceptors = w.acceptors;
@@ -97,7 +97,7 @@ abbrev pub run : (T : Tables) → List (Event T) → System T
 run T [] = start T
 run T (e ∷ es) = happens T (run T es) e
 
--- coordinator c owns the round that a fall keeps begun, and the message that it keeps taken was sent
+-- coordinator c owns the round that a crash keeps as begun, and the message that it keeps as taken was sent
 abbrev pub kept_stands : (T : Tables) → List (Message T) → ℕ → Kept T → Type 0
 kept_stands T sent c KeptNothing = Unit {0}
 kept_stands T sent c (KeptBegin r) = T.owns c r ≡ true

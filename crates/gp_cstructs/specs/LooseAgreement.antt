@@ -13,7 +13,7 @@ abbrev pub IsNoFall : (T : Tables) → ℕ → Event T → Type 0
 IsNoFall T i (LearnerFalls j) = (i ≡ j) → ⊥
 IsNoFall T i _ = Unit {0}
 
--- learner i does not fall in these events
+-- learner i does not crash in these events
 abbrev pub LivesOn : (T : Tables) → ℕ → List (Event T) → Type 0
 LivesOn T i [] = Unit {0}
 LivesOn T i (e ∷ es) = IsNoFall T i e × LivesOn T i es
@@ -21,7 +21,7 @@ LivesOn T i (e ∷ es) = IsNoFall T i e × LivesOn T i es
 pub record AgreesLoosely (T : Tables) (es : List (Event T)) : Type 0 where
   -- any two values that learners show at any moments are compatible
   pub compatible : (xs ys us vs : List (Event T)) → xs ++ ys ≡ es → us ++ vs ≡ es → (i j : ℕ) → Compatible T.prefix (shown T ys i) (shown T vs j)
-  -- what a learner shows grows while it does not fall
+  -- what a learner shows grows while it does not crash
   pub grows : (xs ys zs : List (Event T)) → xs ++ (ys ++ zs) ≡ es → (i : ℕ) → LivesOn T i ys → T.prefix (shown T zs i) (shown T (ys ++ zs) i)
   -- it is the least upper bound of what the learner heard
   pub has_all : (xs ys : List (Event T)) → xs ++ ys ≡ es → (i : ℕ) (u : T.Value) → Heard T ((run T ys).learners i).taken u → T.prefix u (shown T ys i)

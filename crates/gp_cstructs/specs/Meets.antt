@@ -1,4 +1,4 @@
--- The meets of what senders gave, one for each quorum that is whole.
+-- The meets of the values of senders, one for each quorum that is whole.
 use Rattle.std.specs.Prelude.{ℕ, zero, suc, Bool, true, cond, ◌&&◌, List, [], ◌∷◌, Option, Some, None}
 use Rattle.gp_round.specs.Sets.{bit}
 

@@ -16,11 +16,11 @@ TellsOffered T ms (P1b r a q v) = IsOffered T ms v
 TellsOffered T ms (P2a r c v) = IsOffered T ms v
 TellsOffered T ms (P2b r a v) = IsOffered T ms v
 
--- a value that may be kept, if it is
+-- a value, if one is kept, has only commands that were proposed
 abbrev pub KeepsOffered : (T : Tables) → List (Message T) → Option T.Value → Type 0
 KeepsOffered T ms o = (v : T.Value) → o ≡ Some v → IsOffered T ms v
 
--- in every message and every state
+-- this holds in every message and every state
 pub record AllOffered (T : Tables) (w : System T) : Type 0 where
   pub sent : (m : Message T) → Among w.sent m → TellsOffered T w.sent m
   pub votes : (a : ℕ) → IsOffered T w.sent (w.acceptors a).vote

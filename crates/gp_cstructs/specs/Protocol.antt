@@ -1,4 +1,4 @@
--- The tables over any c-structs, with rounds of three modes and quorums of so many acceptors and coordinators.
+-- The tables over any c-structs, with rounds of three modes, for given numbers of acceptors and coordinators.
 use Rattle.std.specs.Prelude.{ℕ, Bool, not, cond, nat_lt, List, [], Option, None}
 use Rattle.gp_round.specs.declared.round.Mode.{Mode}
 use Rattle.gp_round.specs.declared.round.Mode.TheVariants.{Single, Multi, Fast}
@@ -17,15 +17,15 @@ coordinator_meets_by meet c Single lead f = add_meet (cond (nat_lt lead c) (f le
 coordinator_meets_by meet c Multi lead f = quorum_meets meet f everyone c (masks c (majority c))
 coordinator_meets_by meet c Fast lead f = add_meet (cond (nat_lt lead c) (f lead) None) []
 
--- the meets of the values of the least quorums of c coordinators that are held whole
+-- the meets of the values of the quorums of c coordinators, of the least size, whose members all have a value
 abbrev pub coordinator_meets : {V : Type 0} → (V → V → V) → ℕ → Round → (ℕ → Option V) → List V
 coordinator_meets meet c r f = coordinator_meets_by meet c r.mode r.lead f
 
--- the meets of the votes of the least quorums of a acceptors that are held whole
+-- the meets of the votes of the quorums of a acceptors, of the least size, whose members all have a vote
 abbrev pub acceptor_meets : {V : Type 0} → (V → V → V) → ℕ → Round → (ℕ → Option V) → List V
 acceptor_meets meet a r f = quorum_meets meet f everyone a (masks a (quorum_size a r.mode))
 
--- the answers are those of a quorum of the first phase
+-- the answers are those of a quorum of phase 1
 abbrev pub is_enough : {V : Type 0} → ℕ → (ℕ → Option (Round × V)) → Bool
 is_enough a f = not (nat_lt (members (answers_by f) a) (majority a))
 

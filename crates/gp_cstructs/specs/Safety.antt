@@ -1,4 +1,4 @@
--- What may yet be chosen, and what is safe, over any values and rounds; and the choice from answers of the first phase.
+-- What may yet be chosen, and what is safe, over any values and rounds; and the choice from the answers of phase 1.
 use Rattle.std.specs.Prelude.{◌≡◌, ◌⊎◌, ◌<◌, ◌≤◌, ◌+◌, ℕ, Bool, true, List, [], ◌∷◌}
 use Rattle.gp_round.specs.Sets.{members}
 use Rattle.gp_cstructs.specs.CStructs.{Among, join_all}
@@ -9,7 +9,7 @@ pub record IsOrder {Rd : Type 0} (lt : Rd → Rd → Type 0) : Type 0 where
   pub irreflexive : (i : Rd) → lt i i → ⊥
   pub total : (i j : Rd) → lt i j ⊎ ((i ≡ j) ⊎ lt j i)
 
--- two quorums of a round meet, one of a round and one of the first phase, and two of a fast round and one of the first phase
+-- quorums that meet: two of a round; one of a round and one of phase 1; two of a fast round and one of phase 1
 pub record QuorumSizes {Rd : Type 0} (fast : Rd → Bool) (n first : ℕ) (size : Rd → ℕ) : Type 0 where
   pub with_itself : (r : Rd) → n < size r + size r
   pub with_first : (r : Rd) → n < size r + first

@@ -1,4 +1,4 @@
--- What the tables of the roles are made of, and the messages.
+-- What the tables of the roles use, and the messages.
 use Rattle.std.specs.Prelude.{ℕ, Bool, true, false, cond, nat_lt, nat_eq, List, [], ◌∷◌, Option, Some, None}
 
 pub record Tables : Type 1 where
@@ -12,7 +12,7 @@ pub record Tables : Type 1 where
   pub push : Value → Command → Value
   pub has : Value → Command → Bool
   pub size : Value → ℕ
-  -- the command that a proposer makes of a draft as the offer of this number, and of a command its proposer and number
+  -- the command that a proposer makes from a draft as its offer with this number; the proposer and the number of a command
   pub Draft : Type 0
   pub numbered : ℕ → ℕ → Draft → Command
   pub proposer_of : Command → ℕ
@@ -26,15 +26,15 @@ pub record Tables : Type 1 where
   pub multi : Round → Bool
   -- whether a coordinator owns a round, and so may begin it
   pub owns : ℕ → Round → Bool
-  -- how many nodes there are, and the least sizes of quorums of acceptors: of the first phase, and of a round
+  -- how many nodes there are, and the least sizes of quorums of acceptors: of phase 1, and of a round
   pub acceptors : ℕ
   pub coordinators : ℕ
   pub first_quorum : ℕ
   pub quorum : Round → ℕ
-  -- the meets of the values of the least quorums of coordinators, and of acceptors, in a round: of those whose members all have one
+  -- the meets of the values of the quorums of coordinators, and of acceptors, of the least size in a round: of those whose members all have a value
   pub coordinator_meets : Round → (ℕ → Option Value) → List Value
   pub acceptor_meets : Round → (ℕ → Option Value) → List Value
-  -- whether the answers are those of a quorum of the first phase, and the safe choice from them
+  -- whether the answers are those of a quorum of phase 1, and the safe choice from them
   pub is_enough : (ℕ → Option (Round × Value)) → Bool
   pub safe_choice : (ℕ → Option (Round × Value)) → Value
 
@@ -46,7 +46,7 @@ pub data Message (T : Tables) : Type 0 where
   P2a : T.Round → ℕ → T.Value → Message T
   P2b : T.Round → ℕ → T.Value → Message T
 
--- nothing of anybody
+-- no value for any number
 abbrev pub nothing : {X : Type 0} → ℕ → Option X
 nothing i = None
 
@@ -58,7 +58,7 @@ abbrev pub is_missing : {X : Type 0} → Option X → Bool
 is_missing None = true
 is_missing (Some x) = false
 
--- what is held of a sender: of its values the first that has the most commands
+-- the held value of a sender: of its values the first that has the most commands
 abbrev pub newer : (T : Tables) → Option T.Value → T.Value → T.Value
 newer T None v = v
 newer T (Some w) v = cond (nat_lt (T.size w) (T.size v)) v w

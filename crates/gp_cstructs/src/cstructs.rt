@@ -1,19 +1,19 @@
-//! What generalized consensus asks of the values that are agreed on.
+//! What generalized consensus requires of the values that are agreed on.
 ghost use Rattle.std.specs.Prelude.{◌≡◌};
 ghost use Rattle.gp_cstructs.specs.CStructs.{Operations, Laws};
 
-/// Values that are built of commands, the *c-structs* of generalized consensus (Lamport,
-/// *Generalized Consensus and Paxos*, 2005), as sequences and command histories are.
+/// Values that are built from commands: the *c-structs* of generalized consensus (Lamport,
+/// *Generalized Consensus and Paxos*, 2005). Sequences and command histories are examples.
 ///
-/// Its members are all that the laws of this crate know of values and commands.
+/// The laws of this crate use nothing else of values and commands.
 pub trait CStructs {
     type Command;
-    /// What a proposer makes a command of: a command without its identity.
+    /// A command without its identity, from which a proposer makes a command.
     type Draft;
 
     ghost operations: { Operations Self Self.Command Self.Draft };
 
-    /// How many commands the value has.
+    /// The number of commands in the value.
     fn size(&self) -> usize
         ensures { result ≡ operations.size self.now };
 

@@ -1,13 +1,11 @@
 //! Laws of the protocol, within one epoch. Each function does nothing, and its contract is the law.
 //!
-//! In each law `T` has the tables over a kind of c-structs, for `a` acceptors and `c` coordinators. A law
-//! that rests on quorums that meet has the premise that there is an acceptor.
-ghost use Rattle.std.specs.Prelude.{◌≡◌, ◌<◌, ℕ, true, false, List, Option, Some};
+//! In each law `T` has the tables over a kind of c-structs, for `a` acceptors and `c` coordinators.
+//! A law whose proof uses that quorums share a member has the premise that there is an acceptor.
+ghost use Rattle.std.specs.Prelude.{◌<◌, ℕ, List};
 ghost use Rattle.gp_round.specs.declared.round.Round.{Round};
-ghost use Rattle.gp_cstructs.specs.CStructs.{Among, Compatible};
-ghost use Rattle.gp_cstructs.specs.Tables.{P1b};
 ghost use Rattle.gp_cstructs.specs.Loose.{Event, System, Fits, Loose, happens, run};
-ghost use Rattle.gp_cstructs.specs.Facts.{Facts, IsVote, HadVote, IsSafe, IsChosen, ledger_of};
+ghost use Rattle.gp_cstructs.specs.Facts.{Facts, IsVote, HadVote, ChoosesSafely, AreVotesCompatible, AreChosenCompatible};
 ghost use Rattle.gp_cstructs.specs.Offered.{AllOffered};
 ghost use Rattle.gp_cstructs.specs.ProposedOnce.{AreProposedOnce};
 ghost use Rattle.gp_cstructs.specs.LooseAgreement.{AgreesLoosely};
@@ -16,7 +14,7 @@ ghost use Rattle.gp_cstructs.specs.Protocol.{protocol};
 
 use crate::cstructs::CStructs;
 
-/// Each event that may happen keeps the facts, from any system that has them all.
+/// If all facts hold of a system, they hold of it after each event that may happen.
 pub fn each_step_keeps_the_facts<V: CStructs>()
     ensures facts { (a c : ℕ) → 0 < a → let T = protocol V.operations a c in
         (w : System T) (e : Event T) → Facts T (IsCoordinatorQuorum c) w → Fits T w e → Facts T (IsCoordinatorQuorum c) (happens T w e) }
@@ -26,7 +24,7 @@ pub fn each_step_keeps_the_facts<V: CStructs>()
         (w : System T) (e : Event T) → AreProposedOnce T w → AreProposedOnce T (happens T w e) }
 {}
 
-/// All facts hold after a loose list.
+/// All facts hold after a loose list of events.
 pub fn loose_lists_have_the_facts<V: CStructs>()
     ensures facts { (a c : ℕ) → 0 < a → let T = protocol V.operations a c in
         (es : List (Event T)) → Loose T es → Facts T (IsCoordinatorQuorum c) (run T es) }
@@ -36,7 +34,8 @@ pub fn loose_lists_have_the_facts<V: CStructs>()
         (es : List (Event T)) → AreProposedOnce T (run T es) }
 {}
 
-/// The votes that the facts speak of are those that an acceptor had at some moment of the list.
+/// The votes of which the facts speak are exactly those that an acceptor had at some moment of the
+/// list.
 pub fn votes_are_those_that_an_acceptor_had<V: CStructs>()
     ensures only { (a c : ℕ) → let T = protocol V.operations a c in
         (es : List (Event T)) (i : ℕ) (r : Round) (x : V) → IsVote T (run T es).cast i r x → HadVote T es i r x }
@@ -44,32 +43,25 @@ pub fn votes_are_those_that_an_acceptor_had<V: CStructs>()
         (es : List (Event T)) → Loose T es → (i : ℕ) (r : Round) (x : V) → HadVote T es i r x → IsVote T (run T es).cast i r x }
 {}
 
-/// The choice from answers of a quorum of the first phase of a round is safe at that round.
+/// The choice from the answers of a quorum of phase 1 of a round is safe at that round.
 pub fn the_safe_choice_is_safe<V: CStructs>()
     ensures { (a c : ℕ) → 0 < a → let T = protocol V.operations a c in
-        (w : System T) → Facts T (IsCoordinatorQuorum c) w
-        → (r : Round) (answers : ℕ → Option (Round × V))
-        → ((i : ℕ) (q : Round) (v : V) → answers i ≡ Some (q, v) → Among w.sent (P1b r i q v))
-        → T.is_enough answers ≡ true → IsSafe T (ledger_of T w) (T.safe_choice answers) r }
+        (w : System T) → Facts T (IsCoordinatorQuorum c) w → ChoosesSafely T w }
 {}
 
 /// Votes of one round that is not fast are compatible.
 pub fn votes_of_a_round_are_compatible<V: CStructs>()
     ensures { (a c : ℕ) → 0 < a → let T = protocol V.operations a c in
-        (w : System T) → Facts T (IsCoordinatorQuorum c) w
-        → (r : Round) → T.fast r ≡ false → (i j : ℕ) (x y : V) → IsVote T w.cast i r x → IsVote T w.cast j r y
-        → Compatible T.prefix x y }
+        (w : System T) → Facts T (IsCoordinatorQuorum c) w → AreVotesCompatible T w }
 {}
 
 /// Two chosen values, in any rounds, are compatible.
 pub fn chosen_values_are_compatible<V: CStructs>()
     ensures { (a c : ℕ) → 0 < a → let T = protocol V.operations a c in
-        (w : System T) → Facts T (IsCoordinatorQuorum c) w
-        → (x y : V) (r j : Round) → IsChosen T (ledger_of T w) x r → IsChosen T (ledger_of T w) y j
-        → Compatible T.prefix x y }
+        (w : System T) → Facts T (IsCoordinatorQuorum c) w → AreChosenCompatible T w }
 {}
 
-/// What learners show in a loose list agrees.
+/// What learners show in a loose list of events agrees.
 pub fn loose_lists_agree<V: CStructs>()
     ensures { (a c : ℕ) → 0 < a → let T = protocol V.operations a c in
         (es : List (Event T)) → Loose T es → AgreesLoosely T es }

@@ -1,4 +1,4 @@
--- What driving brings.
+-- What holds of a driven run.
 use Rattle.std.specs.Prelude.{◌≡◌, ◌<◌, ◌+◌, ◌*◌, ℕ, suc, true, false, List, [], ◌∷◌, ◌++◌, length, take, drop}
 use Rattle.std.specs.List.{All, Contains}
 use Rattle.gp_command.specs.declared.command.Command.{Command}
@@ -18,7 +18,7 @@ use Rattle.gp_driver.specs.Driving.{first_round, all_driven, drive_multi}
 abbrev pub command : ℕ → Draft → Command
 command n draft = record { id = record { proposer = 0; number = n + 1 }; draft = draft }
 
--- the commands of some drafts, before which n were offered
+-- the commands that proposer 0 makes of drafts after n offers
 abbrev pub commands : ℕ → List Draft → List Command
 commands n [] = []
 commands n (draft ∷ drafts) = command n draft ∷ commands (suc n) drafts
@@ -39,7 +39,7 @@ beginnings (e ∷ es) = begun_by e.event ++ beginnings es
 abbrev pub AreNoCheckpoints : List Draft → Type 0
 AreNoCheckpoints drafts = All (λ draft. draft.checkpoint ≡ false) drafts
 
--- the driven run is legal and has exactly so many events; one event begins a round; no event is of coordinator 2; and after the events of the first i drafts every learner shows their commands, whether or not these conflict
+-- the driven run is legal and has exactly this number of events; one of them begins a round, and none is of coordinator 2; drafts are driven one after another, and after the first i drafts every learner shows their commands, whether or not they conflict
 pub record DrivesMulti (config : Counts) (drafts : List Draft) : Type 0 where
   pub legal : Legal config (drive_multi config drafts)
   pub events : length (drive_multi config drafts) ≡ 3 + 5 * config.acceptors + config.acceptors * config.learners + length drafts * (3 + 2 * config.acceptors + config.acceptors * config.learners)

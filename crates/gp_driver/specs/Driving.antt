@@ -1,4 +1,4 @@
--- Driving: one multi round in which coordinator 2 takes no part, and drafts that are learned in it one by one.
+-- Driving: drafts are learned one after another in one multi round, in which coordinator 2 takes no part.
 use Rattle.std.specs.Prelude.{ℕ, List, [], ◌∷◌, length}
 use Rattle.gp_command.specs.declared.draft.Draft.{Draft}
 use Rattle.gp_round.specs.Counts.{Counts}
@@ -12,11 +12,11 @@ use Rattle.gp_run.specs.Messages.{messages}
 use Rattle.gp_run.specs.Runs.{run_onto}
 use Rattle.gp_driver.specs.Sweeps.{sweep}
 
--- the round
+-- the multi round of count 1
 abbrev pub first_round : Round
 first_round = record { count = 1; mode = Multi; lead = 0 }
 
--- from a place on, acceptors take the values, and learners the votes
+-- acceptors take the values and then learners take the votes, each from message number `start` on
 abbrev pub voted_from : Counts → ℕ → List Entry → List Entry
 voted_from config start es = sweep config Learner config.learners Kind.P2b start (sweep config Acceptor config.acceptors Kind.P2a start es)
 
@@ -36,7 +36,7 @@ driven config draft es =
     (sweep config Coordinator 2 Kind.Propose (length (messages es))
     (run_onto config es (Offer 0 draft ∷ [])))
 
--- one draft after another
+-- one draft after another is driven
 abbrev pub all_driven : Counts → List Draft → List Entry → List Entry
 all_driven config [] es = es
 all_driven config (draft ∷ drafts) es = all_driven config drafts (driven config draft es)

@@ -1,4 +1,4 @@
--- What settling brings.
+-- What holds of a settled run.
 use Rattle.std.specs.Prelude.{◌≡◌, ◌<◌, ◌≤◌, ◌+◌, ℕ, suc, true, List, length}
 use Rattle.std.specs.List.{Contains}
 use Rattle.gp_command.specs.declared.command.Command.{Command}
@@ -12,11 +12,11 @@ use Rattle.gp_run.specs.Learned.{learned_at}
 use Rattle.gp_driver.specs.Sweeps.{places}
 use Rattle.gp_driver.specs.Settling.{passes, CanPass, checkpoints, prepared, settle, settling_passes, settling_events}
 
--- each learner shows every command that was offered
+-- each learner shows every offered command
 abbrev pub AllLearned : Counts → List Entry → Type 0
 AllLearned config es = (l : ℕ) → l < config.learners → (c : Command) → Contains (messages es) (Offered c) → has (learned_at config l es) c ≡ true
 
--- the settled run is legal, and in it all is learned. It takes exactly so many events, and at most one pass more than checkpoints were offered. The last pass closed no epoch, so allowing more passes changes nothing. Each pass can begin its round
+-- the settled run is legal, and every learner has learned every offered command. Settling takes exactly this number of events, and at most one pass more than checkpoints were offered. The last pass closes no epoch, so a higher limit of passes changes nothing. Each pass can begin its round
 pub record Settles (config : Counts) (es : List Entry) : Type 0 where
   pub legal : Legal config (settle config es)
   pub learned : AllLearned config (settle config es)

@@ -1,4 +1,4 @@
--- Settling: single rounds of coordinator 0, until every learner holds every command that was offered.
+-- Settling: single rounds of coordinator 0, until every learner holds every offered command.
 use Rattle.std.specs.Prelude.{ℕ, zero, suc, ◌<◌, ◌+◌, ◌-◌, ◌*◌, Bool, false, cond, List, [], ◌∷◌, length}
 use Rattle.gp_round.specs.Counts.{Counts}
 use Rattle.gp_round.specs.declared.round.Mode.TheVariants.{Single}
@@ -14,19 +14,19 @@ use Rattle.gp_driver.specs.Sweeps.{places, swept, sweep}
 
 -- ---- before the first round
 
--- the Final messages at these places are taken one after another: by coordinator 0, then by each acceptor, then by each learner
+-- coordinator 0, then each acceptor, then each learner takes the Final message at each of these places, one message after another
 abbrev pub closings : Counts → List ℕ → List Entry → List Entry
 closings config [] es = es
 closings config (k ∷ ks) es =
     closings config ks (swept config Learner config.learners (k ∷ []) (swept config Acceptor config.acceptors (k ∷ []) (swept config Coordinator 1 (k ∷ []) es)))
 
--- all Final messages are taken, and then all proposals by coordinator 0
+-- all Final messages are taken, and then coordinator 0 takes all proposals
 abbrev pub prepared : Counts → List Entry → List Entry
 prepared config es = sweep config Coordinator 1 Kind.Propose 0 (closings config (places Kind.Final 0 (messages es)) es)
 
 -- ---- one pass
 
--- a single round of coordinator 0, of a greater count than any other
+-- a single round of coordinator 0, with a greater count than any other round
 abbrev pub next_round : Counts → List Entry → Round
 next_round config es = record { count = suc (top_count config es); mode = Single; lead = 0 }
 
@@ -34,7 +34,7 @@ next_round config es = record { count = suc (top_count config es); mode = Single
 abbrev pub begun : Counts → List Entry → List Entry
 begun config es = run_onto config es (Begin 0 (next_round config es) ∷ [])
 
--- from a place on, acceptors take what was asked, coordinator 0 the answers, acceptors the value, and learners the votes
+-- from message number `start` on, acceptors take the P1a, coordinator 0 takes their answers, acceptors take the value, and learners take the votes
 abbrev pub heard_from : Counts → ℕ → List Entry → List Entry
 heard_from config start es =
     sweep config Learner config.learners Kind.P2b start
@@ -56,12 +56,12 @@ closed config k es = swept config Acceptor config.acceptors (k ∷ []) (swept co
 
 -- ---- passes
 
--- x if there is no place, and otherwise what f makes of the first one
+-- what f makes of the first place, or x if there is no place
 abbrev pub at_first {ℓ} : {X : Type ℓ} → List ℕ → X → (ℕ → X) → X
 at_first [] x f = x
 at_first (k ∷ ks) x f = f k
 
--- at most n passes: if one sent a Final message, the first that it sent is taken and the next pass follows
+-- at most n passes: after a pass that sent a Final message, coordinator 0 and the acceptors take the first one that it sent, and the next pass follows
 abbrev pub passes : Counts → ℕ → List Entry → List Entry
 passes config zero es = es
 passes config (suc n) es = at_first (finals_of_pass config es) (pass config es) (λ k. passes config n (closed config k (pass config es)))
@@ -95,7 +95,7 @@ settle config es = passes config (suc (checkpoints (messages es))) (prepared con
 unfoldable pub settling_passes : Counts → List Entry → ℕ
 settling_passes config es = passes_made config (suc (checkpoints (messages es))) (prepared config es)
 
--- the number of events of settling, by the numbers of Final messages and proposals before it and of its p passes
+-- the number of events that settling takes, given the numbers of Final messages and of proposals before it and the number p of its passes
 abbrev pub settling_events : Counts → ℕ → ℕ → ℕ → ℕ
 settling_events config finals proposals p =
     finals * (config.acceptors + config.learners + 1) + proposals + p * (1 + 3 * config.acceptors + config.acceptors * config.learners) + (p - 1) * (config.acceptors + 1)

@@ -11,14 +11,14 @@ use Rattle.gp_run.specs.Legal.{fits}
 use Rattle.gp_driver.specs.declared.stage.StageFault.{StageFault}
 use Rattle.gp_driver.specs.declared.stage.StageFault.TheVariants.{NoMemory, Disk, Full}
 
--- one node of a stage: which it is, how often its disk failed, the limit of its log, if it keeps one, and its events in the run, the oldest first
+-- one node of a stage: which node it is, how often its disk failed, the limit of its log if it keeps one, and its events in the run, the oldest first
 pub record StageNode : Type 0 where
   pub node : Node
   pub faults : ℕ
   pub limit : Option ℕ
   pub events : List Event
 
--- what contracts see of a stage: its configuration, the run of its nodes with the newest entry first, the nodes that have disks, how often a disk failed or a log was full, whether a step can be made, and which two numbers, the size of a log and the need of an entry, are too great for an event
+-- what contracts see of a stage: its configuration, the run of its nodes with the newest entry first, the nodes that it lists, how often a disk failed or a log was full, whether a step can be made, and which two numbers, the size of a log and the bytes that an entry needs, are too great for an event
 pub record StageState : Type 1 where
   pub config : Counts
   pub run : List Entry
@@ -45,7 +45,7 @@ AllBut node n = n ≢ node
 abbrev pub IsProposer : Node → Type 0
 IsProposer n = (p : ℕ) × (n ≡ Proposer p)
 
--- the same node later: its disk failed no less often, its log has the same limit, and if it is idle it has the same events
+-- the same node later: its disk failed at least as often, its log has the same limit, and if it is idle it has the same events
 pub record NodeGoes (idle : Node → Type 0) (old new : StageNode) : Type 0 where
   pub same_node : new.node ≡ old.node
   pub later : old.faults ≤ new.faults
@@ -58,25 +58,25 @@ pub record NodesGo (idle : Node → Type 0) (old new : List StageNode) : Type 0 
 
 -- ---- faults
 
--- the event is a node's fall
+-- the event is a crash of a node
 abbrev pub is_fall : Event → Bool
 is_fall (Offer p d) = false
 is_fall (Begin c r) = false
 is_fall (Take node k) = false
 is_fall (Fall node what) = true
 
--- a count has risen, or stands at its last value
+-- a count has risen, or is at its greatest value
 abbrev pub Rose : ℕ → ℕ → Type 0
 Rose before now = (before < now) ⊎ (now ≡ 2 ^ 64 - 1)
 
--- the numbers are too great for an event, no fall, that could come next
+-- the numbers are too great for an event, not a crash, that could come next
 pub record IsTooGreatForOne (config : Counts) (es : List Entry) (is_too_great : Event → ℕ → ℕ → Type 0) (size need : ℕ) : Type 0 where
   pub event : Event
   pub event_fits : fits config es event ≡ true
   pub no_fall : is_fall event ≡ false
   pub great : is_too_great event size need
 
--- the count of a disk has risen, or stands at its last value
+-- the count of a disk has risen, or is at its greatest value
 abbrev pub HasRisen : ℕ → ℕ → Type 0
 HasRisen before now = (before < now) ⊎ (2 ^ 64 - 1 ≤ now)
 
@@ -89,18 +89,18 @@ pub record SomeNodeRose (old new : List StageNode) : Type 0 where
   pub after : slice_get new place ≡ Some is
   pub rose : HasRisen was.faults is.faults
 
--- if a disk failed, this holds
+-- if the result is the fault of a disk, P holds
 abbrev pub IfDiskFailed : Result ℕ StageFault → Type 0 → Type 0
 IfDiskFailed (Ok n) P = Unit {0}
 IfDiskFailed (Err NoMemory) P = Unit {0}
 IfDiskFailed (Err Disk) P = P
 IfDiskFailed (Err (Full size need)) P = Unit {0}
 
--- a disk's fault is that of one of these nodes
+-- if the result is the fault of a disk, the disk of one of these nodes failed
 pub record FailsByNode (old new : List StageNode) (result : Result ℕ StageFault) : Type 0 where
   pub by_node : IfDiskFailed result (SomeNodeRose old new)
 
--- a fault has a cause: that of a disk and that of a full log come only if the count of faults rose, and a full log has numbers that are too great
+-- a fault has a cause: Disk and Full come only if the count of faults rose, and the numbers of Full are too great
 abbrev pub HasCause : ℕ → ℕ → (ℕ → ℕ → Type 0) → StageFault → Type 0
 HasCause before now is_too_great NoMemory = Unit {0}
 HasCause before now is_too_great Disk = Rose before now
@@ -108,12 +108,12 @@ HasCause before now is_too_great (Full size need) = Rose before now × is_too_gr
 
 -- ---- what a driver did
 
--- the run is the one that was meant, the number is that of the entries which were added, and the next step can be made; or the fault has a cause
+-- the run is the target, the number is how many entries were added, and the next step can be made; or the fault has a cause
 abbrev pub Outcome : List Entry → List Entry → List Entry → Type 0 → (StageFault → Type 0) → Result ℕ StageFault → Type 0
 Outcome es zs target ready cause (Ok n) = (zs ≡ target) × (length zs ≡ length es + n) × ready
 Outcome es zs target ready cause (Err fault) = cause fault
 
--- a driver brought a stage to a run, and the answer is how many events this took; or a fault ended it
+-- a driver brought a stage to the target run, and the result is how many events this took; or a fault ended it
 pub record HasDriven (old new : StageState) (target : List Entry) (result : Result ℕ StageFault) : Type 0 where
   pub same_config : new.config ≡ old.config
   pub later : old.faults ≤ new.faults

@@ -19,7 +19,7 @@ abbrev pub is_there : MsgKind → Option Stamped → Bool
 is_there kind None = false
 is_there kind (Some m) = is_of kind m
 
--- the places of the messages of a kind among these, of which the first is message n
+-- the places of the messages of a kind among these messages, the first of which has number n
 abbrev pub places_from : MsgKind → ℕ → List Stamped → List ℕ
 places_from kind n [] = []
 places_from kind n (m ∷ ms) = cond (is_of kind m) (n ∷ places_from kind (suc n) ms) (places_from kind (suc n) ms)
@@ -32,7 +32,7 @@ places kind start ms = places_from kind start (drop start ms)
 abbrev pub takes : Node → List ℕ → List Event
 takes node ks = map (λ k. Take node k) ks
 
--- a node takes the messages of a kind from a place on, before message number end
+-- a node takes the messages of a kind with numbers from `start` up to, but not including, `end`
 abbrev pub took : Counts → Node → MsgKind → ℕ → ℕ → List Entry → List Entry
 took config node kind start end es = run_onto config es (takes node (places kind start (take end (messages es))))
 

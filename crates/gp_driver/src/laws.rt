@@ -17,22 +17,25 @@ ghost use Rattle.gp_driver.specs.Worlds.{stage_of};
 ghost use Rattle.gp_driver.specs.declared.stage.StageFault.{StageFault};
 ghost use Rattle.gp_driver.specs.declared.stage.StageFault.TheVariants.{NoMemory};
 
-/// Settling a legal run brings every command that was offered to every learner, in at most one pass
-/// more than checkpoints were offered, and with exactly so many events.
+/// Settling a legal run that has enough counts of rounds left brings every offered command to every
+/// learner. It takes at most one pass more than checkpoints were offered. The contract gives the
+/// exact number of events.
 pub fn settling_brings_all_that_was_offered()
     ensures { (config : Counts) (es : List Entry) → AreInRange config.acceptors config.coordinators config.learners
         → Legal config es → top_count config es + checkpoints (messages es) ≤ 999999 → Settles config es }
 {}
 
-/// In a multi round of three coordinators, one of which does nothing, each draft that is offered is
-/// learned at once, whether or not the drafts conflict, and with exactly so many events.
+/// In a multi round of three coordinators, one of which does nothing, every learner learns each
+/// offered draft before the next one is offered, whether or not the drafts conflict. No draft is a
+/// checkpoint. The contract gives the exact number of events.
 pub fn driving_needs_no_third_coordinator()
     ensures { (config : Counts) (drafts : List Draft) → AreInRange config.acceptors config.coordinators config.learners
         → config.coordinators ≡ 3 → AreNoCheckpoints drafts → DrivesMulti config drafts }
 {}
 
-/// The length of a settled run has a bound by the length and the messages of the run before, and that of a
-/// driven run one by the number of drafts, both for every configuration. Each offered checkpoint is one of the messages.
+/// The length of a settled run is bounded by the length of the run before and the number of its
+/// messages. The length of a driven run is bounded by the number of drafts. Both bounds hold for
+/// every configuration. At most as many checkpoints were offered as messages were sent.
 pub fn runs_of_drivers_are_short()
     ensures settled { (config : Counts) (es : List Entry) → AreInRange config.acceptors config.coordinators config.learners
         → Settles config es → length (settle config es) ≤ length es + 71 * length (messages es) + 50 }

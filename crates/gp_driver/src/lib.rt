@@ -1,5 +1,5 @@
-//! Drivers: what makes all nodes of a run go on, one event after another, until everything that was
-//! offered is learned.
+//! Drivers. A driver executes events of all nodes of a run, one after another, until every offered
+//! command is learned.
 #![tactic(auto)]
 
 pub mod laws;

@@ -1,4 +1,5 @@
-//! Driving: one multi round in which coordinator 2 takes no part, and drafts that are learned in it one by one.
+//! Driving: drafts are learned one after another in one multi round, in which coordinator 2 takes
+//! no part.
 ghost use Rattle.std.specs.Prelude.{◌≡◌, ◌≤◌, ◌<◌, ◌^◌, [], ◌∷◌, length};
 ghost use Rattle.gp_msg.specs.declared.event.Event.TheVariants.{Begin};
 ghost use Rattle.gp_run.specs.Runs.{entry_after};
@@ -99,7 +100,7 @@ fn drive_one<S: Stage, W: Wait>(
     Ok(offered + pushed + voted + heard)
 }
 
-// One draft after another.
+// Drives one draft after another.
 fn drive_each<S: Stage, W: Wait>(
     rt: &W,
     stage: &mut S,
@@ -122,16 +123,19 @@ fn drive_each<S: Stage, W: Wait>(
     Ok(events)
 }
 
-/// Drives drafts in an empty run of three coordinators: each is learned by every learner before the next
-/// one is offered, whether or not they conflict. The answer is the number of events that this took, and the
-/// first fault of a step ends it.
+/// Drives drafts, none of which is a checkpoint, in an empty run with three coordinators. Every
+/// learner learns each draft before the next one is offered, whether or not the drafts conflict.
+/// Returns the number of events that this took. The first fault of a step ends it.
 ///
-/// Coordinator 0 begins the multi round 1, which coordinators 0 and 1 lead to its open second phase. Then
-/// proposer 0 offers one draft after another, and both coordinators send each to the acceptors, and these
-/// their votes to the learners. Coordinator 2 takes no part. No draft is a checkpoint.
+/// Coordinator 0 begins the multi round of count 1, and coordinators 0 and 1 lead it through phase
+/// 1 into phase 2. Then proposer 0 offers one draft after another. Both coordinators send it to the
+/// acceptors, and the acceptors send their votes to the learners. Coordinator 2 takes no part.
 ///
-/// Out of memory (`NoMemory`) may come at any step. A disk's fault and a full log come only if the stage's count
-/// of faults rose, and a full log comes with the numbers of one event that fits the run as it is then.
+/// `NoMemory` means that memory ran out, which is possible at any step. `Disk` and `Full` are
+/// returned only if the stage's count of faults has risen or is 2^64 - 1. `Disk` is a fault of the
+/// disk of a listed node. The numbers of `Full` are too great for an event, not a crash, that fits
+/// the run as it is then. After a fault the configuration is the same; no clause says which events
+/// were made.
 pub fn drive_multi<S: Stage, W: Wait>(
     rt: &W,
     stage: &mut S,

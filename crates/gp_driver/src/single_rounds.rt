@@ -1,4 +1,4 @@
-//! Settling: single rounds of coordinator 0, until every learner holds every command that was offered.
+//! Settling: single rounds of coordinator 0, until every learner holds every offered command.
 ghost use Rattle.std.specs.Prelude.{◌≡◌, ◌<◌, ◌≤◌, ◌+◌, ◌∷◌, [], ◌^◌, List, true, length};
 ghost use Rattle.gp_msg.specs.Messages.{Entry};
 ghost use Rattle.gp_msg.specs.declared.message.MsgKind.TheVariants as Kind;
@@ -97,7 +97,8 @@ fn spread<S: Stage, W: Wait>(
     Ok(closers + learners)
 }
 
-// The Final messages that were sent are taken by all, one message after another.
+// Coordinator 0, the acceptors and the learners take the Final messages that were sent, one message
+// after another.
 fn take_finals<S: Stage, W: Wait>(rt: &W, stage: &mut S, config: &Config) -> Result<u64, StageFault>
     requires ready { (S.state stage.old).is_ready }
     requires config { config.now ≡ (S.state stage.old).config }
@@ -119,7 +120,7 @@ fn take_finals<S: Stage, W: Wait>(rt: &W, stage: &mut S, config: &Config) -> Res
     Ok(taken)
 }
 
-// At most `limit` passes: after one that closed an epoch the next follows.
+// Makes at most `limit` passes. Another pass follows only if the last one closed an epoch.
 fn make_passes<S: Stage, W: Wait>(
     rt: &W,
     stage: &mut S,
@@ -148,17 +149,20 @@ fn make_passes<S: Stage, W: Wait>(
     Ok(events)
 }
 
-/// Settles a legal run: every learner then holds every command that was offered. The answer is the number
-/// of events that this took, and the first fault of a step ends it.
+/// Settles a legal run: every learner then holds every offered command. Returns the number of
+/// events that this took. The first fault of a step ends it.
 ///
-/// Each Final message is taken by coordinator 0, then by every acceptor, then by every learner, and each
-/// proposal by coordinator 0. Then come passes, in each of which coordinator 0 leads a single round. If
-/// a pass sent a Final message, coordinator 0 and the acceptors take the first one that it sent, and one more
-/// pass follows. Nodes take messages one node after another, in the order of their numbers.
+/// Coordinator 0, then every acceptor and then every learner takes each Final message, and
+/// coordinator 0 takes each proposal. Then passes follow. In a pass, coordinator 0 leads a single
+/// round. If the pass sent a Final message, coordinator 0 and the acceptors take the first one that
+/// it sent, and another pass follows. Nodes take messages one node after another, in the order of
+/// their numbers.
 ///
-/// Out of memory (`NoMemory`) may come at any step. A disk's fault and a full log come only if the stage's count
-/// of faults rose, and a full log comes with the numbers of one event that fits the run as it is then. Whatever the
-/// answer is, no proposer has an event in it.
+/// `NoMemory` means that memory ran out, which is possible at any step. `Disk` and `Full` are
+/// returned only if the stage's count of faults has risen or is 2^64 - 1. `Disk` is a fault of the
+/// disk of a listed node. The numbers of `Full` are too great for an event, not a crash, that fits
+/// the run as it is then. Whatever the result is, no listed proposer makes an event. After a fault
+/// the configuration is the same; no clause says which events were made.
 pub fn settle<S: Stage, W: Wait>(rt: &W, stage: &mut S) -> Result<u64, StageFault>
     requires ready { (S.state stage.old).is_ready }
     requires legal { Legal (S.state stage.old).config (S.state stage.old).run }

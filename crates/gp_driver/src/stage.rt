@@ -1,4 +1,4 @@
-//! What a driver drives.
+//! The stage that a driver drives, and the faults of its steps.
 ghost use Rattle.std.specs.Prelude.{◌≡◌, ◌<◌, ◌≤◌, ◌∷◌, ◌^◌, true, false, length, slice_get, IfOk, IfErr, OnErr};
 ghost use Rattle.std.specs.Option.{option_map};
 ghost use Rattle.gp_round.specs.Ranges.{AreInRange};
@@ -19,35 +19,37 @@ use std::sync::Wait;
 pub enum StageFault {
     /// Memory ran out.
     NoMemory,
-    /// A disk failed.
+    /// The disk of a node failed.
     Disk,
-    /// The log of a node has `size` bytes, and an entry of `need` bytes is past its limit.
+    /// An entry of `need` bytes does not fit under the limit of a node's log, whose size without
+    /// entries is `size` bytes.
     Full { size: u64, need: u64 },
 }
 
-/// All nodes of a configuration, with the run that they made, where a driver makes one step after
-/// another. A step may fail, and a stage counts how often a disk failed or a log was full. The count
-/// stays at its last value once it is there. The nodes that have disks keep their order, and the count of
-/// faults of each disk never falls.
+/// All nodes of a configuration, with the run that they made. A driver makes its steps, one after
+/// another. A step may fail, and a stage counts how often a disk failed or a log was full. The
+/// count ends at 2^64 - 1. A stage may list its nodes. The listed nodes keep their order, and the
+/// count of faults of each of their disks never decreases.
 pub trait Stage {
     ghost use Rattle.gp_driver.specs.Stages.{StageState};
 
     ghost state: { Self → StageState };
 
-    /// The configuration. It takes no memory.
+    /// The configuration.
     fn config(&self) -> &Config
         ensures { result.now ≡ (state self.now).config };
 
-    /// The greatest count of a round in a message or a node, and 0 if there is none. It takes no memory.
+    /// The greatest count of a round in a message or a node, and 0 if there is none.
     fn top_count(&self) -> u32
         ensures { result ≡ top_count (state self.now).config (state self.now).run };
 
-    /// The number of messages that were sent. It takes no memory.
+    /// The number of messages that were sent.
     fn messages(&self) -> u64
         ensures { result ≡ length (messages (state self.now).run) };
 
-    /// The kind of message k, from 0, if so many were sent. It takes no memory. The run stays, and so do the events
-    /// of each node, and that a step can be made.
+    /// The kind of message k, numbered from 0, or `None` if there is no such message. The
+    /// configuration, the run and the events of each listed node stay as they were. A stage that
+    /// was ready stays ready.
     fn kind<W: Wait>(&mut self, rt: &W, k: u64) -> Option<MsgKind>
         ensures kind { result ≡ option_map kind_of (slice_get (messages (state self.old).run) k) }
         ensures config { (state self.new).config ≡ (state self.old).config }
@@ -56,11 +58,14 @@ pub trait Stage {
         ensures nodes { NodesGo Anyone (state self.old).nodes (state self.new).nodes }
         ensures ready { (state self.old).is_ready → (state self.new).is_ready };
 
-    /// An event that fits happens: one entry is added, and the answer is the number of messages after it. All nodes
-    /// but that of the event keep their events. After a refusal the run is as before, each node keeps its events, and
-    /// perhaps no further step can be made. A disk's fault and a
-    /// full log come only where the count of faults rose, and a full log tells numbers that are too great
-    /// for the event.
+    /// Executes an event that fits and is not a crash. One entry is added to the run, and the
+    /// result is the number of messages after it. All listed nodes but that of the event keep their
+    /// events. After an error the run, the configuration and the events of each listed node are as
+    /// before, but the stage may no longer be ready.
+    ///
+    /// `NoMemory` means that memory ran out. `Disk` and `Full` are returned only if the count of
+    /// faults has risen or is 2^64 - 1. `Disk` is a fault of the disk of a listed node, and the
+    /// numbers of `Full` are too great for the event.
     fn step<W: Wait>(&mut self, rt: &W, event: Event) -> Result<u64, StageFault>
         requires ready { (state self.old).is_ready }
         requires room { length (state self.old).run < 2 ^ 31 }

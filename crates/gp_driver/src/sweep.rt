@@ -28,7 +28,8 @@ pub fn is_kind<S: Stage, W: Wait>(rt: &W, stage: &mut S, kind: MsgKind, k: u64) 
     }
 }
 
-/// A node takes the messages of a kind from `start` to before `end`. The answer is how many it took.
+/// A node takes the messages of a kind with numbers from `start` up to, but not including, `end`.
+/// Returns how many it took.
 pub fn take_all<S: Stage, W: Wait>(
     rt: &W,
     stage: &mut S,
@@ -68,7 +69,7 @@ pub enum Role {
 }
 
 impl Role {
-    /// A node of the role.
+    /// The node of the role with this number.
     pub fn node(self, number: u32) -> Node
         ensures { result ≡ node_of self number }
     {
@@ -80,8 +81,8 @@ impl Role {
     }
 }
 
-/// The first nodes of a role, one after another, take the messages of a kind that were sent from `start`
-/// on. The answer is how many they took in all.
+/// The first `count` nodes of a role, one after another, take the messages of a kind that were sent
+/// from number `start` on. Returns how many messages they took in total.
 pub fn sweep<S: Stage, W: Wait>(
     rt: &W,
     stage: &mut S,
@@ -108,7 +109,7 @@ pub fn sweep<S: Stage, W: Wait>(
     Ok(taken)
 }
 
-/// One event happens. The answer is 1.
+/// Executes one event. Returns 1, the number of events.
 pub fn make<S: Stage, W: Wait>(rt: &W, stage: &mut S, event: Event) -> Result<u64, StageFault>
     requires ready { (S.state stage.old).is_ready }
     requires room { length (S.state stage.old).run < 2 ^ 31 }
@@ -125,7 +126,8 @@ pub fn make<S: Stage, W: Wait>(rt: &W, stage: &mut S, event: Event) -> Result<u6
     }
 }
 
-/// The first nodes of a role, one after another, take message k. The answer is how many nodes took it.
+/// The first `count` nodes of a role, one after another, take message k. Returns how many nodes
+/// took it.
 pub fn show<S: Stage, W: Wait>(
     rt: &W,
     stage: &mut S,
@@ -151,7 +153,8 @@ pub fn show<S: Stage, W: Wait>(
     Ok(taken)
 }
 
-/// The number of the first message of a kind that was sent from `start` on.
+/// The number of the first message of a kind that was sent from number `start` on, or `None` if
+/// there is none.
 pub fn first_since<S: Stage, W: Wait>(
     rt: &W,
     stage: &mut S,

@@ -7,7 +7,7 @@ use gp_round::Config;
 use gp_world::World;
 use std::sync::Wait;
 
-/// A world is always ready, and no disk of it fails and no log is full. It waits for nobody.
+/// A world is always ready. It has no disks and no logs, so its steps fail only if memory runs out.
 impl Stage for World {
     ghost state = { stage_of };
 

@@ -5,7 +5,7 @@ use gp_history::Hist;
 use gp_round::Config;
 use gp_world::World;
 
-/// Whether every learner holds so many commands.
+/// Whether every learner holds this many commands.
 pub fn all_hold(world: &World, commands: usize) -> bool {
     for learner in 0..world.config().learners() {
         if world.learned(learner).len() != commands {

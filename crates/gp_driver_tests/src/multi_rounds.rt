@@ -38,7 +38,7 @@ fn puts(alloc: Global, count: u64) -> Result<Vec<Draft>, Fail>
     Ok(drafts)
 }
 
-// Whether driving takes so many events and messages, and every learner then holds all commands.
+// Whether driving takes this many events and messages, and every learner then holds all commands.
 #[tactic(auto, using(crate::proofs::Small::few_driven))]
 fn drives(rt: &impl Wait, alloc: Global, row: Row) -> Result<bool, Fail> {
     let (acceptors, learners, count, events, messages) = row;

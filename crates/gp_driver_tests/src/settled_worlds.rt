@@ -95,7 +95,8 @@ fn few(number: u64) -> Result<u64, Large>
     }
 }
 
-// Whether settling after these steps takes so many events, after which every learner holds so many commands.
+// Whether settling after these steps takes this many events, after which every learner holds this
+// many commands.
 #[tactic(auto, using(crate::proofs::Small::few_rounds, crate::proofs::Small::few_settled))]
 fn settles(rt: &impl Wait, alloc: Global, steps: &[Step], row: Row) -> Result<bool, Fail> {
     let (acceptors, coordinators, learners, events, commands) = row;

@@ -65,7 +65,7 @@ fn event(alloc: Global, step: Step) -> Result<Event, Fail> {
     })
 }
 
-/// The steps happen, one after another. The answer is whether they are few.
+/// Executes the steps, one after another. Returns whether they are few.
 pub fn all_happen(world: &mut World, alloc: Global, steps: &[Step]) -> Result<bool, Fail> {
     for step in steps {
         if world.records().len() > MANY {

@@ -3,31 +3,31 @@ use Rattle.std.specs.Prelude.{◌≡◌, ◌⊎◌, ℕ, ◌+◌, ◌-◌, ◌�
 use Rattle.gp_edge.specs.declared.refusal.Refused.{Refused}
 use Rattle.gp_edge.specs.Faults.{Rose, HasFailed}
 
--- if the object reveals its content, that has P
+-- if the object reveals its content, P holds of it
 abbrev pub IfRevealed : Option (List ℕ) → (List ℕ → Type 0) → Type 0
 IfRevealed None P = Unit {0}
 IfRevealed (Some s) P = P s
 
--- it still reveals its content, or still does not
+-- it reveals its content before and after, or neither time
 abbrev pub RevealsAlike : Option (List ℕ) → Option (List ℕ) → Type 0
 RevealsAlike None None = Unit {0}
 RevealsAlike (Some s) (Some t) = Unit {0}
 RevealsAlike (Some s) None = ⊥
 RevealsAlike None (Some t) = ⊥
 
--- at least so long, by zeros behind the end
+-- the list, made at least `len` long by zeros at its end
 abbrev pub padded : ℕ → List ℕ → List ℕ
 padded len old = old ++ replicate (len - length old) 0
 
--- the bytes with others at this place; what lies between an end before it and the place is zero
+-- the bytes after a write at this place; if the end is before the place, the bytes between are zero
 abbrev pub put : ℕ → List ℕ → List ℕ → List ℕ
 put at bytes old = take at (padded at old) ++ bytes ++ drop (at + length bytes) old
 
--- what holds of what a read gives before and after a call, if it is revealed
+-- if the content before and after a call is revealed, P holds of both
 abbrev pub IfBothRevealed : (List ℕ → List ℕ → Type 0) → Option (List ℕ) → Option (List ℕ) → Type 0
 IfBothRevealed P old new = IfRevealed old (λ s. IfRevealed new (λ t. P s t))
 
--- n bytes from this place on stand at the front of the buffer, as many as there are and as it has room for
+-- n bytes from this place on are at the front of the buffer, as many as there are and as it has room for
 pub record ReadsAt (s : List ℕ) (at n : ℕ) (before after : List ℕ) : Type 0 where
   pub count : n ≡ min (length before) (length s - at)
   pub front : take n after ≡ take n (drop at s)
@@ -39,7 +39,7 @@ pub record Torn (at n : ℕ) (old new : List ℕ) : Type 0 where
   pub no_shorter : length old ≤ length new
   pub no_longer : length new ≤ max (length old) (at + n)
 
--- after a cut that a crash cuts short: some length between
+-- after a cut that a crash cuts short: a length between the old one and the new one
 pub record Shortened (n : ℕ) (old new : List ℕ) : Type 0 where
   pub no_shorter : min n (length old) ≤ length new
   pub front : take (length new) old ≡ new
@@ -56,21 +56,21 @@ NoMore old new = (c : List ℕ) → new c → old c
 abbrev pub Only : List ℕ → (List ℕ → Type 0) → Type 0
 Only s image = (c : List ℕ) → image c → c ≡ s
 
--- time goes on: a crash since t might have left what it might have left before, or what it may leave now
+-- time goes on: a crash since t might have left what it might have left before the call, or what it may leave now
 pub record Elapses (before now : ℕ) (past since : ℕ → List ℕ → Type 0) (image : List ℕ → Type 0) : Type 0 where
   pub later : before ≤ now
   pub nothing_else : (t : ℕ) (c : List ℕ) → t ≤ before → since t c → past t c ⊎ image c
   pub keeps : (t : ℕ) (c : List ℕ) → t ≤ before → past t c → since t c
 
--- the count of faults does not fall, and it rose where the call failed and stays where it did not
+-- the count of faults does not decrease; it increased if the call failed, and is unchanged otherwise
 pub record Counts {T : Type 0} (before now : ℕ) (result : Result T Refused) : Type 0 where
   pub never_falls : before ≤ now
   pub failed : HasFailed result → Rose before now
   pub steady : ¬ HasFailed result → now ≡ before
 
--- a crash at any moment since `old` leaves what has P
+-- a crash at any moment since `old` leaves bytes with P
 pub record LeavesOnly {D : Type 0} (moment : D → ℕ) (since : D → ℕ → List ℕ → Type 0) (old new : D) (P : List ℕ → Type 0) : Type 0 where
   pub later : moment old ≤ moment new
   pub each : (c : List ℕ) → since new (moment old) c → P c
-  -- for a run that began earlier
+  -- for an earlier moment: what it might have left by then, or bytes with P
   pub before : (t : ℕ) (c : List ℕ) → t ≤ moment old → since new t c → since old t c ⊎ P c

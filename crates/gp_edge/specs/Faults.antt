@@ -7,11 +7,11 @@ use Rattle.gp_edge.specs.declared.refusal.Refused.TheVariants.{Failed, NoMemory}
 abbrev pub one_more : ℕ → ℕ
 one_more n = min (n + 1) (2 ^ 64 - 1)
 
--- the count has risen, or stands at its last value
+-- the count has increased, or is at its last value
 abbrev pub Rose : ℕ → ℕ → Type 0
 Rose before now = one_more before ≤ now
 
--- the call was refused, and not for want of memory
+-- the call was refused, and not because memory ran out
 abbrev pub HasFailed : {T : Type 0} → Result T Refused → Type 0
 HasFailed (Ok x) = ⊥
 HasFailed (Err Failed) = Unit {0}

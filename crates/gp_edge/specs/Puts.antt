@@ -10,7 +10,7 @@ length_padded at old = let sum = length-append old (replicate (at - length old) 
 length_front : (at : ℕ) (old : List ℕ) → length (take at (padded at old)) ≡ at
 length_front at old = length-take-le at (padded at old) (length_padded at old)
 
--- what stands before it stays
+-- the bytes before it are unchanged
 pub put_front : (n at : ℕ) (bytes old : List ℕ) → n ≤ at → n ≤ length old → take n (put at bytes old) ≡ take n old
 put_front n at bytes old before inside =
     let front = take at (padded at old) in
@@ -21,14 +21,14 @@ put_front n at bytes old before inside =
     ∙ take-take n at (padded at old) before
     ∙ take-append-le n old (replicate (at - length old) 0) inside
 
--- there stand its bytes
+-- its bytes are at its place
 pub put_there : (at : ℕ) (bytes old : List ℕ) → drop at (put at bytes old) ≡ bytes ++ drop (at + length bytes) old
 put_there at bytes old =
     let front = take at (padded at old) in
     let rest = drop (at + length bytes) old in
     ap (drop at) (append_assoc front bytes rest) ∙ drop_at front (bytes ++ rest) at (length_front at old)
 
--- what stands behind it stays
+-- the bytes after it are unchanged
 pub put_behind : (m at : ℕ) (bytes old : List ℕ) → at + length bytes ≤ m → drop m (put at bytes old) ≡ drop m old
 put_behind m at bytes old behind =
     let p = at + length bytes in
@@ -43,7 +43,7 @@ put_behind m at bytes old behind =
     ∙ drop-drop (m - p) p old
     ∙ ap (λ n. drop n old) m_is
 
--- a write that was made is one of those that a crash may leave of it
+-- a crash may leave the whole write
 pub torn_whole : (at : ℕ) (bytes old : List ℕ) → Torn at (length bytes) old (put at bytes old)
 torn_whole at bytes old =
     let front = length_front at old in
@@ -57,7 +57,7 @@ torn_whole at bytes old =
       no_longer = omega (arith, front, first, sum, rest);
     }
 
--- and so is one of which nothing was made
+-- a crash may leave nothing of the write
 pub torn_none : (at n : ℕ) (old : List ℕ) → Torn at n old old
 torn_none at n old = record { before = take_min at old; after = refl; no_shorter = omega arith; no_longer = omega arith }
 

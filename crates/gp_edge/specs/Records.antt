@@ -1,4 +1,4 @@
--- What the calls of a disk in memory leave. The newest call stands first.
+-- What the calls of a disk in memory leave. The newest call is first.
 use Rattle.std.specs.Prelude.{◌≡◌, ℕ, ◌+◌, ◌≤◌, cond, List, [], ◌∷◌, length, take, drop}
 use Rattle.gp_edge.specs.declared.call.Call.{Call}
 use Rattle.gp_edge.specs.declared.call.Call.TheVariants as call
@@ -12,7 +12,7 @@ pub record DiskRecord : Type 0 where
   pub opening : List ℕ
   pub calls : List Call
 
--- what reads give
+-- what reads return
 abbrev pub content_after : List ℕ → List Call → List ℕ
 content_after start [] = start
 content_after start (call.Write at bytes ∷ before) = put at bytes (content_after start before)
@@ -33,7 +33,7 @@ LeftSince start calls t c = (k : ℕ) × (k + t ≤ length calls) × IsImage sta
 abbrev pub content_of : DiskRecord → List ℕ
 content_of d = content_after d.opening d.calls
 
--- one call more
+-- after one more call
 abbrev pub noted : Call → DiskRecord → DiskRecord
 noted call d = record { opening = d.opening; calls = call ∷ d.calls }
 
@@ -45,7 +45,7 @@ Images d c = IsImage d.opening d.calls c
 abbrev pub GoesOn : DiskRecord → DiskRecord → Type 0
 GoesOn old new = Elapses (length old.calls) (length new.calls) (LeftSince old.opening old.calls) (LeftSince new.opening new.calls) (Images new)
 
--- a disk in memory of which some calls fail
+-- a disk in memory with chosen calls that fail
 pub record MemDiskState : Type 0 where
   pub disk : DiskRecord
   pub calls : Calls
@@ -56,7 +56,7 @@ disk_with bytes = record { opening = bytes; calls = [] }
 abbrev pub mem_disk_of : List ℕ → List ℕ → MemDiskState
 mem_disk_of bytes failing = record { disk = disk_with bytes; calls = scheduled failing }
 
--- after one call that changed no byte and left no trace in the record
+-- after one call that changed no byte and is not in the record
 abbrev pub asked : MemDiskState → MemDiskState
 asked d = record { disk = d.disk; calls = called d.calls }
 

@@ -1,7 +1,7 @@
 -- What is appended to a sink.
 use Rattle.std.specs.Prelude.{◌≡◌, ℕ, ◌<◌, List, ◌++◌, length, take, Option, Some, None, Result, Ok, Err}
 
--- the first bytes of the piece, as many as the call answers, and none where it refuses
+-- as many of the first bytes of the piece as the call returns were appended, and none if it was refused
 abbrev pub AppendsFirst : {E : Type 0} → Option (List ℕ) → Option (List ℕ) → List ℕ → Result ℕ E → Type 0
 AppendsFirst None new piece result = new ≡ None
 AppendsFirst (Some bytes) new piece (Ok n) = new ≡ Some (bytes ++ take n piece)

@@ -11,7 +11,7 @@ use gp_memory::NoMemory;
 use std::alloc::Global;
 use std::marker::Model;
 
-/// A source in memory that never fails. A contract sees the bytes that are left.
+/// A source in memory that never fails. A contract sees the remaining bytes.
 #[derive(Drop, Debug)]
 pub struct CalmSource {
     unread: Unread,
@@ -41,7 +41,7 @@ impl Source for CalmSource {
 
     ghost faults = { λ s. 0 };
 
-    /// Fills the piece, or moves all bytes that are left if there are fewer.
+    /// Fills the piece, or moves all remaining bytes if there are fewer.
     fn read(&mut self, into: &mut [u8]) -> Result<usize, Failed>
         ensures count { result ≡ Ok (min (length into.old) (length self.old)) }
         ensures moved { into.new ≡ overlaid (take (length into.old) self.old) into.old }
@@ -51,7 +51,8 @@ impl Source for CalmSource {
     }
 }
 
-/// A sink in memory that never fails and takes whole pieces. A contract sees what was written.
+/// A sink in memory that never fails. It takes whole pieces unless memory runs out. A contract sees
+/// what was written.
 #[derive(Drop, Debug)]
 pub struct CalmSink {
     bytes: Vec<u8>,
@@ -66,7 +67,7 @@ impl Model for CalmSink {
 }
 
 impl CalmSink {
-    /// A sink to which nothing was written. It never answers `NoMemory`.
+    /// A sink to which nothing was written. It never returns `NoMemory`.
     pub fn new(alloc: Global) -> Result<CalmSink, NoMemory>
         ensures { result ≡ Ok [] }
     {
@@ -75,7 +76,7 @@ impl CalmSink {
         })
     }
 
-    /// What was written. It takes no memory.
+    /// What was written.
     pub fn written(&self) -> &[u8]
         ensures { result.now ≡ self.now }
     {
@@ -88,7 +89,7 @@ impl Sink for CalmSink {
 
     ghost faults = { λ s. 0 };
 
-    /// Appends the whole piece, unless memory runs out.
+    /// Appends the whole piece. If memory runs out (`NoMemory`), nothing is appended.
     fn write(&mut self, from: &[u8]) -> Result<usize, Refused>
         ensures whole { IfOk result (λ n. n ≡ length from.now) }
         ensures refused { IfErr result (λ e. e ≡ refused.NoMemory) }

@@ -1,4 +1,4 @@
-//! Disks in memory: one that never fails, and one of which chosen calls fail.
+//! Disks in memory: one that never fails, and one with chosen calls that fail.
 ghost use Rattle.std.specs.Prelude.{◌≡◌, ◌≤◌, ◌-◌, true, false, IfOk, IfErr, OnOk, OnErr, Ok, Some, length, min};
 ghost use Rattle.gp_edge.specs.declared.call.Call.TheVariants as call;
 ghost use Rattle.gp_edge.specs.declared.refusal.Refused.TheVariants as refused;
@@ -15,10 +15,10 @@ use gp_memory::NoMemory;
 use std::alloc::Global;
 use std::marker::Model;
 
-/// A disk in memory that never fails; a call is refused only if memory runs out.
+/// A disk in memory that never fails. A call is refused only if memory runs out.
 ///
-/// A contract sees the bytes that it was made with and the record of all calls since that changed
-/// what it holds or what a crash may leave. What a crash at any moment may leave follows from these.
+/// A contract sees the bytes with which it was made, and a record of the later calls that changed
+/// its bytes or what a crash may leave. What a crash at any moment may leave follows from these.
 #[derive(Drop, Debug)]
 pub struct CalmDisk {
     medium: Medium,
@@ -42,7 +42,7 @@ impl CalmDisk {
         })
     }
 
-    /// What reads give. It takes no memory.
+    /// What reads return.
     pub fn content(&self) -> &[u8]
         ensures { result.now ≡ content_of self.now }
     {
@@ -67,7 +67,7 @@ impl Disk for CalmDisk {
 
     ghost shows = { λ d s e. shows_it d.opening s d.calls e };
 
-    /// It always answers.
+    /// Never fails, and never returns `NoMemory`.
     fn len(&mut self) -> Result<u64, Refused>
         ensures len { result ≡ Ok (length (content_of self.old)) }
         ensures unchanged { self.new ≡ self.old }
@@ -75,7 +75,7 @@ impl Disk for CalmDisk {
         Ok(self.medium.len())
     }
 
-    /// It always answers.
+    /// Never fails, and never returns `NoMemory`.
     fn read_at(&mut self, at: u64, into: &mut [u8]) -> Result<usize, Refused>
         ensures count { result ≡ Ok (min (length into.old) (length (content_of self.old) - at)) }
         ensures bytes { IfOk result (λ n. ReadsAt (content_of self.old) at n into.old into.new) }
@@ -84,7 +84,7 @@ impl Disk for CalmDisk {
         Ok(self.medium.read_at(at, into))
     }
 
-    /// It writes all bytes, or nothing if memory runs out.
+    /// Writes all bytes, or nothing if memory runs out.
     fn write_at(&mut self, at: u64, from: &[u8]) -> Result<(), Refused>
         ensures written { OnOk result (self.new ≡ noted (call.Write at from.now) self.old) }
         ensures refused { IfErr result (λ e. e ≡ refused.NoMemory) }
@@ -94,7 +94,7 @@ impl Disk for CalmDisk {
         Ok(self.medium.write_at(at, from)?)
     }
 
-    /// It cuts, or changes nothing if memory runs out.
+    /// Cuts, or changes nothing if memory runs out.
     fn cut(&mut self, len: u64) -> Result<(), Refused>
         ensures cut { OnOk result (self.new ≡ noted (call.Cut len) self.old) }
         ensures refused { IfErr result (λ e. e ≡ refused.NoMemory) }
@@ -104,7 +104,7 @@ impl Disk for CalmDisk {
         Ok(self.medium.cut(len)?)
     }
 
-    /// It syncs, or changes nothing if memory runs out.
+    /// Syncs, or changes nothing if memory runs out.
     fn sync(&mut self) -> Result<(), Refused>
         ensures synced { OnOk result (self.new ≡ noted call.Sync self.old) }
         ensures refused { IfErr result (λ e. e ≡ refused.NoMemory) }
@@ -116,10 +116,10 @@ impl Disk for CalmDisk {
     }
 }
 
-/// A disk in memory of which chosen calls fail. A call that fails changes no byte, and is not in the
-/// record of the calls.
+/// A disk in memory with chosen calls that fail. A call that fails changes no byte, and is not in
+/// the record of calls.
 ///
-/// A contract sees what it sees of a `CalmDisk`, and the calls that are to fail.
+/// A contract sees the same as of a `CalmDisk`, and which calls are to fail.
 #[derive(Drop, Debug)]
 pub struct MemDisk {
     medium: Medium,
@@ -135,8 +135,8 @@ impl Model for MemDisk {
 }
 
 impl MemDisk {
-    /// A disk with these bytes, all of them synced. The calls whose numbers, from 0, are in `failing`
-    /// fail. Calls of all five kinds are counted.
+    /// A disk with these bytes, all of them synced. The calls with the numbers in `failing` fail.
+    /// Calls of all five kinds are counted together, from 0.
     pub fn new(alloc: Global, bytes: &[u8], failing: &[u64]) -> Result<MemDisk, NoMemory>
         ensures { IfOk result (λ disk. disk ≡ mem_disk_of bytes.now failing.now) }
     {
@@ -146,7 +146,7 @@ impl MemDisk {
         })
     }
 
-    /// What reads give. It takes no memory.
+    /// What reads return.
     pub fn content(&self) -> &[u8]
         ensures { result.now ≡ content_of self.now.disk }
     {
@@ -171,7 +171,7 @@ impl Disk for MemDisk {
 
     ghost shows = { λ d s e. shows_it d.disk.opening s d.disk.calls e };
 
-    /// At a call that is to fail it fails. At any other it answers.
+    /// Fails exactly if this call is to fail.
     fn len(&mut self) -> Result<u64, Refused>
         ensures len { IfOk result (λ n. n ≡ length (content_of self.old.disk)) }
         ensures accepted { OnOk result (is_to_fail self.old.calls ≡ false) }
@@ -185,7 +185,7 @@ impl Disk for MemDisk {
         Ok(self.medium.len())
     }
 
-    /// At a call that is to fail it fails. At any other it answers.
+    /// Fails exactly if this call is to fail.
     fn read_at(&mut self, at: u64, into: &mut [u8]) -> Result<usize, Refused>
         ensures bytes { IfOk result (λ n. ReadsAt (content_of self.old.disk) at n into.old into.new) }
         ensures within { IfOk result (λ n. n ≤ length into.old) }
@@ -200,8 +200,8 @@ impl Disk for MemDisk {
         Ok(self.medium.read_at(at, into))
     }
 
-    /// At a call that is to fail it fails, and at any other it answers `NoMemory` if memory runs out.
-    /// Both errors change no byte.
+    /// Returns `Failed` if this call is to fail. Any other call returns `NoMemory` if memory runs
+    /// out. After both errors the bytes are unchanged.
     fn write_at(&mut self, at: u64, from: &[u8]) -> Result<(), Refused>
         ensures accepted { OnOk result (is_to_fail self.old.calls ≡ false) }
         ensures refused { IfErr result (λ e. e ≡ disk_refusal self.old) }
@@ -216,8 +216,8 @@ impl Disk for MemDisk {
         Ok(self.medium.write_at(at, from)?)
     }
 
-    /// At a call that is to fail it fails, and at any other it answers `NoMemory` if memory runs out.
-    /// Both errors change no byte.
+    /// Returns `Failed` if this call is to fail. Any other call returns `NoMemory` if memory runs
+    /// out. After both errors the bytes are unchanged.
     fn cut(&mut self, len: u64) -> Result<(), Refused>
         ensures accepted { OnOk result (is_to_fail self.old.calls ≡ false) }
         ensures refused { IfErr result (λ e. e ≡ disk_refusal self.old) }
@@ -232,8 +232,8 @@ impl Disk for MemDisk {
         Ok(self.medium.cut(len)?)
     }
 
-    /// At a call that is to fail it fails, and at any other it answers `NoMemory` if memory runs out.
-    /// After both errors a crash may leave what it might have left before.
+    /// Returns `Failed` if this call is to fail. Any other call returns `NoMemory` if memory runs
+    /// out. After both errors a crash may leave the same as before.
     fn sync(&mut self) -> Result<(), Refused>
         ensures accepted { OnOk result (is_to_fail self.old.calls ≡ false) }
         ensures refused { IfErr result (λ e. e ≡ disk_refusal self.old) }

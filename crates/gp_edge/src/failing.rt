@@ -1,4 +1,4 @@
-//! A source and a sink in memory, of which some calls fail.
+//! A source and a sink in memory with chosen calls that fail.
 ghost use Rattle.std.specs.Prelude.{◌≡◌, ◌≤◌, IfOk, IfErr, OnOk, Some, false, length, is_ok, is_err};
 ghost use Rattle.gp_edge.specs.Calls.{is_to_fail};
 ghost use Rattle.gp_edge.specs.Memory.{source_of, given, after_read, sink_of, taken, after_write, refusal};
@@ -14,9 +14,10 @@ use gp_memory::NoMemory;
 use std::alloc::Global;
 use std::marker::Model;
 
-/// A source in memory of which chosen calls fail. A call moves few bytes.
+/// A source in memory with chosen calls that fail, and with a limit on the bytes that one call
+/// moves.
 ///
-/// A contract sees the bytes that are left, the most bytes that a call moves, and the calls.
+/// A contract sees the remaining bytes, that limit, and the calls.
 #[derive(Drop, Debug)]
 pub struct MemSource {
     unread: Unread,
@@ -36,8 +37,8 @@ impl Model for MemSource {
 }
 
 impl MemSource {
-    /// A source with these bytes. A call moves at most `piece` bytes, and the calls whose numbers, from 0,
-    /// are in `failing` fail.
+    /// A source with these bytes. A call moves at most `piece` bytes, which is at least 1. The
+    /// calls with the numbers in `failing`, counted from 0, fail.
     pub fn new(
         alloc: Global,
         bytes: &[u8],
@@ -60,8 +61,8 @@ impl Source for MemSource {
 
     ghost faults = { λ s. s.calls.faults };
 
-    /// Moves as many of the next bytes as the piece and one call have room for. At a call that is to fail
-    /// it fails, and no byte is moved.
+    /// Moves as many of the next bytes as the piece and one call have room for. A call that is to
+    /// fail returns `Failed` and moves no byte.
     fn read(&mut self, into: &mut [u8]) -> Result<usize, Failed>
         ensures failed { is_err result ≡ is_to_fail self.old.calls }
         ensures count { IfOk result (λ n. n ≡ length (given self.old (length into.old))) }
@@ -78,9 +79,9 @@ impl Source for MemSource {
     }
 }
 
-/// A sink in memory of which chosen calls fail. A call takes few bytes.
+/// A sink in memory with chosen calls that fail, and with a limit on the bytes that one call takes.
 ///
-/// A contract sees what was written, the most bytes that a call takes, and the calls.
+/// A contract sees what was written, that limit, and the calls.
 #[derive(Drop, Debug)]
 pub struct MemSink {
     bytes: Vec<u8>,
@@ -100,8 +101,8 @@ impl Model for MemSink {
 }
 
 impl MemSink {
-    /// A sink to which nothing was written. A call takes at most `piece` bytes, and the calls whose numbers,
-    /// from 0, are in `failing` fail.
+    /// A sink to which nothing was written. A call takes at most `piece` bytes, which is at least
+    /// 1. The calls with the numbers in `failing`, counted from 0, fail.
     pub fn new(alloc: Global, piece: usize, failing: &[u64]) -> Result<MemSink, NoMemory>
         requires { 1 ≤ piece }
         ensures { IfOk result (λ sink. sink ≡ sink_of piece failing.now) }
@@ -113,7 +114,7 @@ impl MemSink {
         })
     }
 
-    /// What was written. It takes no memory.
+    /// What was written.
     pub fn written(&self) -> &[u8]
         ensures { result.now ≡ self.now.written }
     {
@@ -126,8 +127,9 @@ impl Sink for MemSink {
 
     ghost faults = { λ s. s.calls.faults };
 
-    /// Appends as many of the first bytes as one call takes. At a call that is to fail it fails, and at any
-    /// other it answers `NoMemory` if memory runs out. Both errors append nothing, and both calls count.
+    /// Appends as many of the first bytes as one call takes. Returns `Failed` if this call is to
+    /// fail. Any other call returns `NoMemory` if memory runs out. After both errors nothing was
+    /// appended, and the call is counted.
     fn write(&mut self, from: &[u8]) -> Result<usize, Refused>
         ensures accepted { OnOk result (is_to_fail self.old.calls ≡ false) }
         ensures refused { IfErr result (λ e. e ≡ refusal self.old) }

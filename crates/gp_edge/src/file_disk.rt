@@ -1,4 +1,4 @@
-//! A disk over a file of the system. This is the edge that is trusted.
+//! A disk over a file of the operating system. What the file holds is trusted and not proved.
 ghost use Rattle.std.specs.Prelude.{◌≡◌, ◌≤◌, None, Ok, length, IfOk};
 ghost use Rattle.gp_edge.specs.Disks.{Counts};
 
@@ -11,15 +11,16 @@ use std::os::unix::fs::FileExt;
 use std::path::Path;
 use std::rt::Files;
 
-/// A disk over one file in a folder. The folder and the file are made, if they are absent, at the first
-/// call, and then the folder and the one above it are synced, so that a crash does not lose the file
-/// itself.
+/// A disk over one file in a folder. The first call makes the folder and the file if they are
+/// absent. It then syncs the folder and the one above it, so that a crash does not lose the file
+/// itself. No clause says so.
 ///
-/// A contract sees how many calls have failed, and nothing of the content: no clause says what the file
-/// holds or what a crash leaves of it. That it keeps the rules of a disk is trusted, and tested on a real
-/// file. It rests on the system for this: a read gives what was written last; a write changes no byte
-/// outside its range but zeros between an old end and it; after `fsync` of a file and of the folders
-/// above it a crash leaves what reads give; and nothing else writes to the file.
+/// A contract sees how many calls have failed, and nothing of the content: no clause says what the
+/// file holds or what a crash leaves of it. That it keeps the rules of a disk is trusted, and
+/// tested on a real file. It relies on the operating system for this: a read returns what was
+/// written last; a write changes no byte outside its range, except that the bytes between an old
+/// end and the range become zero; after `fsync` of a file and of the folders above it a crash
+/// leaves what reads return; and nothing else writes to the file.
 #[derive(Drop)]
 pub struct FileDisk<R: Files + Drop> {
     files: R,
@@ -38,8 +39,8 @@ impl<R: Files + Drop> Model for FileDisk<R> {
 }
 
 impl<R: Files + Drop> FileDisk<R> {
-    /// The disk over the file at this path, which lies in this folder. It opens nothing, and no call of it
-    /// has failed.
+    /// The disk over the file at `path`, which is in `folder`. No call of it has failed. A test
+    /// shows that it opens nothing before its first call.
     pub fn new(files: R, folder: String, path: String) -> FileDisk<R>
         ensures { result ≡ 0 }
     {
@@ -60,7 +61,7 @@ impl<R: Files + Drop> FileDisk<R> {
     }
 }
 
-// What the system answered. A failure is counted, up to 2^64 - 1.
+// The result of a call of the system. A failure is counted, up to 2^64 - 1.
 fn counted<T: Drop>(faults: &mut u64, answer: io::Result<T>) -> Result<T, Refused>
     ensures count { Counts faults.old faults.new result }
     ensures answer { IfOk result (λ x. answer ≡ Ok x) }
@@ -74,7 +75,7 @@ fn counted<T: Drop>(faults: &mut u64, answer: io::Result<T>) -> Result<T, Refuse
     }
 }
 
-// The folder that a folder lies in.
+// The folder that contains a folder.
 fn above(folder: &str) -> &str {
     match Path::new(folder).parent() {
         Some(parent) if parent.as_str() != "" => parent.as_str(),
@@ -118,7 +119,7 @@ fn length_of<F: OpenFile>(file: &F) -> io::Result<u64> {
     Ok(file.metadata()?.len())
 }
 
-// Fills the piece as far as there are bytes.
+// Fills the piece as far as the file has bytes.
 fn read_from<F: FileExt>(file: &F, at: u64, into: &mut [u8]) -> io::Result<usize>
     ensures { IfOk result (λ n. n ≤ length into.old) }
 {
@@ -133,7 +134,7 @@ fn read_from<F: FileExt>(file: &F, at: u64, into: &mut [u8]) -> io::Result<usize
     Ok(done)
 }
 
-// Leaves the first bytes of a file.
+// Keeps the first `len` bytes of a file.
 fn cut_file<F: OpenFile>(file: &F, len: u64) -> io::Result<()> {
     if file.metadata()?.len() > len {
         file.set_len(len)?;
@@ -147,7 +148,7 @@ where
 {
     ghost content = { λ d. None };
 
-    // Anything may be left.
+    // A crash may leave anything.
     ghost image = { λ d c. Unit {0} };
 
     ghost moment = { λ d. 0 };

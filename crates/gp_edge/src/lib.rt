@@ -1,5 +1,5 @@
-//! The traits of the outside: sources, sinks and disks, in memory and over readers, writers and files;
-//! gates; and whole reads and writes.
+//! Input and output: the traits of sources, sinks and disks, with types in memory and over readers,
+//! writers and files; gates; and reads and writes of whole texts.
 #![tactic(auto)]
 
 mod call;

@@ -1,6 +1,7 @@
-//! A source over any reader and a sink over any writer, as standard input and output. Their contracts say
-//! which bytes go to and from the reader or writer. What these do with them is not claimed, and neither
-//! is how often they are called. Tests show that each call is one call of the reader or writer.
+//! A source over any reader and a sink over any writer, such as standard input and output. Their
+//! contracts say which bytes come from the reader and go to the writer. No clause says what these
+//! do with the bytes, or how often they are called. Tests show that each call is one call of the
+//! reader or writer.
 ghost use Rattle.std.specs.Prelude.{◌≡◌, ◌≤◌, length, None, IfOk, IfErr, OnOk, OnErr};
 ghost use Rattle.std.specs.Io.KnownBytes.{ReadConsumes, WriteAppends};
 ghost use Rattle.gp_edge.specs.declared.refusal.Refused.TheVariants as refused;
@@ -12,8 +13,8 @@ use crate::source::Source;
 use std::io::{Read, Write};
 use std::marker::Model;
 
-/// A source over a reader. A contract sees the bytes that the reader has left, if it reveals them, and how
-/// many reads have failed.
+/// A source over a reader. A contract sees the remaining bytes of the reader, if it reveals them,
+/// and how many reads have failed.
 #[derive(Drop, Debug)]
 pub struct ReadSource<R: Read> {
     reader: R,
@@ -29,7 +30,7 @@ impl<R: Read> Model for ReadSource<R> {
 }
 
 impl<R: Read> ReadSource<R> {
-    /// A source of which no read has failed.
+    /// A source with no failed read.
     pub fn new(reader: R) -> ReadSource<R>
         ensures { result ≡ record { bytes = R.remaining reader; faults = 0 } }
     {
@@ -49,7 +50,8 @@ impl<R: Read> Source for ReadSource<R> {
 
     ghost faults = { λ s. s.faults };
 
-    /// Reads from the reader, and fails if that fails. A test shows that the reader is asked once.
+    /// Reads from the reader. `Failed` means that the read failed, and it is counted. A test shows
+    /// that the reader is called once.
     fn read(&mut self, into: &mut [u8]) -> Result<usize, Failed>
         ensures within { IfOk result (λ n. n ≤ length into.old) }
         ensures bytes { ReadConsumes self.old.bytes self.new.bytes result into.new }
@@ -68,8 +70,9 @@ impl<R: Read> Source for ReadSource<R> {
     }
 }
 
-/// A sink over a writer. The writer should keep no bytes back, since nothing flushes it. A contract sees
-/// the bytes that the writer holds, if it reveals them, and how many writes have failed or taken nothing.
+/// A sink over a writer. Nothing flushes the writer, so it should not buffer. A contract sees the
+/// bytes that the writer holds, if it reveals them, and how many writes have failed or have taken
+/// nothing of a piece that is not empty.
 #[derive(Drop, Debug)]
 pub struct WriteSink<W: Write> {
     writer: W,
@@ -85,15 +88,15 @@ impl<W: Write> Model for WriteSink<W> {
 }
 
 impl<W: Write> WriteSink<W> {
-    /// A sink of which no write has failed.
+    /// A sink with no failed write.
     pub fn new(writer: W) -> WriteSink<W>
         ensures { result ≡ record { bytes = W.contents writer; faults = 0 } }
     {
         WriteSink { writer, faults: 0 }
     }
 
-    /// How many writes of this sink have failed, or have taken nothing of a piece that is not empty, up to
-    /// 2^64 - 1.
+    /// How many writes of this sink have failed, or have taken nothing of a piece that is not
+    /// empty, up to 2^64 - 1.
     pub fn faults(&self) -> u64
         ensures { result ≡ self.now.faults }
     {
@@ -106,8 +109,8 @@ impl<W: Write> Sink for WriteSink<W> {
 
     ghost faults = { λ s. s.faults };
 
-    /// Writes to the writer, and fails if that fails. It never answers `NoMemory`. A test shows that the
-    /// writer is asked once.
+    /// Writes to the writer. `Failed` means that the write failed, and it is counted; `NoMemory` is
+    /// never returned. A test shows that the writer is called once.
     fn write(&mut self, from: &[u8]) -> Result<usize, Refused>
         ensures within { IfOk result (λ n. n ≤ length from.now) }
         ensures bytes { WriteAppends self.old.bytes self.new.bytes result from.now }

@@ -7,13 +7,13 @@ use crate::refusal::Refused;
 use crate::source::Source;
 use std::alloc::Global;
 
-// The most bytes that are asked for at once.
+// The most bytes that one read asks for.
 const PIECE: usize = 4096;
 
-/// Reads the next bytes up to the end of the input, but no more than `limit` of them.
+/// Reads the next bytes up to the end of the input, but at most `limit` of them.
 ///
-/// It answers `Failed` if a read fails, and may answer `NoMemory`. After either the bytes that were read
-/// are lost. If the limit is 0 the source stays as it was.
+/// Returns `Failed` if a read fails, and `NoMemory` if memory runs out. After either the bytes that
+/// were read are lost. If the limit is 0, the source is unchanged.
 pub fn read_up_to<S: Source>(
     alloc: Global,
     source: &mut S,

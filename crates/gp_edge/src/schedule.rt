@@ -6,8 +6,8 @@ use gp_memory::NoMemory;
 use std::alloc::Global;
 use std::marker::Model;
 
-/// The numbers, from 0, of the calls that are to fail, with how many calls there were and how many
-/// of them failed, each up to 2^64 - 1.
+/// The numbers, from 0, of the calls that are to fail; how many calls there were; and how many of
+/// them failed. The two counts end at 2^64 - 1.
 #[derive(Drop, Debug)]
 pub(crate) struct Schedule {
     failing: Vec<u64>,
@@ -24,7 +24,7 @@ impl Model for Schedule {
 }
 
 impl Schedule {
-    /// No calls so far.
+    /// A schedule before the first call.
     pub(crate) fn new(alloc: Global, failing: &[u64]) -> Result<Schedule, NoMemory>
         ensures { IfOk result (λ schedule. schedule ≡ scheduled failing.now) }
     {
@@ -35,7 +35,7 @@ impl Schedule {
         })
     }
 
-    /// Counts a call, and answers whether it is to fail.
+    /// Counts a call, and returns whether it is to fail.
     pub(crate) fn call(&mut self) -> bool
         ensures fails { result ≡ is_to_fail self.old }
         ensures next { self.new ≡ called self.old }

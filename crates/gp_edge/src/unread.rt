@@ -6,7 +6,7 @@ use gp_memory::NoMemory;
 use std::alloc::Global;
 use std::marker::Model;
 
-/// Bytes, of which the first were read. A contract sees those that are left.
+/// Bytes that are read from the front. A contract sees the remaining ones.
 #[derive(Drop, Debug)]
 pub(crate) struct Unread {
     bytes: Vec<u8>,
@@ -33,7 +33,7 @@ impl Unread {
         })
     }
 
-    /// Moves the first bytes, at most `most`, to the front of the piece, and answers how many.
+    /// Moves the first bytes, at most `most`, to the front of the piece, and returns how many.
     pub(crate) fn move_into(&mut self, most: usize, into: &mut [u8]) -> usize
         ensures count { result ≡ min (min most (length into.old)) (length self.old) }
         ensures moved { into.new ≡ overlaid (take (min most (length into.old)) self.old) into.old }

@@ -6,10 +6,10 @@ ghost use Rattle.gp_edge.specs.Writes.{AppendsWhole, AppendsPart};
 use crate::refusal::Refused;
 use crate::sink::Sink;
 
-/// Writes the whole text. If it is empty the sink stays as it was.
+/// Writes the whole text. If it is empty, the sink is unchanged.
 ///
-/// It answers `Failed` if a write fails or takes nothing, and `NoMemory` if the sink answers so. After
-/// either a part of the text was written.
+/// Returns `Failed` if a write fails or takes nothing, and `NoMemory` if the sink returns that.
+/// After either the first bytes of the text may have been written, but not all of them.
 pub fn write_whole<K: Sink>(sink: &mut K, text: &[u8]) -> Result<(), Refused>
     ensures whole { OnOk result (AppendsWhole (K.written sink.old) (K.written sink.new) text.now) }
     ensures refused { OnErr result (AppendsPart (K.written sink.old) (K.written sink.new) text.now) }

@@ -4,7 +4,7 @@ use gp_msg::Node;
 use std::fs;
 use std::test::Fail;
 
-// Whether a read from this place on gives so many bytes, and then these stand in the piece.
+// Whether a read from this place on gives this many bytes, and the piece then has these.
 fn reads<D: Disk>(disk: &mut D, at: u64, count: usize, bytes: &[u8; 4]) -> bool {
     let mut piece = *b"----";
     disk.read_at(at, &mut piece) == Ok(count) && piece == *bytes
@@ -75,9 +75,9 @@ fn a_file_is_made_at_the_first_call_and_is_a_disk(rt: HostRuntime) -> Result<(),
     assert!(rt; is_a_disk(&mut disk));
     assert!(rt; disk.faults() == 0);
     assert!(rt; fs::metadata(&rt, PATH)?.len() == 3);
-    // what was written is there for another one
+    // another disk over the file reads what was written
     assert!(rt; reads(&mut file_disk(rt, PATH)?, 0, 3, b"\0\0a-"));
-    // a folder is no file
+    // a folder is not a file
     let mut folder = file_disk(rt, FOLDER)?;
     assert!(rt; folder.len() == Err(Refused::Failed));
     assert!(rt; folder.sync() == Err(Refused::Failed));

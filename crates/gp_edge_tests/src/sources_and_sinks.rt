@@ -16,7 +16,7 @@ impl Read for Broken {
     }
 }
 
-// A reader and writer that fails at its first call alone. It is at its end, and takes all.
+// A reader and writer that fails only at its first call. It is at its end, and takes all.
 #[derive(Drop)]
 struct Hesitant {
     has_failed: bool,
@@ -46,7 +46,7 @@ impl Write for Hesitant {
     }
 }
 
-// A reader and writer that moves nothing at its first call, and then a byte a call.
+// A reader and writer that moves nothing at its first call, and then one byte at each call.
 #[derive(Drop)]
 struct Slow {
     has_begun: bool,
@@ -78,7 +78,7 @@ impl Write for Slow {
     }
 }
 
-// Whether a read into three bytes answers so, and then these bytes stand there.
+// Whether a read into three bytes has this result, and the three bytes are then these.
 fn reads<S: Source>(source: &mut S, answer: Result<usize, Failed>, bytes: &[u8; 3]) -> bool {
     let mut piece = *b"---";
     source.read(&mut piece) == answer && piece == *bytes

@@ -12,7 +12,7 @@ use std::test::Fail;
 
 const FAILED: Result<&str, Refused> = Err(Refused::Failed);
 
-// Whether reading up to a limit answers so.
+// Whether reading up to a limit has this result.
 fn reads<S: Source>(
     alloc: Global,
     source: &mut S,
@@ -26,7 +26,8 @@ fn reads<S: Source>(
     }
 }
 
-// Whether `abcde` is read so up to a limit, and then so to its end.
+// Whether reading `abcde` up to a limit has the first result, and then reading to its end the
+// second.
 fn reads_twice(
     alloc: Global,
     piece: usize,
@@ -66,7 +67,7 @@ fn each_read_may_fail(rt: HostRuntime) -> Result<(), Fail> {
     Ok(())
 }
 
-// Where the limit is met there is no call for the end.
+// If the limit is reached, there is no call for the end.
 #[test]
 fn no_read_follows_the_limit(rt: HostRuntime) -> Result<(), Fail> {
     let alloc = rt.alloc();
@@ -104,7 +105,7 @@ fn a_broken_reader_is_a_failed_read(rt: HostRuntime) -> Result<(), Fail> {
     Ok(())
 }
 
-// Whether `abcde` is written so, and then this stands in the sink.
+// Whether writing `abcde` has this result, and the sink then holds this.
 fn writes(
     alloc: Global,
     piece: usize,

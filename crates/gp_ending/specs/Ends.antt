@@ -6,7 +6,7 @@ use Rattle.gp_work.specs.declared.job.Job.{Job}
 use Rattle.gp_ending.specs.declared.ends.RunEnd.{RunEnd}
 use Rattle.gp_ending.specs.declared.ends.RunEnd.TheVariants.{Learned, NoMemory, Disk, Full, NotLog, Changed}
 
--- how a run ends in which this fault decides
+-- how a run ends if this fault decides
 abbrev pub end_of : JobFault → RunEnd
 end_of fault.NoMemory = NoMemory
 end_of fault.Disk = Disk
@@ -23,7 +23,7 @@ rank (NotLog at) = 3
 rank Changed = 4
 rank Learned = 5
 
--- the end of lower rank, and of two with one rank the first
+-- the end of lower rank, and the first if both have the same rank
 abbrev pub sooner : RunEnd → Option RunEnd → RunEnd
 sooner first None = first
 sooner first (Some second) = cond (nat_lt (rank second) (rank first)) second first
@@ -31,17 +31,17 @@ sooner first (Some second) = cond (nat_lt (rank second) (rank first)) second fir
 abbrev pub fault_in : {P : Type 0} → Job P → Option JobFault
 fault_in j = j.fault
 
--- with a fault, or none, and what decides of the others
+-- what decides, given one fault or none, and what decides among the others
 abbrev pub with_fault : Option JobFault → Option RunEnd → Option RunEnd
 with_fault None rest = rest
 with_fault (Some f) rest = Some (sooner (end_of f) rest)
 
--- the end that decides, of the faults of these jobs
+-- the end that these faults decide, if there is one
 abbrev pub deciding : List (Option JobFault) → Option RunEnd
 deciding [] = None
 deciding (f ∷ fs) = with_fault f (deciding fs)
 
--- this end is that of a fault. No fault has a lower rank, and none before it has the same one
+-- this end is that of a fault: no fault has a lower rank, and none before it has the same one
 pub record Decides (faults : List (Option JobFault)) (end : RunEnd) : Type 0 where
   pub place : ℕ
   pub fault : JobFault

@@ -1,4 +1,4 @@
--- What the phases of a run leave.
+-- What the work phases of a run leave.
 use Rattle.std.specs.Prelude.{◌≡◌, ◌≤◌, ◌<◌, ℕ, Some, None, List, map, length, slice_index_or, ◌⊎◌}
 use Rattle.gp_round.specs.Counts.{Counts}
 use Rattle.gp_msg.specs.declared.node.Node.{Node}
@@ -18,18 +18,18 @@ use Rattle.gp_ending.specs.declared.ends.RunEnd.{RunEnd}
 use Rattle.gp_ending.specs.declared.ends.RunEnd.TheVariants.{NoMemory}
 use Rattle.gp_ending.specs.Ends.{deciding, fault_in}
 
--- a job that was j at first, however the phases ended, where `faults` counts the faults of a disk
+-- a job that was j at first, however the work phases ended; `faults` is the count of faults of a disk
 abbrev pub IsCarriedJob : {D : Type 0} → (D → ℕ) → WireState PaxosRules → Job (CellState D) → Job (CellState D) → Type 0
 IsCarriedJob faults wire j k = Carried (process_of faults) (λ c w. IsAt c w) (λ c e size need. IsTooGreat c e size need) wire j k
 
--- jobs of nodes that had posted nothing and were to offer commands, and what their one phase left, without a fault
+-- jobs of nodes that had posted nothing and were to offer commands, and what their one work phase left, without a fault
 pub record HaveOffered {D : Type 0} (faults : D → ℕ) (wire : WireState PaxosRules) (offering offered : List (Job (CellState D))) : Type 0 where
   pub offers : (i : ℕ) (d : Job (CellState D)) → i < length offering → IsToOffer (slice_index_or offering i d)
   pub size : length offered ≡ length offering
   pub worked : (i : ℕ) (d : Job (CellState D)) → i < length offering → IsWorkedJob faults wire (slice_index_or offering i d) (slice_index_or offered i d)
   pub unbroken : (i : ℕ) (d : Job (CellState D)) → i < length offered → (slice_index_or offered i d).fault ≡ None
 
--- the phases ended quietly that began with these jobs, in which these rounds were called, once the other nodes had posted so many records. Before the first phase no count of faults had fallen
+-- work phases that began with these jobs ended quietly, and these rounds were called in them, after the other nodes had posted `others` records. Before the first work phase no count of faults had decreased
 pub record RestsAfter {D : Type 0} (answers : Answers) (faults : D → ℕ) (wire : WireState PaxosRules) (at others : ℕ) (calls : List Call) (jobs ended : List (Job (CellState D))) : Type 0 where
   pub starting : List (Job (CellState D))
   pub first : List Call
@@ -38,7 +38,7 @@ pub record RestsAfter {D : Type 0} (answers : Answers) (faults : D → ℕ) (wir
   pub later : (i : ℕ) (d : Job (CellState D)) → i < length jobs → faults_of faults (slice_index_or jobs i d).cell.log ≤ faults_of faults (slice_index_or starting i d).cell.log
   pub phases : AreEnded answers faults wire at others first calls starting ended
 
--- the caller of the rounds of a configuration is that of the leader, whose job stands at a place, and knows what the leader has seen
+-- the caller of the rounds of a configuration is that of the leader, whose job is at place `at`, and knows what the leader has seen
 pub record IsCallerAt {D : Type 0} (us config : Counts) (node : Node) (knows : List Record → Type 0) (at : ℕ) (jobs : List (Job (CellState D))) : Type 0 where
   pub config_is : config ≡ us
   pub node_is : node ≡ leader
@@ -46,7 +46,7 @@ pub record IsCallerAt {D : Type 0} (us config : Counts) (node : Node) (knows : L
   pub job_node : (d : Job (CellState D)) → (slice_index_or jobs at d).cell.node ≡ leader
   pub knows_all : (d : Job (CellState D)) → knows (records (slice_index_or jobs at d).cell.pass)
 
--- the phases ended quietly that began with these jobs, and one phase of the proposers
+-- work phases that began with these jobs, and one work phase of the proposers, ended quietly
 pub record EndsQuietlyFrom {D : Type 0} (answers : Answers) (faults : D → ℕ) (wire : WireState PaxosRules) (offering offered jobs ended : List (Job (CellState D))) : Type 0 where
   pub run : EndedRun D
   pub offering_is : run.offering ≡ offering

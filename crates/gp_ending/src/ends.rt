@@ -14,16 +14,18 @@ pub enum RunEnd {
     NoMemory,
     /// A disk failed.
     Disk,
-    /// The log of a node has no room for its durable part: the size of a log with no other entry and the need of the part,
-    /// in bytes, exceed its limit together.
+    /// The log of a node has no room for its durable part: the size of a log with no other entry
+    /// and the need of the part, both in bytes, together exceed the limit.
     Full { size: u64, need: u64 },
-    /// After a fault of its disk, the bytes of a node's disk break the format of a log at this place.
+    /// After a fault of its disk, the bytes of a node's disk break the format of a log at this
+    /// place.
     NotLog { at: u64 },
-    /// After a fault of its disk, the log of a node has neither the durable part before its last move nor that after it.
+    /// After a fault of its disk, the log of a node has neither the durable part before its last
+    /// move nor the one after it, or it has entries of version 1 of the format.
     Changed,
 }
 
-// How a run ends in which a job has this fault, if no other fault goes first.
+// How a run ends if a job has this fault and no other fault goes first.
 fn end_of(fault: &JobFault) -> RunEnd
     ensures { result ≡ end_of fault.now }
 {
@@ -53,7 +55,7 @@ fn rank(end: RunEnd) -> u8
     }
 }
 
-// The one with the lower rank, and the first of two with one rank.
+// The one with the lower rank, and the first if both have the same rank.
 fn sooner(first: RunEnd, second: Option<RunEnd>) -> RunEnd
     ensures { result ≡ sooner first second }
 {
@@ -63,9 +65,9 @@ fn sooner(first: RunEnd, second: Option<RunEnd>) -> RunEnd
     }
 }
 
-/// How a run ends in which these jobs have faults: out of memory goes before a failed disk, then come a full log, bytes that
-/// are no log, and a log that has changed. Of two faults of one kind that of the first job decides. `None` exactly if no job
-/// has a fault. It takes no memory.
+/// How a run ends if these jobs have faults. Out of memory goes first, then a failed disk, a full
+/// log, bytes that are no log, and a log that has changed. Of two faults of the same kind, that of
+/// the first job decides. `None` exactly if no job has a fault.
 pub(crate) fn deciding<P>(jobs: &[Job<P>]) -> Option<RunEnd>
     ensures { result ≡ deciding (map fault_in jobs.now) }
 {

@@ -5,8 +5,8 @@ ghost use Rattle.gp_work.specs.declared.faults.JobFault.{JobFault};
 ghost use Rattle.gp_ending.specs.declared.ends.RunEnd.{RunEnd};
 ghost use Rattle.gp_ending.specs.Ends.{Decides, deciding};
 
-/// The end that decides is that of a fault: of the first one among those of the lowest rank. None decides only if there is no
-/// fault.
+/// The end that decides is that of a fault: the first of those with the lowest rank. If none
+/// decides, there is no fault.
 pub fn the_first_of_the_lowest_rank_decides()
     ensures decides { (faults : List (Option JobFault)) (end : RunEnd) → deciding faults ≡ Some end → Decides faults end }
     ensures none { (faults : List (Option JobFault)) → deciding faults ≡ None → All (λ f. f ≡ None) faults }

@@ -1,4 +1,4 @@
-//! The phases of a run.
+//! The work phases of a run.
 ghost use Rattle.std.specs.Prelude.{◌≡◌, ◌<◌, ℕ, None, Some, [], length, slice_index_or, IfSome};
 ghost use Rattle.gp_ending.specs.declared.ends.RunEnd.TheVariants as RunEnd;
 ghost use Rattle.std.specs.List.{All};
@@ -24,7 +24,7 @@ use std::alloc::Global;
 use std::sync::Wait;
 use std::thread::Threads;
 
-/// The jobs after the last phase, and why the run ended early, if it did.
+/// The jobs after the last work phase, and why the run ended early, if it did.
 #[derive(Drop)]
 pub struct Worked<D: Disk> {
     pub jobs: Vec<Job<D>>,
@@ -54,12 +54,13 @@ fn starved<D: Disk>(jobs: Vec<Job<D>>) -> Worked<D>
     }
 }
 
-/// Runs phases of all nodes but the proposers until nothing is left to do. The proposers have posted what these jobs of
-/// theirs say. The jobs are those of the acceptors, and then of coordinator 0, whose rounds the caller calls, which the others
-/// follow; they come back in order.
+/// Runs work phases of all nodes except the proposers until nothing is left to do. `offered` are
+/// the jobs of the proposers after their work phase. `jobs` are those of the acceptors, then that
+/// of coordinator 0, for which the caller calls rounds, and then the others. They come back in
+/// order.
 ///
-/// If a job has a fault, or memory runs out, the run ends early. Among several faults the kinds and the jobs decide in the
-/// order of `deciding`.
+/// If a job has a fault, or memory runs out, the run ends early. If several jobs have faults,
+/// `deciding` says which one decides.
 pub fn go_on<
     D: Disk + Send,
     C: Caller<Wire<PaxosRules>, Cell<D>>,
@@ -106,8 +107,8 @@ pub fn go_on<
     }
 }
 
-/// Has coordinator 0 begin its first round, and goes on with phases. The jobs are new ones, and the caller has called no
-/// round before.
+/// Asks the caller for the first round of coordinator 0, and then goes on with work phases as
+/// `go_on`. The jobs are new, and the caller has called no round before.
 pub fn work<
     D: Disk + Send,
     C: Caller<Wire<PaxosRules>, Cell<D>>,

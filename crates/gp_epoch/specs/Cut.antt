@@ -33,6 +33,6 @@ abbrev pub cut_by : History → Option Command → History
 cut_by h None = h
 cut_by h (Some z) = cut_at h z
 
--- the first checkpoint and the commands that precede it, with their order; the whole if there is none
+-- the first checkpoint and the commands that precede it, with their order; the whole history if there is none
 unfoldable pub cut : History → History
 cut h = cut_by h (first_checkpoint h)

@@ -8,7 +8,7 @@ use gp_command::{Command, NoMemory};
 use gp_history::Hist;
 use std::alloc::Global;
 
-/// The checkpoint that precedes all others of the history, or `None` if it has none. It takes no memory.
+/// The checkpoint that precedes all others of the history, or `None` if it has none.
 pub fn first_checkpoint<H: Hist>(h: &H) -> Option<&Command>
     ensures { option_copied result ≡ first_checkpoint (history_of (H.sequence h.now)) }
 {
@@ -21,8 +21,8 @@ pub fn first_checkpoint<H: Hist>(h: &H) -> Option<&Command>
     None
 }
 
-/// The first checkpoint and the commands that precede it, with their order. The cut of a history without
-/// a checkpoint is an equal history. `NoMemory` if memory runs out.
+/// The first checkpoint and the commands that precede it, with their order. The cut of a history
+/// without a checkpoint is an equal history. `NoMemory` if memory runs out.
 pub fn cut<H: Hist>(alloc: Global, h: &H) -> Result<H, NoMemory>
     ensures { IfOk result (λ c. history_of (H.sequence c) ≡ cut (history_of (H.sequence h.now))) }
 {

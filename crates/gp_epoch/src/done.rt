@@ -10,7 +10,7 @@ use gp_index::History;
 use std::alloc::Global;
 use std::marker::Model;
 
-/// The commands that values of closed epochs have. A contract sees them as a set.
+/// The commands in the values of closed epochs. A contract sees them as a set.
 #[derive(Drop, Debug)]
 pub struct Done {
     alloc: Global,
@@ -53,7 +53,7 @@ impl Done {
         Ok(())
     }
 
-    /// Forgets all commands. It takes no memory.
+    /// Forgets all commands.
     #[tactic(auto, using(crate::proofs::Sets::nothing_done))]
     pub fn clear(&mut self)
         ensures { self.new ≡ set.empty }
@@ -71,7 +71,7 @@ impl Done {
         })
     }
 
-    /// Whether a command is there. It takes no memory.
+    /// Whether a command is in the set.
     #[tactic(auto, using(crate::proofs::Sets::has_is_contains))]
     pub fn has(&self, c: &Command) -> bool
         ensures { result ≡ set.contains self.now c.now }

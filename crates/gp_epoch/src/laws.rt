@@ -1,5 +1,5 @@
-//! Laws of cuts and of joins with what was learned before. Each function does nothing, and its contract is
-//! the law.
+//! Laws of cuts and of joins with what was learned before. Each function does nothing, and its
+//! contract is the law.
 ghost use Rattle.std.specs.Prelude.{◌≡◌, ◌||◌, ◌&&◌, true, false, Some, None};
 ghost use Rattle.gp_command.specs.declared.command.Command.{Command};
 ghost use Rattle.gp_command.specs.Conflict.{same};
@@ -27,15 +27,15 @@ pub fn compatible_histories_have_equal_cuts()
     ensures { (h k : History) → IsHistory h → IsHistory k → IsCompatible h k → HasCheckpoint h → HasCheckpoint k → cut h ≡ cut k }
 {}
 
-/// If only the second of two compatible histories has a checkpoint, the first is a prefix of the cut of the
-/// second.
+/// If only the second of two compatible histories has a checkpoint, the first is a prefix of the
+/// cut of the second.
 pub fn what_has_no_checkpoint_is_below_the_cut()
     ensures { (h k : History) → IsHistory h → IsHistory k → IsCompatible h k → HasNoCheckpoint h → HasCheckpoint k → IsPrefix h (cut k) }
 {}
 
-/// If one history is joined with each of two others, the two joins are compatible if the two others are.
-/// If the first of the two is a prefix of the second, its join is a prefix of the other join, and joining
-/// both in turn gives the join with the second alone.
+/// If one history is joined with each of two others, the two joins are compatible if the two others
+/// are. If the first of the two is a prefix of the second, its join is a prefix of the other join,
+/// and joining both in turn gives the join with the second alone.
 pub fn joins_behind_one_history()
     ensures compatible { (b u v : History) → IsHistory b → IsHistory u → IsHistory v → IsCompatible u v → IsCompatible (join b u) (join b v) }
     ensures prefix { (b u v : History) → IsHistory b → IsHistory u → IsHistory v → IsPrefix u v → IsPrefix (join b u) (join b v) }

@@ -1,6 +1,7 @@
-//! Runs the examples in the folders that its arguments name, and compares the exit status and the output of
-//! each with the page `NAME.md` beside it: a script `NAME.txt` of the key store, or `NAME.bank` of accounts, is
-//! played, what a run printed, `NAME.audit`, is audited, and a log `NAME.log` is shown.
+//! Runs the examples in the folders that its arguments name, and compares the exit status and the
+//! output of each with the page `NAME.md` beside it. A script `NAME.txt` of the key store, or
+//! `NAME.bank` of accounts, is played. What a run printed, `NAME.audit`, is audited. A log
+//! `NAME.log` is shown.
 #![tactic(auto)]
 
 ghost use Rattle.std.specs.Prelude.{◌≡◌, IfOk, length};

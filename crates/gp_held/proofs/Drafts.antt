@@ -12,11 +12,11 @@ use Rattle.gp_msg.specs.declared.record.Record.{Record}
 use Rattle.gp_msg.specs.Messages.{Stamped, Offered, Entry, entry_of}
 use Rattle.gp_proposer.specs.State.{ProposerState}
 use Rattle.gp_proposer.specs.Table.{proposer_offer, numbered}
-use Rattle.gp_msg.specs.Nodes.{node_of}
+use Rattle.gp_msg.specs.Nodes.{node_of, same_node}
 use Rattle.gp_run.specs.Legal.{Legal}
-use Rattle.gp_run.specs.Runs.{entries_in}
+use Rattle.gp_run.specs.Runs.{newest_first}
 use Rattle.gp_run.specs.States.{proposer_acts, proposer_at}
-use Rattle.gp_rules.specs.Own.{same_node, own, own_events, event_in}
+use Rattle.gp_rules.specs.Own.{own, own_events, event_in}
 use Rattle.gp_rules.specs.Still.{entries_append}
 
 -- the draft that an event gives to proposer p, if it offers one
@@ -125,16 +125,16 @@ one_more : (p : ℕ) (r : Record) (rest : List Record) → r.node ≡ node_of r.
 one_more p r rest own true e = refl
 one_more p r rest own false e = ap (λ l. l ++ drafts_in p (map event_in rest)) (sym (other_gives_nothing p r.event (ap (same_node (Proposer p)) (sym own) ∙ e)))
 
-listed : (p : ℕ) (rs : List Record) → AreOwn (entries_in rs) → drafts_at p (entries_in rs) ≡ drafts_in p (own_events (Proposer p) rs)
+listed : (p : ℕ) (rs : List Record) → AreOwn (newest_first rs) → drafts_at p (newest_first rs) ≡ drafts_in p (own_events (Proposer p) rs)
 listed p [] h = refl
 listed p (r ∷ rs) h =
-    let split : entries_in (r ∷ rs) ≡ entries_in rs ++ entry_of r ∷ [] = entries_append (r ∷ []) rs in
-    let parts = own_before (entries_in rs) (entry_of r) (subst AreOwn split h) in
+    let split : newest_first (r ∷ rs) ≡ newest_first rs ++ entry_of r ∷ [] = entries_append (r ∷ []) rs in
+    let parts = own_before (newest_first rs) (entry_of r) (subst AreOwn split h) in
     ap (drafts_at p) split
-    ∙ drafts_before p (entries_in rs) (entry_of r)
+    ∙ drafts_before p (newest_first rs) (entry_of r)
     ∙ ap (λ l. given p r.event ++ l) (listed p rs parts.0)
     ∙ sym (one_more p r (own (Proposer p) rs) parts.1 (same_node (Proposer p) r.node) refl)
 
 -- the drafts that a proposer was given in a legal run are those of its events
-pub drafts_of_list : (config : Counts) (p : ℕ) (list : List Record) → Legal config (entries_in list) → drafts_at p (entries_in list) ≡ drafts_in p (own_events (Proposer p) list)
-drafts_of_list config p list legal = listed p list (legal_own config (entries_in list) legal)
+pub drafts_of_list : (config : Counts) (p : ℕ) (list : List Record) → Legal config (newest_first list) → drafts_at p (newest_first list) ≡ drafts_in p (own_events (Proposer p) list)
+drafts_of_list config p list legal = listed p list (legal_own config (newest_first list) legal)

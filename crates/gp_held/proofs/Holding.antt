@@ -24,7 +24,7 @@ use Rattle.gp_run.specs.Agreement.{Agrees}
 use Rattle.gp_run.specs.Legal.{Legal}
 use Rattle.gp_run.specs.Learned.{learned_at}
 use Rattle.gp_run.specs.Messages.{messages}
-use Rattle.gp_run.specs.Runs.{entries_in}
+use Rattle.gp_run.specs.Runs.{newest_first}
 use Rattle.gp_agreement.proofs.Agreement.{agrees}
 use Rattle.gp_driver.specs.Settled.{AllLearned}
 use Rattle.gp_seats.specs.Offering.{IsKnown}
@@ -62,9 +62,9 @@ module _ (h : History) (is : IsHistory h) where
 
 -- ---- a legal run in which the offers of a script were made
 
-module _ (config : Counts) (offers : List (ℕ × DraftView)) (known : All IsKnown offers) (list : List Record) (legal : Legal config (entries_in list)) (offered : AreOffered offers list) where
+module _ (config : Counts) (offers : List (ℕ × DraftView)) (known : All IsKnown offers) (list : List Record) (legal : Legal config (newest_first list)) (offered : AreOffered offers list) where
   abbrev es : List Entry
-  es = entries_in list
+  es = newest_first list
 
   same_drafts : (p : ℕ) → p < PROPOSERS → drafts_at p es ≡ drafts_by p offers
   same_drafts p there = drafts_of_list config p list legal ∙ ap (drafts_in p) (offered p there) ∙ drafts_of_moves p offers

@@ -1,4 +1,4 @@
-//! When every learner holds every command that a script offers.
+//! Laws that say when every learner holds every command that a script offers.
 #![tactic(auto)]
 
 pub mod laws;

@@ -1,4 +1,4 @@
--- The canonical sequence of a history: again and again the least command whose conflicting predecessors were all taken.
+-- The canonical sequence of a history: at each step the least command, among those not yet taken, whose conflicting predecessors were all taken.
 use Rattle.std.specs.Prelude.{◌≡◌, ℕ, zero, suc, Bool, true, false, not, ◌&&◌, ◌||◌, cond, List, [], ◌∷◌, ◌++◌, length, filter, Option, Some, None}
 use Rattle.std.specs.FinSet as set
 use Rattle.std.specs.List.{list_all}
@@ -8,7 +8,7 @@ use Rattle.gp_command.specs.Order.{command_cmp}
 use Rattle.gp_history.specs.History.{History, has, before}
 use Rattle.gp_history.specs.Sequence.{history_of}
 
--- `c` is not taken, and all that comes before it is
+-- `c` is not taken, and all commands before it are
 abbrev pub is_ready : History → History → Command → Bool
 is_ready h taken c = not (has taken c) && list_all (λ d. not (before h d c) || has taken d) (set.items h.commands)
 
@@ -29,16 +29,16 @@ abbrev pub and_next : List Command → Option Command → List Command
 and_next taken None = taken
 and_next taken (Some c) = taken ++ c ∷ []
 
--- n times the least command that is ready
+-- after n steps, each of which takes the least command that is ready
 abbrev pub least_first : ℕ → History → List Command
 least_first zero h = []
 least_first (suc n) h = and_next (least_first n h) (next_least h (history_of (least_first n h)))
 
--- the same, as often as there are commands
+-- the same, with as many steps as there are commands
 unfoldable pub canonical : History → List Command
 canonical h = least_first (length (set.items h.commands)) h
 
--- `c` is in `h` and not taken, all that comes before it is taken, and no lesser command is so
+-- `c` is in `h` and not taken, all commands before it are taken, and no lesser command is like this
 pub record IsNext (h taken : History) (c : Command) : Type 0 where
   pub there : has h c ≡ true
   pub fresh : has taken c ≡ false

@@ -20,11 +20,11 @@ pub record History : Type 0 where
 unfoldable pub has : History → Command → Bool
 has h c = set.contains h.commands c
 
--- `c` stands before `d` in `h`
+-- `c` is before `d` in `h`
 unfoldable pub before : History → Command → Command → Bool
 before h c d = set.contains h.pairs (c, d)
 
--- each step of the way from `c` by `path` to `d` is a pair of `h`
+-- each step from `c` along `path` to `d` is a pair of `h`
 abbrev pub leads : History → Command → List Command → Command → Bool
 leads h c [] d = before h c d
 leads h c (x ∷ path) d = before h c x && leads h x path d
@@ -35,7 +35,7 @@ pub record IsHistory (h : History) : Type 0 where
   pub one_way : (c d : Command) → has h c ≡ true → has h d ≡ true → conflict c d ≡ true → before h c d ≡ not (before h d c)
   pub acyclic : (c : Command) (path : List Command) → leads h c path c ≡ false
 
--- the commands of `h` are in `k`, ordered alike there, and with each of them `h` has all that comes before it in `k`
+-- the commands of `h` are in `k` and ordered alike there, and `h` has all commands that come before one of them in `k`
 pub record IsPrefix (h k : History) : Type 0 where
   pub commands : (c : Command) → has h c ≡ true → has k c ≡ true
   pub pairs : (c d : Command) → has h c ≡ true → has h d ≡ true → before h c d ≡ before k c d
@@ -60,11 +60,11 @@ ordered_by commands p = record {
   pairs = set.retain (set.from_list (product (set.items commands) (set.items commands))) (λ q. p q.0 q.1);
 }
 
--- `c` behind all that conflicts with it, unless it is there
+-- `h` with `c` after all commands that conflict with it, unless `h` has `c`
 unfoldable pub push : History → Command → History
 push h c = cond (has h c) h (ordered_by (set.insert h.commands c) (λ x y. before h x y || (conflict x y && same y c)))
 
--- one push after another
+-- these commands pushed one after another
 abbrev pub pushes : History → List Command → History
 pushes h [] = h
 pushes h (c ∷ cs) = pushes (push h c) cs

@@ -8,12 +8,12 @@ use Rattle.gp_command.specs.Order.{command_cmp}
 use Rattle.gp_history.specs.History.{History, has, before}
 use Rattle.gp_history.specs.Sequence.{history_of}
 
--- this is the command
+-- there is a command, and it is `c`
 abbrev pub is_it : Command → Option Command → Bool
 is_it c None = false
 is_it c (Some d) = same c d
 
--- it stands at this place of a sequence
+-- `c` is at this place of a sequence
 abbrev pub stands_at : Command → List Command → ℕ → Bool
 stands_at c xs i = is_it c (slice_get xs i)
 
@@ -21,7 +21,7 @@ stands_at c xs i = is_it c (slice_get xs i)
 abbrev pub behind : History → History → History → Command → Command → Bool
 behind h k kept d c = not (before h c d) || (has kept c && before k c d)
 
--- `c` is in the longer sequence, and what is before it there is before it in the other
+-- `c` is in `ys`, and each command before it there is before it in `xs`
 abbrev pub fits : List Command → List Command → Command → Bool
 fits xs ys c = list_any (same c) ys && list_all (behind (history_of ys) (history_of xs) (history_of ys) c) ys
 

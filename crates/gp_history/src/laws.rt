@@ -7,13 +7,14 @@ ghost use Rattle.gp_history.specs.History.{History, IsHistory, has, before, size
 ghost use Rattle.gp_history.specs.Sequence.{history_of, place, no_repeat};
 ghost use Rattle.gp_history.specs.Canonical.{next_least, IsNext};
 
-/// A history is its commands and their pairs.
+/// Two histories with the same commands in the same order are equal.
 pub fn histories_with_equal_parts_are_equal()
     ensures { (h k : History) → ((c : Command) → has h c ≡ has k c) → ((c d : Command) → before h c d ≡ before k c d) → h ≡ k }
 {}
 
-/// What a sequence stands for: a history of its commands, in which of two that conflict the one
-/// comes before the other that stands first.
+/// The history of a sequence has the commands of the sequence, and two that conflict have the order
+/// of their first places there. If the sequence has no duplicates, the history has as many
+/// commands.
 pub fn a_sequence_stands_for_a_history()
     ensures history { (xs : List Command) → IsHistory (history_of xs) }
     ensures commands { (xs : List Command) (c : Command) → has (history_of xs) c ≡ list_any (same c) xs }
@@ -21,8 +22,8 @@ pub fn a_sequence_stands_for_a_history()
     ensures size { (xs : List Command) → IsTrue (no_repeat xs) → size (history_of xs) ≡ length xs }
 {}
 
-/// What a push makes: one more command, which comes behind those that conflict with it and before
-/// none.
+/// A push adds one command, after all commands that conflict with it and before none. The other
+/// commands keep their order.
 pub fn a_push_adds_a_command_behind_all()
     ensures history { (h : History) (c : Command) → IsHistory h → IsHistory (push h c) }
     ensures commands { (h : History) (c d : Command) → has (push h c) d ≡ (same d c || has h d) }
@@ -32,8 +33,8 @@ pub fn a_push_adds_a_command_behind_all()
     ensures empty { history_of [] ≡ empty }
 {}
 
-/// Which command is the next of the canonical order, and that there is one as long as a command is
-/// ready.
+/// `next_least` returns a command exactly if it is the next of the canonical order: the least of
+/// the commands that are ready.
 pub fn the_next_command_is_the_least_that_is_ready()
     ensures next { (h taken : History) (c : Command) → IsHistory h → next_least h taken ≡ Some c → IsNext h taken c }
     ensures found { (h taken : History) (c : Command) → IsHistory h → IsNext h taken c → next_least h taken ≡ Some c }

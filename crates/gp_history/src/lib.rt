@@ -1,4 +1,4 @@
-//! Histories of commands: partial orders in which conflicting commands stand one before the other.
+//! Histories of commands: partial orders in which every two commands that conflict are ordered.
 #![tactic(auto)]
 
 mod hist;

@@ -1,4 +1,4 @@
-//! Where a command stands in a sequence. Nothing here takes memory.
+//! The place of a command in a sequence.
 ghost use Rattle.std.specs.Prelude.{◌≡◌, ◌≤◌, ◌+◌, ℕ, length, IsTrue, IfSome, IfNone, false};
 ghost use Rattle.std.specs.List.{list_any};
 ghost use Rattle.gp_command.specs.Conflict.{same};
@@ -13,7 +13,8 @@ pub fn is_among(c: &Command, commands: &[Command]) -> bool
     commands.iter().any(|d| c == d)
 }
 
-/// Where a command stands. The search goes outward from the place `near`.
+/// The place of a command, or `None` if it is not there. `near` is a hint for the search, and does
+/// not affect the result.
 pub fn place_of(c: &Command, commands: &[Command], near: usize) -> Option<usize>
     requires { IsTrue (no_repeat commands.now) }
     ensures { result ≡ place_in commands.now c.now }
@@ -27,7 +28,7 @@ pub fn place_of(c: &Command, commands: &[Command], near: usize) -> Option<usize>
     None
 }
 
-// Where a command stands, of the place so far behind `start` and the one as far ahead of it.
+// The place of a command, if that is `start + distance` or `start - distance - 1`.
 fn place_at_distance(
     c: &Command,
     commands: &[Command],

@@ -1,13 +1,13 @@
-//! A history as one list.
+//! A history kept as one list.
 use crate::hist::{Hist, Unpushed};
 use crate::sequence::{is_among, place_of};
 use gp_command::{Command, NoMemory};
 use std::alloc::Global;
 use std::marker::Model;
 
-/// A history, kept as a sequence that stands for it.
+/// A history, kept as its sequence.
 ///
-/// A contract sees it as that list of commands, in which no command stands twice.
+/// A contract sees it as the list of its commands, without duplicates.
 #[derive(Drop, Debug)]
 pub struct SeqHistory {
     commands: Vec<Command>,

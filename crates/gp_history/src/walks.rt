@@ -1,8 +1,8 @@
-//! Walks over the sequences of histories. None of them takes memory.
+//! Walks over the sequences of histories.
 //!
-//! Two histories mostly have a long common start, and what stands behind it in a similar order. So a
-//! walk leaves the common start out, tests first whether two commands conflict, and looks a command
-//! up from the place where the last one was found.
+//! Two histories usually have a long common start, and the commands after it in a similar order. So
+//! a walk leaves the common start out, tests first whether two commands conflict, and looks for a
+//! command from the place where the last one was found.
 ghost use Rattle.std.specs.Prelude.{◌≡◌, ◌≢◌, ◌↔◌, ◌≤◌, ◌<◌, take, length, slice_get, IsTrue, Some};
 ghost use Rattle.std.specs.List.{list_all};
 ghost use Rattle.std.specs.Option.{option_copied};
@@ -15,7 +15,8 @@ ghost use Rattle.gp_history.specs.Walks.{behind, fits, is_less};
 use crate::hist::Hist;
 use gp_command::{Command, conflicts};
 
-/// How many commands the two sequences have alike at their start, to the first that differ.
+/// The number of commands at the start of both sequences that are the same, up to the first place
+/// where they differ.
 pub fn common_start<H: Hist>(a: &H, b: &H) -> usize
     ensures alike { take result (H.sequence a.now) ≡ take result (H.sequence b.now) }
     ensures left { result ≤ length (H.sequence a.now) }
@@ -33,8 +34,9 @@ pub fn common_start<H: Hist>(a: &H, b: &H) -> usize
     shorter
 }
 
-/// Whether all that comes before `d` in `a` was kept and comes before it in `b`.
-/// The first `from` commands of both are alike and kept; `d` stands at `i` in `a` and at `j` in `b`.
+/// Whether all commands before `d` in `a` were kept, and are before it in `b`. The first `from`
+/// commands of both are the same, and were kept. `d` is at place `i` of `a` and at place `j` of
+/// `b`.
 pub fn is_behind<H: Hist>(
     a: &H,
     i: usize,
@@ -69,7 +71,7 @@ pub fn is_behind<H: Hist>(
     true
 }
 
-// Whether each command of the one is in the other, with nothing new before it.
+// Whether each command of `a` is in `b`, and all commands before it there are before it in `a` too.
 fn all_fit<H: Hist>(a: &H, b: &H, from: usize) -> bool
     requires { take from (H.sequence a.now) ≡ take from (H.sequence b.now) }
     ensures { result ≡ list_all (fits (H.sequence a.now) (H.sequence b.now)) (H.sequence a.now) }
@@ -90,7 +92,7 @@ fn all_fit<H: Hist>(a: &H, b: &H, from: usize) -> bool
     true
 }
 
-/// Whether the one history is a prefix of the other.
+/// Whether the first history is a prefix of the second.
 #[tactic(auto, using(crate::proofs::PrefixTest::fits_is_prefix))]
 pub(crate) fn is_prefix<H: Hist>(a: &H, b: &H) -> bool
     ensures { IsTrue result ↔ IsPrefix (history_of (H.sequence a.now)) (history_of (H.sequence b.now)) }
@@ -105,7 +107,7 @@ pub(crate) fn is_same<H: Hist>(a: &H, b: &H) -> bool
     a.len() == b.len() && is_prefix(a, b)
 }
 
-// Whether all that comes before a command was taken, and it was not.
+// Whether a command was not taken while all commands before it were.
 fn is_ready<H: Hist>(h: &H, i: usize, taken: &H, c: &Command, from: usize) -> bool
     requires there { place_in (H.sequence h.now) c.now ≡ Some i }
     requires within { i < length (H.sequence h.now) }
@@ -125,7 +127,7 @@ fn is_less(c: &Command, best: Option<&Command>) -> bool
     }
 }
 
-/// The least command that is ready.
+/// The least command that is ready: it was not taken, and all commands before it were.
 pub(crate) fn next_least<'a, H: Hist>(h: &'a H, taken: &H) -> Option<&'a Command>
     ensures { option_copied result ≡ next_least (history_of (H.sequence h.now)) (history_of (H.sequence taken.now)) }
 {

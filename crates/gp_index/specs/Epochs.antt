@@ -15,7 +15,7 @@ epoch_start xs zero = 0
 epoch_start [] (suc i) = 0
 epoch_start (x ∷ xs) (suc i) = suc (cond x.draft.checkpoint (epoch_start xs i) (epoch_start xs (suc i)))
 
--- the starts of all epochs but the first, of a sequence that stands after n commands
+-- the starts of all epochs except the first, if n commands come before the sequence
 abbrev pub starts_from : ℕ → List Command → List ℕ
 starts_from n [] = []
 starts_from n (x ∷ xs) = cond x.draft.checkpoint (suc n ∷ starts_from (suc n) xs) (starts_from (suc n) xs)
@@ -24,12 +24,11 @@ starts_from n (x ∷ xs) = cond x.draft.checkpoint (suc n ∷ starts_from (suc n
 abbrev pub epoch : List Command → ℕ → List Command
 epoch xs i = drop (epoch_start xs i) (take (epoch_start xs (suc i)) xs)
 
--- what stands after the n-th checkpoint
+-- the commands after the n-th checkpoint
 abbrev pub behind_epochs : List Command → ℕ → List Command
 behind_epochs xs n = drop (epoch_start xs n) xs
 
--- the second has as many checkpoints as the first or more, the epochs that these end are equal as histories, and what the
--- first has after them is a prefix of what the second has there
+-- the second has at least as many checkpoints as the first, the epochs that these end are equal as histories, and the commands of the first after them are a prefix of those of the second after as many checkpoints
 pub record IsCutPrefix (xs ys : List Command) : Type 0 where
   pub enough : checkpoints xs ≤ checkpoints ys
   pub epochs : (i : ℕ) → i < checkpoints xs → history_of (epoch xs i) ≡ history_of (epoch ys i)

@@ -1,4 +1,4 @@
--- An index of a sequence: its places, in the order of the commands that stand there.
+-- An index of a sequence: its places, in ascending order of the commands at these places.
 use Rattle.std.specs.Prelude.{◌≡◌, ℕ, ◌<◌, ◌≤◌, true, List, length, slice_index_or, nat_eq, IsTrue}
 use Rattle.std.specs.List.{list_any}
 use Rattle.std.specs.declared.cmp.Ordering.TheVariants.{Less}
@@ -11,19 +11,19 @@ use Rattle.gp_index.specs.Epochs.{starts_from}
 abbrev pub named : List Command → List ℕ → ℕ → Command → Command
 named xs order k e = slice_index_or xs (slice_index_or order k 0) e
 
--- each entry is a place, the commands that they name rise, and each place is an entry
+-- each entry is a place, the commands that they name ascend, and each place is an entry
 pub record IsIndex (xs : List Command) (order : List ℕ) : Type 0 where
   pub within : (k : ℕ) → k < length order → slice_index_or order k 0 < length xs
   pub rising : (i j : ℕ) (e : Command) → i < j → j < length order → command_cmp (named xs order i e) (named xs order j e) ≡ Less
   pub complete : (p : ℕ) → p < length xs → list_any (nat_eq p) order ≡ true
 
--- where an entry for a further command goes: what is named before it is less, and what is named from it on is greater
+-- where an entry for a further command belongs: the entries before it name lesser commands, and the others greater ones
 pub record IsGap (xs : List Command) (order : List ℕ) (c : Command) (at : ℕ) : Type 0 where
   pub within : at ≤ length order
   pub below : (k : ℕ) (e : Command) → k < at → command_cmp (named xs order k e) c ≡ Less
   pub above : (k : ℕ) (e : Command) → at ≤ k → k < length order → command_cmp c (named xs order k e) ≡ Less
 
--- what is kept of a sequence: each command once, its index, and where checkpoints divide it
+-- what is kept of a sequence: it has no duplicates, `order` is its index, and `starts` are the places where checkpoints divide it
 pub record IsParts (xs : List Command) (order starts : List ℕ) : Type 0 where
   pub distinct : IsTrue (no_repeat xs)
   pub index : IsIndex xs order

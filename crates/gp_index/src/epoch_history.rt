@@ -1,4 +1,4 @@
-//! A history with an index, whose copies share one list.
+//! A history with an index.
 ghost use Rattle.std.specs.Prelude.{◌≡◌, ◌↔◌, ℕ, ◌≤◌, ◌<◌, ◌^◌, ◌+◌, ◌++◌, ◌∷◌, [], false, true, IsTrue, IsNone, IfOk, Some, length, take};
 ghost use Rattle.gp_history.specs.History.{has, IsPrefix};
 ghost use Rattle.gp_history.specs.Sequence.{history_of, no_repeat, place_in};
@@ -17,10 +17,10 @@ use std::marker::Model;
 use std::sync::Arc;
 
 /// A history kept as one of its linear orders, with an index of the place of each command and the
-/// places where checkpoints divide the order into epochs.
+/// places where checkpoints divide the order into epochs. If it has 2^32 commands, a push of a
+/// further one fails as if memory had run out.
 ///
-/// Copies share one list until one of them changes. A contract sees a history as the list of its
-/// commands, without duplicates.
+/// A contract sees a history as the list of its commands, without duplicates.
 #[derive(Drop, Debug)]
 pub struct EpochHistory {
     alloc: Global,
@@ -39,15 +39,16 @@ impl Model for EpochHistory {
 }
 
 impl EpochHistory {
-    /// The number of epochs: one more than the number of checkpoints. It takes no memory.
+    /// The number of epochs: one more than the number of checkpoints.
     pub fn epochs(&self) -> usize
         ensures { result ≡ checkpoints self.now + 1 }
     {
         self.ended() + 1
     }
 
-    /// The place where epoch `i` starts, which is the place after checkpoint `i`, counted from 1. Epoch 0
-    /// starts at 0. An epoch without commands starts at the length. It takes no memory.
+    /// The place where epoch `i` starts: 0 for epoch 0, and otherwise the place after checkpoint
+    /// `i`, counted from 1. `i` must be at most the number of checkpoints. An epoch without
+    /// commands starts at the length.
     pub fn epoch_start(&self, i: usize) -> usize
         requires { i ≤ checkpoints self.now }
         ensures { result ≡ epoch_start self.now i }
@@ -58,7 +59,7 @@ impl EpochHistory {
         }
     }
 
-    /// The place of a command, or `None` if the history lacks it. It takes no memory.
+    /// The place of a command, or `None` if the history lacks it.
     pub fn find(&self, c: &Command) -> Option<usize>
         ensures { result ≡ place_in self.now c.now }
     {
@@ -68,7 +69,8 @@ impl EpochHistory {
         }
     }
 
-    /// Whether it is a prefix of another history, tested epoch by epoch. It takes no memory.
+    /// Whether it is a prefix of another history. The test goes epoch by epoch, as law
+    /// `a_prefix_is_one_epoch_by_epoch` permits.
     pub fn is_prefix(&self, of: &EpochHistory) -> bool
         ensures { IsTrue result ↔ IsPrefix (history_of self.now) (history_of of.now) }
     {
@@ -79,9 +81,9 @@ impl EpochHistory {
         has_rest(self, of, ended)
     }
 
-    /// The least command that is not taken while all that comes before it is. From the empty history
-    /// on this walks the canonical sequence; there is none where everything is taken. The commands are
-    /// tried in ascending order. It takes no memory.
+    /// The least command of this history that is not in `taken` although all commands before it
+    /// are. `None` if no command is left. If `taken` starts empty and each result is pushed onto
+    /// it, the results are the canonical sequence. `taken` must be a prefix of this history.
     pub fn next_least(&self, taken: &EpochHistory) -> Option<&Command>
         requires { IsPrefix (history_of taken.now) (history_of self.now) }
         ensures least { option_copied result ≡ next_least (history_of self.now) (history_of taken.now) }
@@ -102,7 +104,7 @@ impl EpochHistory {
         }
     }
 
-    // The places of its commands, in ascending order of these.
+    // The places of its commands, in ascending order of the commands.
     #[tactic(auto, using(crate::proofs::Ascending::index_of_nothing))]
     fn order(&self) -> &[u32]
         ensures index { IsIndex self.now result.now }
@@ -124,7 +126,7 @@ impl EpochHistory {
         }
     }
 
-    // Its commands, shared with nobody.
+    // A copy of its commands that is not shared.
     fn own_parts(&self) -> Result<Parts, NoMemory>
         ensures { IfOk result (λ parts. parts ≡ self.now) }
     {
@@ -134,7 +136,7 @@ impl EpochHistory {
         }
     }
 
-    // Its commands and one more, shared with nobody.
+    // A copy of its commands with one more, which is not shared.
     fn with(&self, c: &Command) -> Result<Arc<Parts>, NoMemory>
         requires { has (history_of self.now) c.now ≡ false }
         ensures { IfOk result (λ parts. parts.value ≡ self.now ++ c.now ∷ []) }
@@ -207,7 +209,8 @@ impl Hist for EpochHistory {
     }
 }
 
-// The least command of a history that is ready. Most of what was taken is met in its own order.
+// The least command of a history that is ready. Most commands of `taken` are found at the next
+// entry of its own index.
 fn least_ready<'a>(h: &'a EpochHistory, taken: &EpochHistory) -> Option<&'a Command>
     ensures { option_copied result ≡ next_least (history_of h.now) (history_of taken.now) }
 {
@@ -227,7 +230,7 @@ fn least_ready<'a>(h: &'a EpochHistory, taken: &EpochHistory) -> Option<&'a Comm
     None
 }
 
-// Whether an entry names a command.
+// Whether entry `k` of an index names a command.
 fn is_named(h: &EpochHistory, order: &[u32], k: usize, c: &Command) -> bool
     requires { IsIndex h.now order.now }
     ensures { result ≡ true → has (history_of h.now) c.now ≡ true }
@@ -235,7 +238,7 @@ fn is_named(h: &EpochHistory, order: &[u32], k: usize, c: &Command) -> bool
     k < order.len() && h.at(order[k] as usize) == c
 }
 
-// Whether all that comes before a command was taken, and it was not.
+// Whether a command was not taken while all commands before it were.
 fn is_ready(h: &EpochHistory, place: usize, taken: &EpochHistory, c: &Command, from: usize) -> bool
     requires there { place_in h.now c.now ≡ Some place }
     requires within { place < length h.now }
@@ -282,7 +285,7 @@ fn has_rest(a: &EpochHistory, b: &EpochHistory, n: usize) -> bool
     is_prefix(behind_epochs(a, n), behind_epochs(b, n))
 }
 
-// The commands after n checkpoints.
+// The commands after the first n checkpoints.
 #[tactic(auto, using(crate::proofs::Starts::start_within))]
 fn behind_epochs(h: &EpochHistory, n: usize) -> &[Command]
     requires { n ≤ checkpoints h.now }

@@ -1,4 +1,4 @@
-//! Finding the place of a command by binary search in an index. Nothing here takes memory.
+//! The place of a command, found by binary search in an index.
 ghost use Rattle.std.specs.Prelude.{◌≡◌, ◌≢◌, ◌≤◌, ◌<◌, ℕ, length, IsTrue, IfOk, IfErr, OnErr, Some, false};
 ghost use Rattle.std.specs.List.{list_any};
 ghost use Rattle.std.specs.declared.cmp.Ordering.TheVariants.{Less};
@@ -31,7 +31,7 @@ pub fn rank(c: &Command, commands: &[Command], order: &[u32]) -> usize
     low
 }
 
-/// The place of a command, or else the place in the index where an entry for it goes.
+/// The place of a command, or as the error the place in the index where an entry for it belongs.
 pub fn search(c: &Command, commands: &[Command], order: &[u32]) -> Result<usize, usize>
     requires index { IsIndex commands.now order.now }
     requires distinct { IsTrue (no_repeat commands.now) }
@@ -46,7 +46,7 @@ pub fn search(c: &Command, commands: &[Command], order: &[u32]) -> Result<usize,
     Err(at)
 }
 
-/// Whether a command stands at a place.
+/// Whether a command is at this place.
 pub fn stands_at(c: &Command, commands: &[Command], place: usize) -> bool
     ensures { result ≡ stands_at c.now commands.now place }
 {

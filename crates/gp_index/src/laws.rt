@@ -1,4 +1,5 @@
-//! Laws of histories divided at checkpoints. Each function does nothing, and its contract is the law.
+//! Laws of histories divided at checkpoints. Each function does nothing, and its contract is the
+//! law.
 ghost use Rattle.std.specs.Prelude.{◌≡◌, ◌↔◌, ◌≤◌, ℕ, List, length, IsTrue};
 ghost use Rattle.gp_command.specs.declared.command.Command.{Command};
 ghost use Rattle.gp_history.specs.History.{History, IsHistory, IsPrefix};
@@ -6,9 +7,9 @@ ghost use Rattle.gp_history.specs.Sequence.{history_of, no_repeat};
 ghost use Rattle.gp_history.specs.Canonical.{canonical};
 ghost use Rattle.gp_index.specs.Epochs.{IsCutPrefix, epoch_start};
 
-/// A history is a prefix of another exactly if the other has at least as many checkpoints, each epoch
-/// that a checkpoint of the first ends is the same in both, and the commands of the first after its
-/// last checkpoint are a prefix of those of the other after as many checkpoints.
+/// A history is a prefix of another exactly if the other has at least as many checkpoints, each
+/// epoch that a checkpoint of the first ends is the same in both, and the commands of the first
+/// after its last checkpoint are a prefix of those of the other after as many checkpoints.
 pub fn a_prefix_is_one_epoch_by_epoch()
     ensures sequences { (xs ys : List Command) → IsTrue (no_repeat xs) → IsTrue (no_repeat ys) → IsPrefix (history_of xs) (history_of ys) ↔ IsCutPrefix xs ys }
     ensures histories { (h k : History) → IsHistory h → IsHistory k → IsPrefix h k ↔ IsCutPrefix (canonical h) (canonical k) }

@@ -36,7 +36,7 @@ impl Model for Parts {
 }
 
 impl Parts {
-    /// No command. It takes no memory.
+    /// No commands.
     pub fn new(alloc: Global) -> Parts
         ensures { result ≡ [] }
     {
@@ -55,7 +55,7 @@ impl Parts {
         &self.commands
     }
 
-    /// The places of the commands, in ascending order of these.
+    /// The places of the commands, in ascending order of the commands.
     pub fn order(&self) -> &[u32]
         ensures index { IsIndex self.now result.now }
         ensures distinct { IsTrue (no_repeat self.now) }
@@ -63,7 +63,7 @@ impl Parts {
         &self.order
     }
 
-    /// The place of a command.
+    /// The place of a command, or `None` if it is not there.
     pub fn find(&self, c: &Command) -> Option<usize>
         ensures { result ≡ place_in self.now c.now }
     {
@@ -73,7 +73,8 @@ impl Parts {
         }
     }
 
-    /// The place of a command. The place `near` and the one after it are tried first.
+    /// The place of a command, or `None` if it is not there. `near` is a hint for the search, and
+    /// does not affect the result.
     pub fn place_of(&self, c: &Command, near: usize) -> Option<usize>
         ensures { result ≡ place_in self.now c.now }
     {
@@ -95,7 +96,7 @@ impl Parts {
         self.starts.len()
     }
 
-    /// Where an epoch starts.
+    /// The place where epoch `i` starts. `i` must be at most the number of checkpoints.
     pub fn epoch_start(&self, i: usize) -> usize
         requires { i ≤ checkpoints self.now }
         ensures { result ≡ epoch_start self.now i }
@@ -103,7 +104,7 @@ impl Parts {
         if i == 0 { 0 } else { self.starts[i - 1] }
     }
 
-    /// Equal parts, with room for one more command.
+    /// Equal parts. `NoMemory` if memory runs out.
     pub fn copy(&self) -> Result<Parts, NoMemory>
         ensures { IfOk result (λ p. p ≡ self.now) }
     {
@@ -122,7 +123,8 @@ impl Parts {
         })
     }
 
-    /// Appends a command unless it is there. If memory runs out nothing changes.
+    /// Appends a command and returns `true`, or returns `false` if it is there already. If memory
+    /// runs out or there are 2^32 commands, nothing changes, and `Unpushed` returns the command.
     pub fn push(&mut self, c: Command) -> Result<bool, Unpushed>
         ensures added { IfOk result (λ added. added ≡ not (has (history_of self.old) c)) }
         ensures pushed { OnOk result (self.new ≡ cond (has (history_of self.old) c) self.old (self.old ++ c ∷ [])) }
@@ -139,8 +141,8 @@ impl Parts {
     }
 }
 
-// Appends a command whose entry goes to a place of the index. If memory runs out, or 32 bits are too
-// few for its place, nothing changes.
+// Appends a command whose entry belongs at place `at` of the index. If memory runs out, or 32 bits
+// are too few for its place, nothing changes.
 fn append(
     commands: &mut Vec<Command>,
     order: &mut Vec<u32>,
@@ -169,7 +171,7 @@ fn append(
             command: refused.value,
         });
     }
-    // both have room, so neither is refused
+    // both have room, so neither call fails
     let _room = order.insert(at, place as u32);
     if cuts {
         let _room = starts.push(place + 1);

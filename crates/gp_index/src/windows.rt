@@ -1,4 +1,4 @@
-//! Prefixes of sequences that are parts of histories. Nothing here takes memory.
+//! The prefix test for parts of the sequences of histories.
 ghost use Rattle.std.specs.Prelude.{◌≡◌, ◌↔◌, ◌≤◌, ◌+◌, ◌<◌, ℕ, length, IsTrue, IfSome, IfNone, Some, false};
 ghost use Rattle.std.specs.List.{list_all};
 ghost use Rattle.gp_history.specs.History.{IsPrefix};
@@ -27,7 +27,7 @@ pub fn is_same(a: &[Command], b: &[Command]) -> bool
     a.len() == b.len() && is_prefix(a, b)
 }
 
-// Whether each command of the first is in the second, with nothing new before it.
+// Whether each command of `a` is in `b`, and all commands before it there are before it in `a` too.
 fn all_fit(a: &[Command], b: &[Command]) -> bool
     requires first { IsTrue (no_repeat a.now) }
     requires second { IsTrue (no_repeat b.now) }
@@ -47,7 +47,8 @@ fn all_fit(a: &[Command], b: &[Command]) -> bool
     true
 }
 
-// Whether all that comes before `d` in `a` comes before it in `b`; it stands at `i` in `a` and at `j` in `b`.
+// Whether all commands before `d` in `a` are before it in `b`. `d` is at place `i` of `a` and at
+// place `j` of `b`.
 fn is_behind(a: &[Command], i: usize, b: &[Command], j: usize, d: &Command) -> bool
     requires second { IsTrue (no_repeat b.now) }
     requires left { place_in a.now d.now ≡ Some i }
@@ -81,7 +82,7 @@ fn place_of(c: &Command, commands: &[Command], near: usize) -> Option<usize>
     None
 }
 
-// The place of a command, if it is `distance` after `start` or as far before it.
+// The place of a command, if that is `start + distance` or `start - distance - 1`.
 fn place_at_distance(
     c: &Command,
     commands: &[Command],

@@ -19,11 +19,12 @@ use gp_round::{Config, Round};
 use std::alloc::Global;
 use std::marker::Model;
 
-/// A learner: its epoch, its part, which is what it learned there, and what it learned in all epochs.
+/// A learner: its epoch, its part, which is what it learned in that epoch, and what it learned in
+/// all epochs.
 ///
-/// What all members of a quorum voted for in a round, the meet of their votes, is chosen, and a learner
-/// that holds these votes learns it (Lamport, *Generalized Consensus and Paxos*, 2005). A learned
-/// checkpoint closes the epoch. Nothing of a learner survives a crash.
+/// The meet of the votes of all members of a quorum in a round is chosen. A learner that holds
+/// these votes learns it (Lamport, *Generalized Consensus and Paxos*, 2005). A learned checkpoint
+/// closes the epoch. Nothing of a learner survives a crash.
 #[derive(Drop, Debug)]
 pub struct Learner {
     alloc: Global,
@@ -50,7 +51,8 @@ impl Model for Learner {
 }
 
 impl Learner {
-    /// A learner that has heard nothing: it is in epoch 0. `number` is its number among the learners, from 0.
+    /// A learner at its start: it has heard nothing, and is in epoch 0. `number` is its number
+    /// among the learners, from 0. `NoMemory` if memory runs out.
     #[tactic(auto, using(gp_history::proofs::Pushing::history_of_nothing))]
     pub fn new(alloc: Global, config: &Config, number: u32) -> Result<Learner, NoMemory>
         ensures { IfOk result (λ l. l ≡ opening config.now number) }
@@ -63,25 +65,27 @@ impl Learner {
         })
     }
 
-    /// What it learned so far, in all epochs. It takes no memory.
+    /// What it learned so far, in all epochs.
     pub fn learned(&self) -> &History
         ensures { history_of result.now ≡ self.now.learned }
     {
         &self.learned
     }
 
-    /// Takes a message, and returns what it sends for it: at most the Final of its epoch. If memory runs
-    /// out, the learner stays unchanged.
+    /// Takes a message, and returns what it sends for it: at most the Final of its epoch. If memory
+    /// runs out, the learner stays unchanged. If the message is of the epoch of the learner, that
+    /// epoch must be below 2^32 - 1.
     ///
-    /// Only votes of acceptors of the configuration and Finals change it, both of its epoch. It holds a
-    /// vote if it holds none of that acceptor in that round, or one with fewer commands. Of the least
-    /// quorums of that round those count of which each member's vote is held, and the join of the meets of
-    /// their votes is joined to its part.
+    /// Only votes of acceptors of the configuration and Finals change the learner, and only if they
+    /// are of its epoch. It holds a vote if it holds none of that acceptor in that round, or one
+    /// with fewer commands. A quorum of that round, of the least size, counts if the votes of all
+    /// its members are held. The join of the meets of these quorums is joined to its part.
     ///
-    /// A part without a checkpoint is joined to what it learned. A part with one closes the epoch: the
-    /// learner sends a Final with the cut of the part at its first checkpoint, and joins the cut to what it
-    /// learned. A Final that it takes is joined in the same way, and sends nothing. After either the learner
-    /// is in the next epoch, and holds no vote.
+    /// A part without a checkpoint is joined to what it learned. A part with one closes the epoch:
+    /// the learner sends a Final with the cut of the part at its first checkpoint, and joins the
+    /// cut to what it learned. The value of a Final that it takes is joined in the same way, and
+    /// the learner sends nothing. After it sent or took a Final, it is in the next epoch, and holds
+    /// no vote.
     pub fn take(&mut self, m: &Msg) -> Result<Outs, NoMemory>
         requires { CanTake self.old (message_of m.now) }
         ensures next { OnOk result (self.new ≡ (take self.old (message_of m.now)).0) }
@@ -105,7 +109,7 @@ impl Learner {
         }
     }
 
-    /// Crashes and restarts in epoch 0: all that it held and learned is lost. It takes no memory.
+    /// Crashes and restarts in epoch 0: all that it held and learned is lost.
     #[tactic(auto, using(gp_history::proofs::Pushing::history_of_nothing))]
     pub fn fall(&mut self)
         ensures { self.new ≡ fall self.old }
@@ -115,7 +119,7 @@ impl Learner {
         self.learned.clear();
     }
 
-    /// An equal learner.
+    /// An equal learner. `NoMemory` if memory runs out.
     pub fn copy(&self) -> Result<Learner, NoMemory>
         ensures { IfOk result (λ copy. copy ≡ self.now) }
     {
@@ -127,7 +131,8 @@ impl Learner {
         })
     }
 
-    // Enters the next epoch with the value that closes its own. If memory runs out, nothing changes.
+    // Enters the next epoch with the value that closes its own. If memory runs out, nothing
+    // changes.
     fn pass(&mut self, value: &History) -> Result<(), NoMemory>
         requires room { self.old.epoch < 2 ^ 32 - 1 }
         ensures next { OnOk result (self.new ≡ passed self.old (history_of value.now)) }
@@ -138,7 +143,8 @@ impl Learner {
         Ok(())
     }
 
-    // Closes the epoch with the cut of a part that has a checkpoint. If memory runs out, nothing changes.
+    // Closes the epoch with the cut of a part that has a checkpoint. If memory runs out, nothing
+    // changes.
     fn close(&mut self, part: &History) -> Result<Outs, NoMemory>
         requires room { self.old.epoch < 2 ^ 32 - 1 }
         ensures next { OnOk result (self.new ≡ passed self.old (cut (history_of part.now))) }
@@ -157,7 +163,7 @@ impl Learner {
         Ok(outs)
     }
 
-    // Enters the next epoch, in which it has heard nothing, with what it learned in all. It takes no memory.
+    // Enters the next epoch, in which it has heard nothing, with what it learned in all epochs.
     fn enter(&mut self, learned: History)
         requires { self.old.epoch < 2 ^ 32 - 1 }
         ensures { ◌≡◌ {A = LearnerInEpoch} self.new (record { epoch = suc self.old.epoch; state = table.opening self.old.state.config self.old.state.number; learned = history_of learned }) }
@@ -167,8 +173,9 @@ impl Learner {
         self.learned = learned;
     }
 
-    // Takes a vote of its epoch. All memory is taken before anything changes. A vote that is not to be
-    // held changes nothing, since what the quorums of its round voted for is learned already.
+    // Takes a vote of its epoch. All memory is allocated before anything changes. A vote that is
+    // not to be held changes nothing, since what the quorums of its round voted for is learned
+    // already.
     fn hear(&mut self, round: Round, acceptor: u32, vote: &History) -> Result<Outs, NoMemory>
         requires room { self.old.epoch < 2 ^ 32 - 1 }
         requires known { acceptor < self.old.state.config.acceptors }

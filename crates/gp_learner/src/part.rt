@@ -1,4 +1,4 @@
-//! What a learner keeps of its epoch.
+//! The state of a learner in its epoch.
 ghost use Rattle.std.specs.Prelude.{◌≡◌, ◌<◌, [], nat_lt, map, Some, IfOk, OnOk, OnErr, IsNone, unwrap_or};
 ghost use Rattle.std.specs.Option.{option_map};
 ghost use Rattle.gp_history.specs.Sequence.{history_of};
@@ -16,7 +16,7 @@ use std::alloc::Global;
 use std::collections::BTreeMap;
 use std::marker::Model;
 
-/// The votes that a learner holds in its epoch, and what it learned from them, its part.
+/// The votes that a learner holds in its epoch, and its part, which is what it learned from them.
 #[derive(Drop, Debug)]
 pub struct Part {
     alloc: Global,
@@ -42,7 +42,7 @@ impl Model for Part {
 }
 
 impl Part {
-    /// The state in which nothing was heard.
+    /// The state at the start: nothing was heard. `NoMemory` if memory runs out.
     #[tactic(auto, using(gp_history::proofs::Pushing::history_of_nothing, crate::proofs::StaysUpToDate::up_to_date_at_start))]
     pub fn new(alloc: Global, config: &Config, number: u32) -> Result<Part, NoMemory>
         ensures { IfOk result (λ l. l ≡ opening config.now number) }
@@ -56,28 +56,28 @@ impl Part {
         })
     }
 
-    /// What it learned in its epoch so far. It takes no memory.
+    /// What it learned in its epoch so far.
     pub fn learned(&self) -> &History
         ensures { history_of result.now ≡ self.now.learned }
     {
         &self.learned
     }
 
-    /// The learner's number. It takes no memory.
+    /// The number of the learner.
     pub fn number(&self) -> u32
         ensures { result ≡ self.now.number }
     {
         self.number
     }
 
-    /// Whether an acceptor is one of the configuration. It takes no memory.
+    /// Whether an acceptor is one of the configuration.
     pub fn knows(&self, acceptor: u32) -> bool
         ensures { result ≡ nat_lt acceptor self.now.config.acceptors }
     {
         acceptor < self.config.acceptors()
     }
 
-    /// Returns to the state in which nothing was heard. It takes no memory.
+    /// Returns to the state at the start.
     #[tactic(auto, using(gp_history::proofs::Pushing::history_of_nothing, crate::proofs::StaysUpToDate::up_to_date_at_start))]
     pub fn clear(&mut self)
         ensures { self.new ≡ opening self.old.config self.old.number }
@@ -86,7 +86,7 @@ impl Part {
         self.learned.clear();
     }
 
-    /// An equal part.
+    /// An equal part. `NoMemory` if memory runs out.
     pub fn copy(&self) -> Result<Part, NoMemory>
         ensures { IfOk result (λ copy. copy ≡ self.now) }
     {
@@ -99,8 +99,10 @@ impl Part {
         })
     }
 
-    /// A copy of a vote, if it is to be held. If it is not, it changes nothing: what the quorums of its round
-    /// voted for is learned already.
+    /// A copy of a vote, if it is to be held: no vote of its acceptor is held in that round, or one
+    /// with fewer commands. If it is not to be held, the result is `None`, and the vote changes
+    /// nothing: what the quorums of its round voted for is learned already. `NoMemory` if memory
+    /// runs out.
     pub fn to_hold(
         &self,
         round: Round,
@@ -114,7 +116,8 @@ impl Part {
         newer(held_of(&self.votes, round, acceptor), vote)
     }
 
-    /// What is learned when a vote is held too. There is none if that is what was learned before.
+    /// What is learned after a vote is held too. It is `None` only if that is what was learned
+    /// before. `NoMemory` if memory runs out.
     pub fn learned_with(
         &self,
         round: Round,
@@ -133,8 +136,8 @@ impl Part {
         join_news(self.alloc, &self.learned, &votes, acceptor, vote, n, size)
     }
 
-    /// Holds a vote, with what is learned then; none stands for what was learned before. If memory runs out,
-    /// nothing changes.
+    /// Holds a vote, with what is learned then. `None` means that this is what was learned before.
+    /// If memory runs out, nothing changes.
     pub fn hold(
         &mut self,
         round: Round,

@@ -1,4 +1,4 @@
-//! Want of memory, the one refusal that every layer can answer.
+//! The error `NoMemory`: a call of any layer returns it if memory runs out.
 #![tactic(auto)]
 
 mod memory;

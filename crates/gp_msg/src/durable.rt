@@ -9,7 +9,8 @@ use gp_round::Round;
 /// The part of a node's state that survives a crash. Learners and proposers have none.
 #[derive(Drop, Debug)]
 pub enum Durable {
-    /// The epoch of an acceptor, its round, the round of its last vote in that epoch, and that vote.
+    /// The epoch of an acceptor, its round, the round of its last vote in that epoch, and that
+    /// vote.
     Acceptor {
         epoch: u32,
         round: Round,
@@ -24,7 +25,7 @@ pub enum Durable {
 }
 
 impl Durable {
-    /// An equal durable part.
+    /// An equal durable part. `NoMemory` if memory runs out.
     pub fn copy(&self) -> Result<Durable, NoMemory>
         ensures { IfOk result (λ copy. copy ≡ self.now) }
     {

@@ -1,4 +1,4 @@
-//! Messages.
+//! Messages between nodes.
 ghost use Rattle.std.specs.Prelude.{◌≡◌, IfOk};
 ghost use Rattle.gp_msg.specs.Reads.{kind_of};
 
@@ -7,8 +7,8 @@ use gp_history::Hist;
 use gp_index::History;
 use gp_round::Round;
 
-/// What nodes send. A message has no address: every node may take it, any number of times or never.
-/// A proposal is of no epoch, and every other message is of one.
+/// A message that a node sends. It has no address: every node may take it, any number of times or
+/// never. A proposal belongs to no epoch, and every other message to one.
 #[derive(Drop, Debug)]
 pub enum Msg {
     /// A proposer offers a command.
@@ -20,8 +20,8 @@ pub enum Msg {
         epoch: u32,
         round: Round,
     },
-    /// An acceptor joins a round, and answers with the last round of the epoch in which it voted and its
-    /// vote there.
+    /// An acceptor joins a round, and answers with the last round of the epoch in which it voted,
+    /// and its vote there.
     P1b {
         epoch: u32,
         round: Round,
@@ -63,7 +63,7 @@ pub enum MsgKind {
 }
 
 impl Msg {
-    /// The kind of the message. It takes no memory.
+    /// The kind of the message.
     pub fn kind(&self) -> MsgKind
         ensures { result ≡ kind_of self.now }
     {
@@ -77,7 +77,7 @@ impl Msg {
         }
     }
 
-    /// An equal message.
+    /// An equal message. `NoMemory` if memory runs out.
     pub fn copy(&self) -> Result<Msg, NoMemory>
         ensures { IfOk result (λ copy. copy ≡ self.now) }
     {

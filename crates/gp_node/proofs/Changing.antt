@@ -8,10 +8,11 @@ use Rattle.gp_msg.specs.declared.record.Record.{Record}
 use Rattle.gp_msg.specs.declared.durable.Durable.{Durable}
 use Rattle.gp_msg.specs.Messages.{EpochPart, Entry, entry_of, part_of}
 use Rattle.gp_msg.specs.Nodes.{node_of}
-use Rattle.gp_run.specs.Runs.{entries_in}
+use Rattle.gp_run.specs.Runs.{newest_first}
 use Rattle.gp_vlog.specs.Logs.{LogState}
 use Rattle.gp_rules.specs.Own.{own}
-use Rattle.gp_rules.specs.Owning.{same_tells, own_append}
+use Rattle.gp_rules.specs.SameNodes.{same_tells}
+use Rattle.gp_rules.proofs.OwnRecords.{own_append}
 use Rattle.gp_rules.specs.Cores.{core_at, part_in}
 use Rattle.gp_rules.specs.Still.{AreOthers, core_other, core_still, entries_append}
 use Rattle.gp_cell.specs.Cells.{PostsOne}
@@ -29,7 +30,7 @@ still_parts config n (e ∷ more) es ps o h = (ps, still_parts config n more es 
 pub holds_new : {D : Type 0} (config : Counts) (n : Node) (seen : List Record) (log : LogState D) → own n seen ≡ [] → log.entries ≡ [] → HoldsLastParts config n seen (Some log)
 holds_new config n seen log none e = record {
   parts = [];
-  are = subst (λ es. AreParts config n es []) (append-nil (entries_in seen)) (still_parts config n (entries_in seen) [] [] (nothing_own n seen none) refl);
+  are = subst (λ es. AreParts config n es []) (append-nil (newest_first seen)) (still_parts config n (newest_first seen) [] [] (nothing_own n seen none) refl);
   front = [];
   split = sym (ap (map part_of) e);
 }
@@ -59,24 +60,24 @@ between config n before after event at x =
     front_empty (own n x.more) x.item (cancel (own n before) (own n x.more ++ x.item ∷ []) (x.item ∷ []) (sym all ∙ x.one))
 
 -- the run after the record
-after_is : (config : Counts) (n : Node) (before after : List Record) (event : Event) (x : PostsOne config n before after event) → entries_in after ≡ entry_of x.item ∷ (entries_in x.more ++ entries_in before)
+after_is : (config : Counts) (n : Node) (before after : List Record) (event : Event) (x : PostsOne config n before after event) → newest_first after ≡ entry_of x.item ∷ (newest_first x.more ++ newest_first before)
 after_is config n before after event x =
-    ap entries_in x.grown ∙ entries_append x.ahead (x.item ∷ []) ∙ ap (λ es. entry_of x.item ∷ es) (ap entries_in x.begins ∙ entries_append before x.more)
+    ap newest_first x.grown ∙ entries_append x.ahead (x.item ∷ []) ∙ ap (λ es. entry_of x.item ∷ es) (ap newest_first x.begins ∙ entries_append before x.more)
 
 module _ (config : Counts) (n : Node) (before after : List Record) (event : Event) (at : node_of event ≡ n) (x : PostsOne config n before after event) where
   -- the part did not change, or changed to this one
-  grown_parts : (ps qs : List EpochPart) → AreParts config n (entries_in before) ps → Grows (part_in (core_at config n (entries_in before))) (part_in (core_at config n (entries_in after))) ps qs → AreParts config n (entries_in after) qs
+  grown_parts : (ps qs : List EpochPart) → AreParts config n (newest_first before) ps → Grows (part_in (core_at config n (newest_first before))) (part_in (core_at config n (newest_first after))) ps qs → AreParts config n (newest_first after) qs
   grown_parts ps qs h g =
       let others = nothing_own n x.more (between config n before after event at x) in
-      let still : core_at config n (entries_in x.more ++ entries_in before) ≡ core_at config n (entries_in before) = core_still config n (entries_in x.more) (entries_in before) others in
+      let still : core_at config n (newest_first x.more ++ newest_first before) ≡ core_at config n (newest_first before) = core_still config n (newest_first x.more) (newest_first before) others in
       let all = after_is config n before after event x in
       subst (λ es. AreParts config n es qs) (sym all) (
         ps,
-        still_parts config n (entries_in x.more) (entries_in before) ps others h,
-        subst (λ o. Grows o (part_in (core_at config n (entry_of x.item ∷ (entries_in x.more ++ entries_in before)))) ps qs) (ap part_in (sym still)) (subst (λ es. Grows (part_in (core_at config n (entries_in before))) (part_in (core_at config n es)) ps qs) all g),
+        still_parts config n (newest_first x.more) (newest_first before) ps others h,
+        subst (λ o. Grows o (part_in (core_at config n (entry_of x.item ∷ (newest_first x.more ++ newest_first before)))) ps qs) (ap part_in (sym still)) (subst (λ es. Grows (part_in (core_at config n (newest_first before))) (part_in (core_at config n es)) ps qs) all g),
       )
 
-  added : {D : Type 0} (old new : LogState D) (d : Durable) (h : HoldsLast config n (entries_in before) (map part_of old.entries)) → AddsPart old new d
+  added : {D : Type 0} (old new : LogState D) (d : Durable) (h : HoldsLast config n (newest_first before) (map part_of old.entries)) → AddsPart old new d
       → (front : List EpochPart) × (h.parts ++ part_of d ∷ [] ≡ front ++ map part_of new.entries)
   added old new d h (inl a) = (
     h.front,
@@ -85,7 +86,7 @@ module _ (config : Counts) (n : Node) (before after : List Record) (event : Even
   )
   added old new d h (inr a) = (h.parts, ap (λ l. h.parts ++ l) (sym (ap (map part_of) a.1)))
 
-  holds_added : {D : Type 0} (old new : Option (LogState D)) (d : Durable) → part_in (core_at config n (entries_in after)) ≡ Some (part_of d) → part_in (core_at config n (entries_in before)) ≢ Some (part_of d) → AddsToLog old new d → HoldsLastParts config n before old → HoldsLastParts config n after new
+  holds_added : {D : Type 0} (old new : Option (LogState D)) (d : Durable) → part_in (core_at config n (newest_first after)) ≡ Some (part_of d) → part_in (core_at config n (newest_first before)) ≢ Some (part_of d) → AddsToLog old new d → HoldsLastParts config n before old → HoldsLastParts config n after new
   holds_added None new d a b adds h = absurd adds
   holds_added (Some old) None d a b adds h = tt
   holds_added (Some old) (Some new) d a b adds h = let s = added old new d h adds.0 in record {
@@ -95,7 +96,7 @@ module _ (config : Counts) (n : Node) (before after : List Record) (event : Even
     split = s.1;
   }
 
-  holds_same : {D : Type 0} (log : Option (LogState D)) → part_in (core_at config n (entries_in after)) ≡ part_in (core_at config n (entries_in before)) → HoldsLastParts config n before log → HoldsLastParts config n after log
+  holds_same : {D : Type 0} (log : Option (LogState D)) → part_in (core_at config n (newest_first after)) ≡ part_in (core_at config n (newest_first before)) → HoldsLastParts config n before log → HoldsLastParts config n after log
   holds_same None e h = tt
   holds_same (Some log) e h = record {
     parts = h.parts;
@@ -104,6 +105,6 @@ module _ (config : Counts) (n : Node) (before after : List Record) (event : Even
     split = h.split;
   }
 
-  pub holds_after : {D : Type 0} (old new : Option (LogState D)) → Writes old new (part_in (core_at config n (entries_in before))) (part_in (core_at config n (entries_in after))) → HoldsLastParts config n before old → HoldsLastParts config n after new
+  pub holds_after : {D : Type 0} (old new : Option (LogState D)) → Writes old new (part_in (core_at config n (newest_first before))) (part_in (core_at config n (newest_first after))) → HoldsLastParts config n before old → HoldsLastParts config n after new
   holds_after old new (inl w) h = subst (HoldsLastParts config n after) (sym w.1) (holds_same old w.0 h)
   holds_after old new (inr w) h = holds_added old new w.0 w.1 w.2 w.3 h

@@ -4,11 +4,11 @@ use Rattle.gp_round.specs.Counts.{Counts}
 use Rattle.gp_msg.specs.declared.node.Node.{Node}
 use Rattle.gp_msg.specs.declared.record.Record.{Record}
 use Rattle.gp_msg.specs.Messages.{EpochPart, Entry, part_of}
-use Rattle.gp_run.specs.Runs.{entries_in}
+use Rattle.gp_run.specs.Runs.{newest_first}
 use Rattle.gp_vlog.specs.Logs.{LogState}
 use Rattle.gp_rules.specs.Cores.{core_at, part_in}
 
--- one more part, if it is another one
+-- one more part, if the part has changed
 abbrev pub Grows : Option EpochPart → Option EpochPart → List EpochPart → List EpochPart → Type 0
 Grows before after ps qs = ((after ≡ before) × (qs ≡ ps)) ⊎ ((p : EpochPart) × (after ≡ Some p) × (before ≢ Some p) × (qs ≡ ps ++ p ∷ []))
 
@@ -27,4 +27,4 @@ pub record HoldsLast (config : Counts) (n : Node) (es : List Entry) (entries : L
 -- the log of a node, if it has one, holds the last durable parts that the node had after these records
 abbrev pub HoldsLastParts : {D : Type 0} → Counts → Node → List Record → Option (LogState D) → Type 0
 HoldsLastParts config n seen None = Unit {0}
-HoldsLastParts config n seen (Some log) = HoldsLast config n (entries_in seen) (map part_of log.entries)
+HoldsLastParts config n seen (Some log) = HoldsLast config n (newest_first seen) (map part_of log.entries)

@@ -1,4 +1,4 @@
--- All cells of a wire, which end it.
+-- All cells of a wire, which close it.
 use Rattle.std.specs.Prelude.{List, map}
 use Rattle.gp_msg.specs.declared.node.Node.{Node}
 use Rattle.gp_wire.specs.Lists.{Has}

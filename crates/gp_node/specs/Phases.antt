@@ -1,4 +1,4 @@
--- Jobs of cells before and after a phase.
+-- Jobs of cells before and after a work phase.
 use Rattle.std.specs.Prelude.{ℕ}
 use Rattle.gp_wire.specs.Known.{WireState}
 use Rattle.gp_work.specs.declared.job.Job.{Job}
@@ -8,7 +8,7 @@ use Rattle.gp_cell.specs.Cells.{CellState}
 use Rattle.gp_cell.specs.Refusals.{IsTooGreat}
 use Rattle.gp_cell.specs.Working.{process_of, IsAt}
 
--- the job can be done at this wire, where `faults` counts the faults of a disk
+-- the job can be done at this wire; `faults` is the count of faults of a disk
 abbrev pub IsReadyJob : {D : Type 0} → (D → ℕ) → WireState PaxosRules → Job (CellState D) → Type 0
 IsReadyJob faults wire job = IsReady (process_of faults) (λ c w. IsAt c w) wire job
 

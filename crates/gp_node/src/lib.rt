@@ -1,4 +1,4 @@
-//! Nodes that run in threads: cells with their logs, the work of a phase, and the list that they posted.
+//! Nodes that run in threads: cells with their logs, work phases, and the list that they posted.
 #![tactic(auto)]
 
 pub mod laws;

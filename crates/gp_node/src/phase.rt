@@ -1,4 +1,4 @@
-//! One phase of work.
+//! One work phase.
 ghost use Rattle.std.specs.Prelude.{◌≡◌, ◌<◌, ℕ, All, length, slice_index_or};
 ghost use Rattle.gp_cell.specs.Cells.{CellState};
 ghost use Rattle.gp_work.specs.declared.job.Job.{Job as JobOf};
@@ -12,15 +12,20 @@ use std::alloc::Global;
 use std::sync::Wait;
 use std::thread::Threads;
 
-/// What one cell is to do in a phase.
+/// What one cell is to do in a work phase.
 pub type Job<D> = gp_work::Job<Cell<D>>;
 
-/// Does the jobs of one phase, each in a thread of its own, and joins the threads. The jobs come back in order.
+/// Does the jobs of one work phase, and returns them in order. Each job has a thread of its own,
+/// and all threads are joined; no clause says so.
 ///
-/// A job makes the moves of `first`, and then takes the messages from `cursor` on that its role reads, batch by batch, until a
-/// look finds no more. A node with an odd number takes the proposals of a batch after its other messages, the newest first,
-/// so that orders can collide. After the first failure of its disk in a step the cell comes up again by `rise`, and the
-/// job goes on; the fall then replaces that move or message. Every other fault but `Waiting` ends the job.
+/// A job makes the moves of `first`, and then takes the messages, from `cursor` on, that its role
+/// reads, until a look finds no more. After the first failure of its disk in a step the cell
+/// recovers by `rise`, and the job goes on. The crash then replaces that move or message. Every
+/// other fault except `Waiting` ends the job.
+///
+/// No clause says in which order messages are taken. They are taken batch by batch, and a node with
+/// an odd number takes the proposals of a batch after its other messages, the newest first, so that
+/// values can collide.
 pub fn workers<D: Disk + Send, W: Threads + Wait + Sync, G: Gate + Sync>(
     rt: &W,
     alloc: Global,

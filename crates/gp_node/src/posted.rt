@@ -1,7 +1,7 @@
 //! The list of a wire that has ended.
 ghost use Rattle.std.specs.Prelude.{◌≡◌, ◌≤◌, [], length, map, vec_capacity, IfOk, IfErr};
 ghost use Rattle.gp_run.specs.Legal.{Legal};
-ghost use Rattle.gp_run.specs.Runs.{entries_in};
+ghost use Rattle.gp_run.specs.Runs.{newest_first};
 ghost use Rattle.gp_wire.specs.Ends.{Closed};
 ghost use Rattle.gp_rules.specs.Lawful.{paxos_legal};
 ghost use Rattle.gp_cell.specs.Cells.{pass_of, log_of};
@@ -16,9 +16,9 @@ use gp_wire::{Pass, Wire};
 use std::alloc::Global;
 use std::marker::Model;
 
-/// The records that the cells of a wire posted, in their order. Only `finish` makes one, and it cannot be copied. A cell begins
-/// without a record of its node, and only `step` and `rise` post for that node, so such a call of a cell posted each record.
-/// A contract sees it as a list.
+/// The records that the cells of a wire posted, in their order. Only `finish` makes one, and it
+/// cannot be copied. A cell begins without a record of its node, and only `step` and `rise` post
+/// for that node. So each record was posted by a call of `step` or `rise`. A contract sees a list.
 #[derive(Drop, Debug)]
 pub struct Posted {
     records: Records,
@@ -34,7 +34,7 @@ impl Model for Posted {
 }
 
 impl Posted {
-    /// The records, the oldest first. It takes no memory.
+    /// The records, the oldest first.
     pub fn records(&self) -> &[Record]
         ensures { result.now ≡ self.now }
     {
@@ -42,23 +42,24 @@ impl Posted {
     }
 }
 
-/// What is left of a wire and its cells: the list, and the logs in the order of the cells.
+/// What remains of a wire and its cells: the list, and the logs in the order of the cells.
 #[derive(Drop)]
 pub struct Finished<D: Disk> {
     pub posted: Posted,
     pub logs: Vec<Option<Log<D>>>,
 }
 
-/// Memory ran out, and the wire was not closed. Both come back.
+/// The wire and its cells, if memory ran out. The wire is not closed.
 #[derive(Drop)]
 pub struct Unfinished<D: Disk> {
     pub wire: Wire<PaxosRules>,
     pub cells: Vec<Cell<D>>,
 }
 
-/// Closes a wire with the passes of its cells, which together hold all its nodes. The list that was posted is a legal run, the
-/// list of each pass is a beginning of it, and it has of each node just the records that the pass which holds the node has
-/// seen. All memory is taken before anything is closed.
+/// Closes a wire with the passes of its cells, which together hold all its nodes. The list that was
+/// posted is a legal run. What each pass has seen is a beginning of it, and of each node it has
+/// exactly the records that the pass which holds the node has seen. If memory runs out, the wire
+/// and the cells come back.
 pub fn finish<D: Disk>(
     alloc: Global,
     wire: Wire<PaxosRules>,
@@ -66,7 +67,7 @@ pub fn finish<D: Disk>(
 ) -> Result<Finished<D>, Unfinished<D>>
     requires { AreAllCells wire cells.items }
     ensures closed { IfOk result (λ f. Closed (paxos_legal wire.rules.config) wire.nodes (map pass_of cells.items) f.posted) }
-    ensures legal { IfOk result (λ f. Legal wire.rules.config (entries_in f.posted)) }
+    ensures legal { IfOk result (λ f. Legal wire.rules.config (newest_first f.posted)) }
     ensures logs { IfOk result (λ f. f.logs.items ≡ map log_of cells.items) }
     ensures back { IfErr result (λ u. (u.wire ≡ wire) × (u.cells ≡ cells)) }
 {

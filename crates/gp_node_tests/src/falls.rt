@@ -1,4 +1,4 @@
-//! A coordinator whose disk fails in its first move, so that it falls.
+//! A coordinator whose disk fails in its first move, so that it crashes.
 use crate::alone::{Alone, make_alone};
 use gp_edge::Idle;
 use gp_msg::{Event, Kept, Node};
@@ -25,7 +25,7 @@ fn rise_posts_a_fall(rt: HostRuntime) -> Result<(), Fail> {
     Ok(())
 }
 
-// The call of the disk with this number fails in the move, and the fall keeps the move or not.
+// The call of the disk with this number fails in the move, and the crash keeps the move or not.
 fn check_fall<R: Wait + Abort>(
     rt: &R,
     alloc: Global,

@@ -1,4 +1,5 @@
-//! Tests of running nodes: cells that step and come up again, phases of work in threads, and the end of a wire.
+//! Tests of running nodes: cells that step and restart, work phases in threads, and the end of a
+//! wire.
 #![tactic(auto)]
 
 mod alone;

@@ -1,4 +1,5 @@
-//! Phases of work in threads: a proposer offers a command, a coordinator begins a round, and the learner learns it.
+//! Work phases in threads: a proposer offers a command, a coordinator begins a round, and the
+//! learner learns it.
 ghost use Rattle.std.specs.Prelude.{◌≡◌, ◌<◌, ◌≤◌, false, length, IfOk, IfSome, All};
 ghost use Rattle.gp_msg.specs.Nodes.{is_present};
 ghost use Rattle.gp_wire.specs.Lists.{Each};
@@ -48,7 +49,7 @@ fn a_learner_learns_what_is_offered(rt: HostRuntime) -> Result<(), Fail> {
     Ok(())
 }
 
-// Does phases until a learner has learned the command.
+// Runs work phases until a learner has learned the command.
 fn learn<R: Threads + Wait + Sync>(
     rt: &R,
     alloc: Global,
@@ -71,7 +72,7 @@ fn learn<R: Threads + Wait + Sync>(
     false
 }
 
-// Does a phase, unless a job ends early.
+// Runs a work phase, unless a job ends early.
 fn run_phase<R: Threads + Wait + Sync>(
     rt: &R,
     alloc: Global,

@@ -1,4 +1,5 @@
-//! Phases until nothing is left to do: the leader begins a multi round, and a single round once that one has clashed.
+//! Work phases until nothing is left to do: the leader begins a multi round, and a single round
+//! after that one has collided.
 ghost use Rattle.std.specs.Prelude.{◌≡◌, ◌≤◌, ◌++◌, ◌∷◌, [], true, length, IfOk, OnOk, All};
 ghost use Rattle.gp_msg.specs.Nodes.{is_present};
 ghost use Rattle.gp_wire.specs.Lists.{Each};
@@ -23,7 +24,7 @@ use std::sync::Wait;
 use std::test::Fail;
 use std::thread::Threads;
 
-// The proposer stands last, and its pass is taken first.
+// The proposer is last, and its pass is taken first.
 static NODES: [Node; 7] = [
     Node::Coordinator(0),
     Node::Coordinator(1),
@@ -53,14 +54,15 @@ const MOST_OFFERS: usize = 8;
 // The keys that the offered commands write, a node, and the numbers of the calls of its disk that fail.
 type Scene = (&'static str, Node, &'static [u64]);
 
-// What phases come to: whether they end quietly, the calls, and how many commands are learned.
+// What work phases lead to: whether they end quietly, the calls, and how many commands are learned.
 type Case = (Scene, bool, &'static [Call], usize);
 
 const NOTHING: &[u64] = &[];
 
-// Coordinator 1 takes the offers in the other order than coordinator 0. The first three calls of a disk make its log, and the
-// next four append the first entry; a node whose disk fails there falls, and it ends its work if the disk fails again
-// when it comes up. A leader that falls in its first move has begun no round.
+// Coordinator 1 takes the offers in the other order than coordinator 0. The first three calls of a
+// disk make its log, and the next four append the first entry. A node whose disk fails there
+// crashes, and it ends its work if the disk fails again when it restarts. A leader that crashes in
+// its first move has begun no round.
 static CASES: [Case; 6] = [
     (("", Node::Acceptor(0), NOTHING), true, &[FIRST], 0),
     (("ab", Node::Acceptor(0), NOTHING), true, &[FIRST], 2),
@@ -75,7 +77,8 @@ static CASES: [Case; 6] = [
     (("", Node::Coordinator(0), &[3, 4]), false, &[FIRST], 0),
 ];
 
-// What phases came to: whether they ended quietly, whether these were the calls, and how many commands were learned.
+// What work phases led to: whether they ended quietly, whether these were the calls, and how many
+// commands were learned.
 type Outcome = (bool, bool, usize);
 
 #[test]
@@ -89,7 +92,7 @@ fn a_clash_is_answered_by_a_single_round(rt: HostRuntime) -> Result<(), Fail> {
     Ok(())
 }
 
-// Offers commands that write these keys, and runs the phases.
+// Offers commands that write these keys, and runs the work phases.
 fn run<R: Threads + Wait + Sync>(
     rt: &R,
     alloc: Global,
@@ -134,7 +137,7 @@ fn run<R: Threads + Wait + Sync>(
     ))
 }
 
-// Posts the offers. Answers whether all were posted.
+// Posts the offers. Returns whether all were posted.
 fn offer<R: Threads + Wait + Sync>(
     rt: &R,
     alloc: Global,

@@ -22,7 +22,7 @@ use Rattle.gp_script.proofs.Steps.{step_says}
 use Rattle.gp_script.proofs.ItemLemmas.{item_read}
 use Rattle.gp_text.specs.declared.limits.TheConstants as play
 use Rattle.gp_text.specs.Reading.{Whole, Refused, Sofar, Shown, messages_after, is_offer, lacks_kept, is_passed, holds_limit, nodes_line, add_event, add_item, item_in, reading_from, reading}
-use Rattle.gp_text.specs.Reading.{table_line as play_table_line, after_line as play_line, follow as play_lines, behind}
+use Rattle.gp_text.specs.Reading.{table_line as play_table_line, after_line as play_line, follow as play_lines, said_so_far}
 use Rattle.gp_text.proofs.EventSteps.{count_more}
 use Rattle.gp_text.proofs.TraceLines.{with_event}
 use Rattle.gp_text.proofs.LineSteps.{reading_opens, reading_from_end, reading_from_too_long, reading_from_passed, reading_from_goes, reading_from_refused}
@@ -138,7 +138,7 @@ next_grows config sofar next text (SaysItem said passed is adds) = adds_grow sof
 
 -- ---- from line to line
 
--- a script that is read whole is read on behind this line
+-- a script that is read whole is read on after this line
 record GoesOn (config own : Counts) (n place : ℕ) (sofar said : Sofar) (line : List ℕ) (lines : List (List ℕ)) : Type 0 where
   short : holds_limit place line ≡ false
   next : Sofar
@@ -148,11 +148,11 @@ record GoesOn (config own : Counts) (n place : ℕ) (sofar said : Sofar) (line :
 goes_cases : (config own : Counts) (n place : ℕ) (sofar said : Sofar) (line : List ℕ) (lines : List (List ℕ)) (long : Bool) (r : Result Sofar Reason) → holds_limit place line ≡ long → play_line store_language config sofar (text_of line) ≡ r
     → play_lines store_language config n place sofar (line ∷ lines) ≡ Whole own said → GoesOn config own n place sofar said line lines
 goes_cases config own n place sofar said line lines true r is of e =
-    let refused : Refused n TooLong (behind config sofar) ≡ Whole own said = sym (play_too_long store_language config n place sofar line lines is) ∙ e in absurd cc
+    let refused : Refused n TooLong (said_so_far config sofar) ≡ Whole own said = sym (play_too_long store_language config n place sofar line lines is) ∙ e in absurd cc
 goes_cases config own n place sofar said line lines false (Ok next) is of e =
     record { short = is; next = next; adds = line_next config sofar next (text_of line) of; rest = sym (play_goes store_language config n place sofar next line lines is of) ∙ e }
 goes_cases config own n place sofar said line lines false (Err reason) is of e =
-    let refused : Refused n reason (behind config sofar) ≡ Whole own said = sym (play_refused store_language config n place sofar line lines reason is of) ∙ e in absurd cc
+    let refused : Refused n reason (said_so_far config sofar) ≡ Whole own said = sym (play_refused store_language config n place sofar line lines reason is of) ∙ e in absurd cc
 
 goes_on : (config own : Counts) (n place : ℕ) (sofar said : Sofar) (line : List ℕ) (lines : List (List ℕ)) → play_lines store_language config n place sofar (line ∷ lines) ≡ Whole own said
     → GoesOn config own n place sofar said line lines
@@ -189,7 +189,7 @@ offer_again : (offers : Offers) (text : List ℕ) (offer : Offer) → is_passed 
 unfolding after_line table_line with_offer
 offer_again offers text offer passed of few = rw (passed, of, lt-leb MOST_OFFERS (length offers.list) few) refl
 
--- ---- the lines behind a configuration
+-- ---- the lines after a configuration
 
 -- these lines are read as offers
 abbrev Again : ℕ → ℕ → Offers → List (List ℕ) → Type 0

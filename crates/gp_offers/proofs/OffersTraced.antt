@@ -10,7 +10,7 @@ use Rattle.gp_msg.specs.declared.event.Event.{Event}
 use Rattle.gp_msg.specs.declared.event.Event.TheVariants as event
 use Rattle.gp_msg.specs.Messages.{Entry}
 use Rattle.gp_run.specs.Legal.{Legal}
-use Rattle.gp_run.specs.Runs.{entry_after, run_onto, run_of, AllFit, events_of}
+use Rattle.gp_run.specs.Runs.{entry_after, run_onto, run_of, AllFit, oldest_first}
 use Rattle.gp_run.proofs.Running.{legal_run, events-cons}
 use Rattle.gp_service.specs.Stores.{store_language}
 use Rattle.gp_service.specs.StoreLaws.{store_spelled}
@@ -30,12 +30,12 @@ offers_fit c es (offer ∷ offers) all =
     (lt-ltb offer.0 8 first.0, offers_fit c (entry_after c es (event.Offer offer.0 offer.1) ∷ es) offers (All-tail IsOffer offer offers all))
 
 -- the events of the run of some events are these
-events-run_onto : (c : Counts) (es : List Entry) (events : List Event) → events_of (run_onto c es events) ≡ events_of es ++ events
-events-run_onto c es [] = sym (append-nil (events_of es))
+events-run_onto : (c : Counts) (es : List Entry) (events : List Event) → oldest_first (run_onto c es events) ≡ oldest_first es ++ events
+events-run_onto c es [] = sym (append-nil (oldest_first es))
 events-run_onto c es (event ∷ events) =
     events-run_onto c (entry_after c es event ∷ es) events
     ∙ ap (λ xs. xs ++ events) (events-cons (entry_after c es event) es)
-    ∙ append_assoc (events_of es) (event ∷ []) events
+    ∙ append_assoc (oldest_first es) (event ∷ []) events
 
 offers_within : (offers : Offers) → AreOffered offers → IsWithinScript store_language (offer_events offers.list)
 offers_within offers a =
@@ -54,9 +54,9 @@ pub offers_traced : (offers : Offers) → AreOffered offers → offers_reading (
 offers_traced offers a =
     let events = offer_events offers.list in
     let run = run_of offers.config events in
-    let same : events_of run ≡ events = events-run_onto offers.config [] events in
+    let same : oldest_first run ≡ events = events-run_onto offers.config [] events in
     let legal : Legal offers.config run = legal_run offers.config [] events tt (offers_fit offers.config [] offers.list a.each) in
-    let within : IsWithinScript store_language (events_of run) = subst (IsWithinScript store_language) (sym same) (offers_within offers a) in
+    let within : IsWithinScript store_language (oldest_first run) = subst (IsWithinScript store_language) (sym same) (offers_within offers a) in
     let read = trace_read store_language store_spelled offers.config run a.range legal within in
     script_again (trace offers.config events) offers a.few
     (ap (λ (es : List Event). reading (trace offers.config es)) (sym same) ∙ read ∙ ap (λ (es : List Event). Whole offers.config (record { events = es; shown = [] })) same)

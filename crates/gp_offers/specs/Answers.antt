@@ -1,4 +1,4 @@
--- What reading a script of `run` answers.
+-- The result of reading a script of `run`.
 use Rattle.std.specs.Prelude.{◌≡◌, ℕ, Result, Ok, Err}
 use Rattle.gp_script.specs.declared.fault.LineFault.{LineFault}
 use Rattle.gp_script.specs.declared.fault.LineFault.TheVariants as fault
@@ -12,7 +12,7 @@ abbrev pub unread_at : ℕ → LineFault → Unread
 unread_at line fault.NoMemory = NoMemory
 unread_at line (fault.Refused reason) = Bad line reason
 
--- the answer is what the script says, or its first refused line with the reason, unless memory ran out
+-- the result is what the script says, or its first refused line with the reason, unless memory ran out
 abbrev pub Reads : OffersReading → Result Offers Unread → Type 0
 Reads read (Ok offers) = read ≡ Offered offers
 Reads read (Err (Bad line reason)) = read ≡ RefusedAt line reason

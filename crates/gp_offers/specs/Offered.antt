@@ -1,4 +1,4 @@
--- What a script of `run` can offer, and the events of it.
+-- What a script of `run` can offer, and the events of its offers.
 use Rattle.std.specs.Prelude.{◌≡◌, ℕ, ◌≤◌, ◌<◌, List, [], length, map}
 use Rattle.std.specs.List.{All}
 use Rattle.gp_command.specs.declared.command.TheConstants.{PROPOSERS}

@@ -34,7 +34,7 @@ offer_in (item.Take node message) = Err BadLine
 offer_in (item.Fall node what) = Err BadLine
 offer_in (item.Show learner) = Err BadLine
 
--- what a line offers in this configuration, its operation being one of the key store; no other line than an offer stands behind the `nodes` line
+-- what a line offers in this configuration, by an operation of the key store; after the `nodes` line only offers are allowed
 abbrev pub offer_by : Counts → Form → Result Offer Reason
 offer_by config (NodesLine acceptors coordinators learners) = Err BadLine
 offer_by config (OfferLine node words) = item_of store_language config (OfferLine node words) >>= offer_in
@@ -43,19 +43,19 @@ offer_by config (TakeLine node message) = Err BadLine
 offer_by config (FallLine node what) = Err BadLine
 offer_by config (ShowLine node) = Err BadLine
 
--- the same of a line's text
+-- the same for the text of a line
 unfoldable pub offer_line : Counts → List ℕ → Result Offer Reason
 offer_line config text = do
   form ← ok_or (form_of (tokens_of text)) BadLine
   offer_by config form
 
--- one offer more, if a script may have it
+-- one more offer, unless the script already has as many as it may have
 unfoldable pub with_offer : Offers → Offer → Result Offers Reason
 with_offer offers offer =
     if nat_le MOST_OFFERS (length offers.list) then Err TooManyCommands
     else Ok (record { config = offers.config; list = offers.list ++ offer ∷ [] })
 
--- what a line of the table says: the first one the configuration, and each behind it one offer more
+-- what a line of the table says: the first line gives the configuration, and each line after it one more offer
 unfoldable pub table_line : Option Offers → List ℕ → Result Offers Reason
 table_line None text = do
   config ← nodes_line text
@@ -74,12 +74,12 @@ abbrev pub on_line : Result (Option Offers) Reason → (Option Offers → Offers
 on_line (Ok more) go number = go more
 on_line (Err reason) go number = RefusedAt number reason
 
--- behind the last line: without a configuration the script is refused there
+-- after the last line: a script without a configuration is refused there
 abbrev pub ended : ℕ → Option Offers → OffersReading
 ended number None = RefusedAt number NoNodesLine
 ended number (Some offers) = Offered offers
 
--- the lines from the one with this number and place on, behind those that said this
+-- the lines from the one with this number and place on, after lines that said this
 unfoldable pub follow : ℕ → ℕ → Option Offers → List (List ℕ) → OffersReading
 follow number place so_far [] = ended number so_far
 follow number place so_far (line ∷ lines) =

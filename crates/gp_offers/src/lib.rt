@@ -1,4 +1,5 @@
-//! The script of `run`: a configuration, and what is offered to the nodes that run it.
+//! The script of `run`, which is also that of `adapt` and `views`: a configuration, and what is
+//! offered to the nodes that run it.
 #![tactic(auto)]
 
 pub mod laws;

@@ -1,4 +1,4 @@
-//! How much a script of `run` may have.
+//! The limit on the offers of a script of `run`.
 
-/// The most offers of a script of `run`.
+/// The greatest number of offers in a script of `run`.
 pub const MOST_OFFERS: usize = 64;

@@ -1,9 +1,6 @@
 //! What the lines of a script of `run` add.
-ghost use Rattle.std.specs.Prelude.{◌≡◌, ◌<◌, ◌+◌, ◌^◌, length};
-ghost use Rattle.gp_words.specs.Tokens.{texts};
 ghost use Rattle.gp_script.specs.FormViews.{form_view};
 ghost use Rattle.gp_script.specs.Faults.{Says};
-ghost use Rattle.gp_text.specs.Reading.{is_nodes, nodes_line, is_passed, holds_limit};
 ghost use Rattle.gp_offers.specs.Offering.{offer_by, offer_line, with_offer, table_line, after_line};
 
 use crate::limits::MOST_OFFERS;
@@ -11,55 +8,13 @@ use crate::list::OfferList;
 use crate::script::Offers;
 use gp_command::Draft;
 use gp_round::Config;
-use gp_script::{Form, Item, LineFault, Reason, config_of, form_of, item_of};
+use gp_script::{Form, Item, LineFault, Reason, form_of, item_of};
 use gp_store::KeyStore;
-use gp_text::MOST_BYTES;
+use gp_text::{is_passed, nodes_line};
 use gp_words::tokens_of;
 use std::alloc::Global;
 
-/// Whether a line that begins at this place holds the byte that is too many.
-pub fn holds_limit(place: usize, line: &[u8]) -> bool
-    requires { place + length line.now < 2 ^ 64 }
-    ensures { result ≡ holds_limit place line.now }
-{
-    place <= MOST_BYTES && MOST_BYTES < place + line.len()
-}
-
-// Whether a line is empty or begins with `#`.
-fn is_passed(text: &[u8]) -> bool
-    ensures { result ≡ is_passed text.now }
-{
-    match text {
-        [] => true,
-        [byte, ..] => *byte == b'#',
-    }
-}
-
-fn is_nodes(tokens: &[&[u8]]) -> bool
-    ensures { result ≡ is_nodes (texts tokens.now) }
-{
-    match tokens {
-        [] => false,
-        [word, ..] => *word == b"nodes".as_slice(),
-    }
-}
-
-// The configuration that the first line says.
-#[tactic(auto, unfolding(gp_text::specs::Reading::nodes_line))]
-fn nodes_line(alloc: Global, text: &[u8]) -> Result<Config, LineFault>
-    ensures { Says result (nodes_line text.now) }
-{
-    let tokens = tokens_of(alloc, text)?;
-    if !is_nodes(&tokens) {
-        return Err(LineFault::Refused(Reason::NoNodesLine));
-    }
-    match form_of(&tokens) {
-        Some(form) => Ok(config_of(form)?),
-        None => Err(LineFault::Refused(Reason::BadLine)),
-    }
-}
-
-// Who offers what by a line of the table.
+// The proposer and the draft of an offer in a line of the table.
 fn offer_by(alloc: Global, config: &Config, form: Form<'_, '_>) -> Result<(u32, Draft), LineFault>
     ensures { Says result (offer_by config.now (form_view form.entry)) }
 {
@@ -83,7 +38,7 @@ fn offer_line(alloc: Global, config: &Config, text: &[u8]) -> Result<(u32, Draft
     }
 }
 
-// One offer more, if a script may have it.
+// Adds an offer, unless the script already has as many as it may have.
 #[tactic(auto, unfolding(crate::specs::Offering::with_offer))]
 fn with_offer(offers: Offers, offer: (u32, Draft)) -> Result<Offers, LineFault>
     ensures { Says result (with_offer offers offer) }
@@ -98,7 +53,7 @@ fn with_offer(offers: Offers, offer: (u32, Draft)) -> Result<Offers, LineFault>
     }
 }
 
-// What a line of the table adds: the first one says the configuration, and the others are offers.
+// What a line of the table adds: the first line gives the configuration, and the others are offers.
 #[tactic(auto, unfolding(crate::specs::Offering::table_line))]
 fn table_line(alloc: Global, so_far: Option<Offers>, text: &[u8]) -> Result<Offers, LineFault>
     ensures { Says result (table_line so_far text.now) }

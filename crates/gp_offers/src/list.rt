@@ -22,7 +22,7 @@ impl Model for OfferList {
 }
 
 impl OfferList {
-    /// No offers. It takes no memory.
+    /// A list without offers.
     pub fn new(alloc: Global) -> OfferList
         ensures { result ≡ [] }
     {
@@ -31,7 +31,7 @@ impl OfferList {
         }
     }
 
-    /// Appends an offer. If memory runs out, the offer comes back and the list stays unchanged.
+    /// Appends an offer. If memory runs out, the offer is returned and the list stays unchanged.
     pub fn push(&mut self, item: (u32, Draft)) -> Result<(), (u32, Draft)>
         ensures pushed { OnOk result (self.new ≡ self.old ++ item ∷ []) }
         ensures unchanged { OnErr result (self.new ≡ self.old) }
@@ -43,7 +43,7 @@ impl OfferList {
         }
     }
 
-    /// The offers, the first one first. It takes no memory.
+    /// The offers, in their order.
     pub fn as_slice(&self) -> &[(u32, Draft)]
         ensures { result.now ≡ self.now }
     {

@@ -4,10 +4,11 @@ ghost use Rattle.gp_offers.specs.Offering.{offers_reading};
 ghost use Rattle.gp_offers.specs.Answers.{Reads, unread_at};
 ghost use Rattle.gp_offers.specs.Offered.{AreOffered};
 
-use crate::lines::{after_line, holds_limit};
+use crate::lines::after_line;
 use crate::list::OfferList;
 use gp_round::Config;
 use gp_script::{LineFault, Reason};
+use gp_text::holds_limit;
 use gp_words::{first_line, text_of};
 use std::alloc::Global;
 
@@ -18,10 +19,10 @@ pub struct Offers {
     pub list: OfferList,
 }
 
-/// Why a script is not read to its end.
+/// Why a script was not read to its end.
 #[derive(Clone, Copy, Debug, PartialEq, Eq)]
 pub enum Unread {
-    /// A line, numbered from 1, is the first that is refused.
+    /// `line`, counted from 1, is the first line that is refused, for `reason`.
     Bad { line: u64, reason: Reason },
     /// Memory ran out.
     NoMemory,
@@ -39,11 +40,12 @@ impl Unread {
     }
 }
 
-/// Reads a script of `run`: a `nodes` line, and then lines that offer operations of the key store.
+/// Reads a script of `run`: a `nodes` line, followed by lines that offer operations of the key
+/// store.
 ///
-/// A script is refused at its first line that is not in order, with the first reason in the order of the
-/// line's tokens. Every line of the table but the first one and offers is `Reason::BadLine`, and the 65th
-/// offer is `Reason::TooManyCommands`.
+/// A script is refused at the first line that breaks a rule, for the first reason in the order of
+/// the tokens of that line. After the `nodes` line, every line of the table that is not an offer is
+/// refused with `Reason::BadLine`. The 65th offer is refused with `Reason::TooManyCommands`.
 pub fn read_offers(alloc: Global, bytes: &[u8]) -> Result<Offers, Unread>
     ensures reads { Reads (offers_reading bytes.now) result }
 

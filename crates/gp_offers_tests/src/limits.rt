@@ -4,7 +4,7 @@ use gp_offers::{MOST_OFFERS, Reason, read_offers};
 use std::alloc::Global;
 use std::test::Fail;
 
-// A configuration, this line so many times, and then this text.
+// A configuration, then `line` repeated `count` times, and then `end`.
 fn repeated(alloc: Global, line: &[u8], count: usize, end: &[u8]) -> Result<Vec<u8>, Fail> {
     let mut script = Vec::from_slice(alloc, b"nodes 3 1 1\n")?;
     for _ in 0..count {
@@ -14,7 +14,7 @@ fn repeated(alloc: Global, line: &[u8], count: usize, end: &[u8]) -> Result<Vec<
     Ok(script)
 }
 
-// These bytes, and then as many of a comment that there are so many bytes, and then this text.
+// These bytes, then a comment that fills them up to `length` bytes, and then `end`.
 fn filled(alloc: Global, bytes: &[u8], length: usize, end: &[u8]) -> Result<Vec<u8>, Fail> {
     let mut script = Vec::from_slice(alloc, bytes)?;
     for _ in script.len()..length {
@@ -24,7 +24,7 @@ fn filled(alloc: Global, bytes: &[u8], length: usize, end: &[u8]) -> Result<Vec<
     Ok(script)
 }
 
-// Whether a script is read to its end, and has so many offers.
+// Whether a script is read to its end, and has this many offers.
 fn has_offers(alloc: Global, script: &[u8], count: usize) -> bool {
     match read_offers(alloc, script) {
         Ok(offers) => offers.list.as_slice().len() == count,
@@ -40,7 +40,7 @@ fn a_script_has_64_offers(rt: HostRuntime) -> Result<(), Fail> {
     Ok(())
 }
 
-// What stands behind 64 offers, and why it is refused.
+// What follows 64 offers, and why it is refused.
 static BEHIND: [(&'static [u8], Reason); 5] = [
     (b"offer p0 put a 1\n", Reason::TooManyCommands),
     (b"offer p7 checkpoint", Reason::TooManyCommands),

@@ -6,13 +6,13 @@ use std::test::Fail;
 // A script, the line that is refused, and why.
 type Row = (&'static [u8], u64, Reason);
 
-// A line behind the configuration, and why it is refused.
+// A line after the configuration, and why it is refused.
 type Line = (&'static [u8], Reason);
 
 static SCRIPTS: [Row; 17] = [
     // no line at all
     (b"", 1, Reason::NoNodesLine),
-    // no line but those that are passed over
+    // no line except those that are passed over
     (b"\n# c\n", 3, Reason::NoNodesLine),
     (b"\n# c", 3, Reason::NoNodesLine),
     // a first line that is another row of the table, or none
@@ -38,7 +38,7 @@ static SCRIPTS: [Row; 17] = [
         2,
         Reason::BadKey,
     ),
-    // behind comments, empty lines and an offer, and without a line feed
+    // after comments, empty lines and an offer, and without a line feed
     (
         b"# c\n\nnodes 3 1 2\n# c\n\noffer p0 get a\nshow l0",
         7,
@@ -49,24 +49,24 @@ static SCRIPTS: [Row; 17] = [
 ];
 
 static LINES: [Line; 25] = [
-    // what a script that is played may say, and this one may not
+    // what a script that is played may say, and a script of `run` may not
     (b"begin c0 1 multi", Reason::BadLine),
     (b"take c0 0", Reason::BadLine),
     (b"fall a0", Reason::BadLine),
     (b"fall a0 take 0", Reason::BadLine),
     (b"fall c0 begin 1 single", Reason::BadLine),
     (b"show l0", Reason::BadLine),
-    // a fault in it is not told
+    // a fault in it is not reported
     (b"begin c9 0 fast", Reason::BadLine),
     (b"take x 00", Reason::BadLine),
     (b"fall p0", Reason::BadLine),
     (b"show l9", Reason::BadLine),
-    // a word of no table
+    // a word that is not in the table
     (b"offers p0 get a", Reason::BadLine),
     (b"run", Reason::BadLine),
-    // an empty token, before a node that is not there
+    // an empty token, before a node that does not exist
     (b"offer p9  get a", Reason::BadLine),
-    // words of no operation, before a node that is not there
+    // words that are not an operation, before a node that does not exist
     (b"offer p0", Reason::BadLine),
     (b"offer p9 put a", Reason::BadLine),
     (b"offer p0 deposit a 1", Reason::BadLine),
@@ -79,7 +79,7 @@ static LINES: [Line; 25] = [
     (b"offer p0 put A x", Reason::BadKey),
     // a second key of 17 bytes
     (b"offer p0 copy a bcdefghijklmnopqr", Reason::BadKey),
-    // a number that is none, one with a leading zero, and 2^64
+    // a word that is not a number, a number with a leading zero, and 2^64
     (b"offer p0 put a x", Reason::BadNumber),
     (b"offer p0 cas a 1 01", Reason::BadNumber),
     (b"offer p0 add a 18446744073709551616", Reason::BadNumber),
@@ -93,7 +93,7 @@ pub fn is_refused(alloc: Global, script: &[u8], line: u64, reason: Reason) -> bo
     }
 }
 
-// Whether a line is refused behind a configuration and an offer.
+// Whether a line is refused after a configuration and an offer.
 fn is_refused_behind(alloc: Global, row: Line) -> Result<bool, Fail> {
     let (line, reason) = row;
     let mut script = Vec::from_slice(alloc, b"nodes 3 1 2\noffer p0 get a\n")?;

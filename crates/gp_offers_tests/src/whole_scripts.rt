@@ -11,7 +11,7 @@ type Row = (u32, &'static [u8], bool, usize);
 // The numbers of acceptors, coordinators and learners.
 type Counts = (u32, u32, u32);
 
-// One offer by each proposer, and no two of them conflict.
+// One offer by each proposer; no two of them conflict.
 const EIGHT: &[u8] = b"\
 nodes 3 3 2
 offer p0 put a 1
@@ -35,7 +35,8 @@ static EIGHT_OFFERS: [Row; 8] = [
     (7, b"copy f g", false, 2),
 ];
 
-// Comments and empty lines before the configuration, between offers and behind them, and no line feed at the end.
+// Comments and empty lines before the configuration, between offers and after them, and no line
+// feed at the end.
 const SPARSE: &[u8] = b"\
 # two offers of one proposer
 

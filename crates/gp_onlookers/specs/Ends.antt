@@ -5,12 +5,12 @@ use Rattle.gp_command.specs.declared.command.Command.{Command}
 use Rattle.gp_phase.specs.Beside.{Topics}
 use Rattle.gp_onlookers.specs.declared.looks.Look.{Look}
 
--- which feed it has, and the commands that its replica ran
+-- the feed of a publisher, and the commands that its replica ran
 pub record PublisherView : Type 0 where
   pub feed : Book
   pub ran : List Command
 
--- the key, whose reader it is, the commands that it has seen, those that it was told of, and its looks
+-- the key, the feed of the reader, the commands that it has seen, those that it was notified of, and the looks
 pub record WatcherView : Type 0 where
   pub key : List ℕ
   pub feed : Book
@@ -18,7 +18,7 @@ pub record WatcherView : Type 0 where
   pub told : List Command
   pub looks : List Look
 
--- what a watcher is about: the key, and whose reader it is
+-- what a watcher is about: the key, and the feed of its reader
 pub record WatcherTopic : Type 0 where
   pub key : List ℕ
   pub feed : Book

@@ -15,7 +15,7 @@ use Rattle.gp_onlookers.specs.declared.looks.Looks.{Looks}
 abbrev pub look_after : List ℕ → List Command → Look
 look_after key cs = record { seen = length cs; value = value_at (state_after store_rules cs) key }
 
--- it has seen so many commands of the order, and the key's value after the first so many
+-- the look has seen a number of commands of the order, and the value of the key after that many first commands
 pub record IsLook (key : List ℕ) (order : List Command) (look : Look) : Type 0 where
   pub within : look.seen ≤ length order
   pub value : look.value ≡ value_at (state_after store_rules (take look.seen order)) key
@@ -30,7 +30,7 @@ pub record AreLooks (key : List ℕ) (order : List Command) (looks : List Look) 
   pub along : HasLooked key order looks
   pub last : (before : List Look) × (looks ≡ before ++ look_after key order ∷ [])
 
--- the first look stands for one that has seen more
+-- the first look replaces one that has seen more
 abbrev pub cut_at : Look → Look → Look
 cut_at end look = cond (nat_lt end.seen look.seen) end look
 

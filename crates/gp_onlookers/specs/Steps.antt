@@ -1,11 +1,11 @@
--- What a look leaves.
+-- What a look does to a watcher.
 use Rattle.std.specs.Prelude.{◌≡◌, [], ◌∷◌, ◌++◌, Result, OnOk}
 use Rattle.gp_memory.specs.declared.memory.NoMemory.{NoMemory}
 use Rattle.gp_views.specs.Lists.{Extends}
 use Rattle.gp_onlookers.specs.Ends.{WatcherView}
 use Rattle.gp_onlookers.specs.Looks.{look_after}
 
--- a read, which sees what was seen and told of before, and one look more if it could be kept
+-- a read, which sees what the reader was notified of before, and one more look, if it could be kept
 pub record HasLookedOnce (before : WatcherView) (result : Result (Unit {0}) NoMemory) (after : WatcherView) : Type 0 where
   pub key : after.key ≡ before.key
   pub feed : after.feed ≡ before.feed

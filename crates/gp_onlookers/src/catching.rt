@@ -1,44 +1,18 @@
-//! How a replica catches up with a history that was not tested before.
-ghost use Rattle.std.specs.Prelude.{◌≡◌, ◌≢◌, ◌<◌, ◌≤◌, ℕ, IsTrue, IfOk, OnOk, Some, length, map, slice_get};
-ghost use Rattle.gp_command.specs.declared.command.Command.{Command};
+//! How a replica catches up with a history that was not checked before.
+ghost use Rattle.std.specs.Prelude.{◌≡◌, IfOk, OnOk, map};
 ghost use Rattle.gp_history.specs.Sequence.{history_of};
-ghost use Rattle.gp_replica.specs.Runs.{HasDistinctIds};
 ghost use Rattle.gp_views.specs.Lists.{Extends};
 
 use gp_command::{CommandId, NoMemory};
 use gp_history::Hist;
 use gp_index::History;
-use gp_replica::Replica;
+use gp_replica::{Replica, has_distinct_ids};
 use gp_store::KeyStore;
 use std::alloc::Global;
 
-// Whether no command before a place has this identity.
-fn is_new(learned: &History, place: usize, id: CommandId) -> bool
-    requires { place ≤ length learned.now }
-    ensures { IsTrue result → (i : ℕ) (c : Command) → i < place → slice_get learned.now i ≡ Some c → c.id ≢ id }
-{
-    for i in 0..place {
-        if learned.at(i).id() == id {
-            return false;
-        }
-    }
-    true
-}
-
-// Whether no two commands of the history have one identity.
-fn has_distinct_ids(learned: &History) -> bool
-    ensures { IsTrue result → HasDistinctIds (history_of learned.now) }
-{
-    for place in 0..learned.len() {
-        if !is_new(learned, place, learned.at(place).id()) {
-            return false;
-        }
-    }
-    true
-}
-
-/// Has the replica run what was learned behind what it ran. What it ran has to be a prefix of that, and no two
-/// commands may have one identity: one learner gives no other history, and another counts as a memory that is full.
+/// Has the replica run what was learned after what it ran. Returns `NoMemory` if memory runs out,
+/// and also if what it ran is not a prefix of `learned`, or if two commands of `learned` have the
+/// same identity. One learner that has not crashed gives no such history.
 pub fn catch_up(replica: &mut Replica<KeyStore>, learned: &History) -> Result<(), NoMemory>
     ensures all { OnOk result (history_of replica.new ≡ history_of learned.now) }
     ensures more { Extends replica.new replica.old }

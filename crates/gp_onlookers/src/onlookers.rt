@@ -20,11 +20,11 @@ use gp_views::Feed;
 use std::alloc::Global;
 use std::sync::Wait;
 
-/// A publisher whose replica has run nothing, and two watchers of its feed, who look at the key. It is not `Drop`: end it
-/// by `last_looks` or `close`.
+/// A publisher and two watchers of its feed, which look at one key. It is not `Drop`: end it with
+/// `last_looks` or `close`.
 pub type Onlookers = Trio<Publisher, Watcher>;
 
-/// Onlookers at the key, who have seen nothing.
+/// New onlookers at the key.
 pub fn watch<R: Wait>(rt: &R, alloc: Global, key: Key) -> Result<Onlookers, NoMemory>
     ensures { IfOk result (λ o. AreWatching key (topics (λ p. p.feed) topic_of o)) }
 {
@@ -47,7 +47,7 @@ pub fn watch<R: Wait>(rt: &R, alloc: Global, key: Key) -> Result<Onlookers, NoMe
     }
 }
 
-/// Closes the feed, and lets the readers go.
+/// Closes the feed, and drops the readers.
 pub fn close<R: Wait>(rt: &R, onlookers: Onlookers) {
     let Trio {
         main,
@@ -57,9 +57,11 @@ pub fn close<R: Wait>(rt: &R, onlookers: Onlookers) {
     main.close(rt);
 }
 
-/// Catches up with the history, publishes, tells both readers of it, and has each read a last time: what they saw, at
-/// each look and then. The feed is closed also where there is an error. `NoMemory` is the answer too if a publish or a look
-/// was refused before.
+/// Has the replica catch up with the history, publishes what it ran, notifies both readers, and has
+/// each of them read a last time. Returns what they saw at each look, and at the last one. The feed
+/// is closed, also after an error. Returns `NoMemory` if memory runs out, if a publish or a look
+/// was refused before, and also if the history does not extend what the replica ran or has two
+/// commands with the same identity.
 pub fn last_looks<R: Wait>(
     rt: &R,
     alloc: Global,
@@ -96,7 +98,7 @@ pub fn last_looks<R: Wait>(
     looks
 }
 
-// What both saw, once the replica has caught up, all is published, and both were told.
+// What both saw, after the replica has caught up, all is published, and both are notified.
 fn looks_of_both<R: Wait>(
     rt: &R,
     alloc: Global,
@@ -125,7 +127,7 @@ fn looks_of_both<R: Wait>(
     })
 }
 
-// What is seen of the key after all that the replica ran, which is no command twice.
+// What is seen of the key after everything that the replica ran, which has no command twice.
 fn end_of(replica: &Replica<KeyStore>, key: Key) -> Look
     ensures end { result ≡ look_after key replica.now }
     ensures distinct { IsTrue (no_repeat replica.now) }

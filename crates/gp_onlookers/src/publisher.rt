@@ -1,4 +1,4 @@
-//! A replica that catches up with a learner, and what it ran, published.
+//! A replica that catches up with a learner, and publishes what it ran.
 ghost use Rattle.std.specs.Prelude.{◌≡◌};
 ghost use Rattle.gp_views.specs.Lists.{Extends};
 
@@ -16,12 +16,12 @@ use gp_work::Job;
 use std::marker::Model;
 use std::sync::Wait;
 
-/// A replica of the key store that catches up with a learner, and a feed of what it ran. It is not `Drop`: end it by
-/// `close`.
+/// A replica of the key store that catches up with a learner, and a feed of what it ran. It is not
+/// `Drop`: end it with `close`.
 pub struct Publisher {
     pub(crate) feed: Feed,
     pub(crate) replica: Replica<KeyStore>,
-    // it could not catch up, or not publish
+    // it could not catch up, or could not publish
     pub(crate) failed: bool,
 }
 
@@ -66,7 +66,8 @@ impl Publisher {
     }
 }
 
-/// Before each phase a publisher catches up with the first learner, and while the nodes work it publishes what it ran.
+/// Before each work phase a publisher catches up with the first learner, and while the nodes work
+/// it publishes what it ran. No clause promises this.
 impl<D: Disk> Beside<Wire<PaxosRules>, Cell<D>> for Publisher {
     ghost use Rattle.logbook.specs.Pages.{Book};
 

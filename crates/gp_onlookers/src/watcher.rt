@@ -17,7 +17,7 @@ use std::alloc::Global;
 use std::marker::Model;
 use std::sync::Wait;
 
-/// A reader, its key, and what it saw of that.
+/// A reader, its key, and what it saw of the key.
 #[derive(Drop)]
 pub struct Watcher {
     reader: Reader,
@@ -45,7 +45,7 @@ impl Model for Watcher {
 }
 
 impl Watcher {
-    /// One that has not looked yet.
+    /// A watcher that has not looked yet.
     pub fn new(alloc: Global, reader: Reader, key: Key) -> Watcher
         ensures { result ≡ record { key = key; feed = reader.feed; seen = reader.seen; told = reader.told; looks = [] } }
     {
@@ -64,7 +64,9 @@ impl Watcher {
         self.key
     }
 
-    /// Reads the key once and keeps what it saw, which is at least what it saw before and what it was told of.
+    /// Reads the key once and keeps what it saw. The reader has then seen all that it was notified
+    /// of, and no fewer commands than at any look before. Returns `NoMemory` if the look cannot be
+    /// kept.
     pub fn look<R: Wait>(&mut self, rt: &R) -> Result<(), NoMemory>
         ensures { HasLookedOnce self.old result self.new }
     {
@@ -74,7 +76,7 @@ impl Watcher {
         Ok(())
     }
 
-    // Learns the note, and looks.
+    // Has the reader learn the note, and looks.
     #[tactic(auto, using(gp_views::proofs::Begun::extends_more))]
     fn look_as_told<R: Wait>(&mut self, rt: &R, told: Told) -> Result<(), NoMemory>
         requires { told.feed ≡ self.old.feed }
@@ -86,8 +88,9 @@ impl Watcher {
         self.look(rt)
     }
 
-    /// Learns the note, looks a last time, and gives all that it saw. `end` is what is seen after the list of the
-    /// note, and stands for each look behind that list too.
+    /// Has the reader learn the note, looks a last time, and returns all looks. `end` is what is
+    /// seen after the list of the note, and it replaces each look that has seen more. Returns
+    /// `NoMemory` if this look or one before could not be kept.
     pub fn last_looks<R: Wait>(
         mut self,
         rt: &R,
@@ -113,7 +116,7 @@ impl Watcher {
     }
 }
 
-/// While the nodes work, a watcher looks once.
+/// While the nodes work, a watcher looks once. No clause promises this.
 impl<D: Disk> Beside<Wire<PaxosRules>, Cell<D>> for Watcher {
     ghost use Rattle.gp_onlookers.specs.Ends.{WatcherTopic, topic_of};
 
@@ -132,7 +135,7 @@ impl<D: Disk> Beside<Wire<PaxosRules>, Cell<D>> for Watcher {
     }
 }
 
-// Has the look `end` stand for each look that has seen more.
+// Replaces each look that has seen more than `end` has.
 fn cut(looks: &mut Vec<Look>, end: Look)
     ensures { looks.new.items ≡ map (cut_at end) looks.old.items }
 {

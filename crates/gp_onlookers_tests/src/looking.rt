@@ -66,7 +66,7 @@ fn look_at_once<R: Threads + Wait + Sync>(rt: &R, onlookers: &mut Onlookers) -> 
     first.is_ok() && second.is_ok()
 }
 
-// Looks once before anything is published, and a last time behind all that was learned.
+// Looks once before anything is published, and a last time after all that was learned.
 fn looks_at<R: Threads + Wait + Sync>(
     rt: &R,
     alloc: Global,

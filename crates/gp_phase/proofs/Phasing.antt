@@ -23,7 +23,7 @@ use Rattle.gp_work.specs.declared.moves.Move.TheVariants as move
 use Rattle.gp_work.specs.Moves.{event_of, AllFit, HasOffer}
 use Rattle.gp_work.specs.Jobs.{Caused, Done, Ends, IsReady, HasWorked}
 use Rattle.gp_work.specs.declared.faults.JobFault.TheVariants.{NoMemory, Disk, Full, NotLog, Changed}
-use Rattle.gp_wire.specs.Messages.{messages_in}
+use Rattle.gp_msg.specs.Records.{messages_in}
 use Rattle.gp_work.specs.Batches.{AreRead}
 use Rattle.gp_work.proofs.Batching.{read_none}
 use Rattle.gp_work.proofs.Stretches.{goes_same, goes_on, rose_on, rose_then, posted_more}
@@ -236,8 +236,8 @@ module _ {N P : Type 0} (state : P → ProcessState) (is_of : P → N → Type 0
         (subst (λ g. Done (state j.cell) j.risen (begin_moves (rounds (option_to_list pending))) j.cursor (state k.cell) g k.cursor) down
         (subst (λ ms. Done (state j.cell) j.risen ms j.cursor (state k.cell) k.risen k.cursor) first done)) in
         let made = done_made (state j.cell) (rounds (option_to_list pending)) j.cursor (state k.cell) k.cursor d in
-        all_begun answers (state j.cell) (state k.cell) begun pending made.0 w.stretch.goes made.1 (f.all was) (f.left was);
-    left = λ down. tt;
+        all_begun answers (state j.cell) (state k.cell) begun pending made.0 w.stretch.goes made.1 (f.all was) (f.next was);
+    next = λ down. tt;
   }
 
   -- what a phase does to a job, with a fault or without
@@ -311,7 +311,7 @@ module _ {N P : Type 0} (state : P → ProcessState) (is_of : P → N → Type 0
       → answers (state j.cell).config (state j.cell).node called (state y.cell).list answer → Follows state answers j called None → Follows state answers y called answer
   follows_asked rs j0 j y called answer same g w may f = record {
     all = λ down. all_begun_on answers (state j.cell) (state y.cell) [] called w.goes w.posts (f.all (sym w.risen ∙ down));
-    left = λ down. to_begin answer down may;
+    next = λ down. to_begin answer down may;
   }
     where
       to_begin : (o : Option Call) → y.risen ≡ false → answers (state j.cell).config (state j.cell).node called (state y.cell).list o → IfSome o (IsToBegin answers (state y.cell) called)
@@ -491,7 +491,7 @@ module _ {N P : Type 0} (state : P → ProcessState) (is_of : P → N → Type 0
     first = λ i d l. (new i d l).first ∙ sym (only_none at i);
     fits = λ d. tt;
     all = sym (append-nil called);
-    follows = λ d. record { all = λ down k c e. absurd (no_call called k c none e); left = λ down. tt };
+    follows = λ d. record { all = λ down k c e. absurd (no_call called k c none e); next = λ down. tt };
     whose = whose;
   }
     where

@@ -8,12 +8,14 @@ use Rattle.gp_msg.specs.declared.node.Node.{Node}
 use Rattle.gp_msg.specs.declared.record.Record.{Record}
 use Rattle.gp_wire.specs.declared.view.Post.{Post}
 use Rattle.gp_wire.specs.Lists.{Each, Has, IsDistinct}
-use Rattle.gp_wire.specs.Messages.{messages_in}
+use Rattle.gp_msg.specs.Records.{messages_in}
 use Rattle.gp_wire.specs.Rule.{items, item, Begins}
 use Rattle.gp_wire.specs.Known.{PassState, records, old_of}
 use Rattle.gp_wire.specs.Ends.{AllBegin}
-use Rattle.gp_rules.specs.Own.{same_node, own, own_events}
-use Rattle.gp_rules.specs.Owning.{same_tells, own_append, own_foreign}
+use Rattle.gp_rules.specs.Own.{own, own_events}
+use Rattle.gp_msg.specs.Nodes.{same_node}
+use Rattle.gp_rules.specs.SameNodes.{same_tells}
+use Rattle.gp_rules.proofs.OwnRecords.{own_append, own_foreign}
 use Rattle.gp_work.specs.Batches.{is_read, AreRead}
 use Rattle.gp_phase.specs.Deeds.{takes_in}
 use Rattle.gp_phase.specs.Quiet.{node_of, posted_all, IsQuietAt, AreAll, SawAll}

@@ -1,4 +1,4 @@
--- All jobs of a phase, and what is done beside them.
+-- All jobs of a work phase, and what is done beside them.
 use Rattle.std.specs.Prelude.{◌≡◌, ◌<◌, ℕ, List, length, slice_index_or}
 use Rattle.std.specs.List.{All}
 use Rattle.gp_msg.specs.declared.event.Event.{Event}

@@ -4,7 +4,7 @@ use Rattle.gp_round.specs.declared.round.Round.{Round}
 use Rattle.gp_msg.specs.declared.node.Node.{Node}
 use Rattle.gp_msg.specs.declared.event.Event.{Event}
 use Rattle.gp_msg.specs.declared.event.Event.TheVariants.{Offer, Begin, Take, Fall}
-use Rattle.gp_wire.specs.Messages.{messages_in}
+use Rattle.gp_msg.specs.Records.{messages_in}
 use Rattle.gp_rules.specs.Own.{own_events}
 use Rattle.gp_work.specs.declared.moves.Move.{Move}
 use Rattle.gp_work.specs.declared.moves.Move.TheVariants as move
@@ -42,7 +42,7 @@ begins n rs = map (λ r. event_of n (move.Begin r)) rs
 abbrev pub begin_moves : List Round → List Move
 begin_moves rs = map (λ r. move.Begin r) rs
 
--- the node took each message below its cursor that it reads, once, and these are its other events
+-- the node took each message below its cursor that it reads, exactly once, and these are its other events
 pub record Tidy (p : ProcessState) (cursor : ℕ) (deeds : List Event) : Type 0 where
   pub read : AreRead p.node (messages_in p.list) 0 cursor (takes_in (own_events p.node p.list))
   pub acts : others_in (own_events p.node p.list) ≡ deeds

@@ -1,4 +1,4 @@
--- Phases, one after another.
+-- Work phases, one after another.
 use Rattle.std.specs.Prelude.{◌≡◌, ◌≤◌, ◌<◌, ℕ, ◌+◌, Bool, true, false, cond, nat_eq, List, [], ◌∷◌, ◌++◌, map, length, take, slice_get, slice_index_or, Option, None, Some, IfSome}
 use Rattle.std.specs.Option.{option_to_list}
 use Rattle.gp_round.specs.Counts.{Counts}
@@ -6,7 +6,7 @@ use Rattle.gp_round.specs.declared.round.Round.{Round}
 use Rattle.gp_msg.specs.declared.node.Node.{Node}
 use Rattle.gp_msg.specs.declared.event.Event.{Event}
 use Rattle.gp_msg.specs.declared.record.Record.{Record}
-use Rattle.gp_wire.specs.Messages.{messages_in}
+use Rattle.gp_msg.specs.Records.{messages_in}
 use Rattle.gp_edge.specs.Faults.{Rose}
 use Rattle.gp_rules.specs.Own.{own_events}
 use Rattle.gp_work.specs.declared.faults.JobFault.{JobFault}
@@ -22,7 +22,7 @@ use Rattle.gp_phase.specs.Deeds.{Tidy, others_in, begins, begin_moves}
 abbrev pub rounds : List Call → List Round
 rounds calls = map (λ c. c.round) calls
 
--- what stands at a place of its own, and nothing elsewhere
+-- the list at place `at`, and an empty list at every other place
 abbrev pub only_at : {A : Type 0} → ℕ → ℕ → List A → List A
 only_at at i xs = cond (nat_eq i at) xs []
 
@@ -33,7 +33,7 @@ pub record Going {N P : Type 0} (state : P → ProcessState) (is_of : P → N �
   pub up : (state k.cell).up ≡ true
   pub goes : Goes (state j.cell) (state k.cell)
   pub stays : j.risen ≡ true → k.risen ≡ true
-  -- its node has fallen only if its disk failed
+  -- its node has crashed only if its disk failed
   pub fallen : j.risen ≡ false → k.risen ≡ true → Rose (state j.cell).faults (state k.cell).faults
   pub tidy : k.risen ≡ false → Tidy (state k.cell) k.cursor (begins (state k.cell).node rounds)
 
@@ -45,17 +45,17 @@ FaultCause before now too_great (Full size need) = (e : Event) × too_great e si
 FaultCause before now too_great (NotLog at) = Rose before now
 FaultCause before now too_great (Changed found) = Rose before now
 
--- a job that was j at first, however the phases ended
+-- a job that was j at first, however the work phases ended
 pub record Carried {N P : Type 0} (state : P → ProcessState) (is_of : P → N → Type 0) (too_great : P → Event → ℕ → ℕ → Type 0) (net : N) (j k : Job P) : Type 0 where
   pub own : is_of k.cell net
   pub goes : Goes (state j.cell) (state k.cell)
   pub cause : IfSome k.fault (FaultCause (state j.cell).faults (state k.cell).faults (too_great k.cell))
 
--- what a caller may answer: in a configuration, for a node, after these answers, once the node has seen these records
+-- what a caller may return: for a configuration, a node, the calls that it returned before, and the records that the node has seen
 abbrev pub Answers : Type 1
 Answers = Counts → Node → List Call → List Record → Option Call → Type 0
 
--- the node was called to begin a round when it had begun those that were called before, for what it had then seen
+-- the call was made when the node had begun the rounds that were called before, and for what the node had then seen
 pub record IsMeant (answers : Answers) (p : ProcessState) (before : List Call) (call : Call) : Type 0 where
   pub seen : List Record
   pub more : List Record
@@ -74,16 +74,16 @@ pub record IsToBegin (answers : Answers) (p : ProcessState) (before : List Call)
   pub meant : IsMeant answers p before call
   pub still : own_events p.node p.list ≡ own_events p.node meant.seen
 
--- it has begun each round that was called
+-- the node has begun each round that was called
 abbrev pub HasBegunAll : Answers → ProcessState → List Call → Type 0
 HasBegunAll answers p called = (k : ℕ) (c : Call) → slice_get called k ≡ Some c → HasBegun answers p (take k called) c
 
--- unless its node has fallen, it has begun these rounds, and is to begin this one
+-- unless its node has crashed, it has begun these rounds, and is to begin this one
 pub record Follows {P : Type 0} (state : P → ProcessState) (answers : Answers) (j : Job P) (begun : List Call) (pending : Option Call) : Type 0 where
   pub all : j.risen ≡ false → HasBegunAll answers (state j.cell) begun
-  pub left : j.risen ≡ false → IfSome pending (IsToBegin answers (state j.cell) begun)
+  pub next : j.risen ≡ false → IfSome pending (IsToBegin answers (state j.cell) begun)
 
--- jobs that can go on: the node at a place has begun the rounds that were called but for the last one, which it may still have to begin
+-- jobs that can go on: the node of job `at` has begun the rounds that were called, except for the last one, which it may still have to begin
 pub record AreReady {N P : Type 0} (state : P → ProcessState) (is_of : P → N → Type 0) (net : N) (answers : Answers) (at : ℕ) (called : List Call) (jobs : List (Job P)) : Type 0 where
   pub begun : List Call
   pub pending : Option Call
@@ -93,7 +93,7 @@ pub record AreReady {N P : Type 0} (state : P → ProcessState) (is_of : P → N
   pub fits : (d : Job P) → let j = slice_index_or jobs at d in AllFit (state j.cell).config (state j.cell).node (begin_moves (rounds (option_to_list pending)))
   pub follows : (d : Job P) → Follows state answers (slice_index_or jobs at d) begun pending
 
--- a job of a node that is up and has posted nothing
+-- a job of a node that is up and has posted nothing, with no moves
 pub record IsNew {N P : Type 0} (state : P → ProcessState) (is_of : P → N → Type 0) (net : N) (j : Job P) : Type 0 where
   pub fault : j.fault ≡ None
   pub own : is_of j.cell net
@@ -113,18 +113,18 @@ pub record IsToOpen {N P : Type 0} (state : P → ProcessState) (is_of : P → N
   pub cursor : j.cursor ≡ 0
   pub risen : j.risen ≡ false
 
--- the first answer of a caller, for what the node of a job has seen
+-- the first call that a caller returned, or none, for what the node of a job has seen
 pub record HasAnswered {P : Type 0} (state : P → ProcessState) (answers : Answers) (called : List Call) (j : Job P) : Type 0 where
   pub answer : Option Call
   pub called_is : called ≡ option_to_list answer
   pub may : answers (state j.cell).config (state j.cell).node [] (state j.cell).list answer
 
--- how many records all posted together, if the nodes without a job posted so many
+-- how many records all posted together, if the nodes without a job posted `others`
 abbrev pub total : {P : Type 0} → (P → ProcessState) → ℕ → List (Job P) → ℕ
 total state others [] = others
 total state others (j ∷ js) = posted (state j.cell) + total state others js
 
--- a job at the end of the phases: behind the last one its node had seen as many records as all posted, and had looked at all of their messages
+-- a job at the end of the work phases: after the last one its node had seen as many records as all nodes posted, and had looked at all of their messages
 pub record Finished {N P : Type 0} (state : P → ProcessState) (is_of : P → N → Type 0) (net : N) (rounds : List Round) (all : ℕ) (j k : Job P) : Type 0 where
   pub going : Going state is_of net rounds j k
   pub first : k.first ≡ []
@@ -134,11 +134,11 @@ pub record Finished {N P : Type 0} (state : P → ProcessState) (is_of : P → N
   pub whole : length seen ≡ all
   pub looked : length (messages_in seen) ≤ k.cursor
 
--- unless its node has fallen, what a job posted begins with the rounds that were its first moves: the node took no message before
+-- unless its node has crashed, what a job posted begins with the rounds that were its first moves: the node took no message before
 abbrev pub Opens : {P : Type 0} → (P → ProcessState) → Job P → Job P → Type 0
 Opens state j k = (rs : List Round) → j.first ≡ begin_moves rs → k.risen ≡ false → (rest : List Event) × Posted (state j.cell) (state k.cell) (begins (state j.cell).node rs ++ rest)
 
--- what a caller left for the next phase
+-- what a caller left for the next work phase
 pub record Asked {P : Type 0} (state : P → ProcessState) (answers : List Call → List Record → Option Call → Type 0) (before after : List Call) (j k : Job P) (left : Bool) : Type 0 where
   pub answer : Option Call
   pub called : after ≡ before ++ option_to_list answer

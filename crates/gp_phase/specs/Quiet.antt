@@ -4,7 +4,7 @@ use Rattle.gp_msg.specs.declared.node.Node.{Node}
 use Rattle.gp_msg.specs.declared.record.Record.{Record}
 use Rattle.gp_wire.specs.declared.view.Post.{Post}
 use Rattle.gp_wire.specs.Lists.{Each, Has, IsDistinct}
-use Rattle.gp_wire.specs.Messages.{messages_in}
+use Rattle.gp_msg.specs.Records.{messages_in}
 use Rattle.gp_wire.specs.Known.{PassState, records}
 use Rattle.gp_wire.specs.Ends.{AllBegin}
 use Rattle.gp_rules.specs.Own.{own, own_events}
@@ -19,7 +19,7 @@ abbrev pub posted_all : List PassState → ℕ
 posted_all [] = 0
 posted_all (p ∷ ps) = length (own p.node (records p)) + posted_all ps
 
--- the node took each message of the list that it reads, once, and no other
+-- the node took each message of the list that it reads, exactly once, and no other
 abbrev pub IsQuietAt : Node → List Record → Type 0
 IsQuietAt n list = AreRead n (messages_in list) 0 (length (messages_in list)) (takes_in (own_events n list))
 
@@ -30,7 +30,7 @@ pub record AreAll (log : List Post) (ps : List PassState) : Type 0 where
   pub distinct : IsDistinct (map node_of ps)
   pub hold : Each (λ p. Has p.node p.holds) ps
 
--- at the end of the phases: the pass had seen as many records as all nodes posted, and its node had looked at all of their messages and taken those that it reads
+-- at the end of the work phases: the pass had seen as many records as all nodes posted, and its node had looked at all of their messages and taken those that it reads
 pub record SawAll (ps : List PassState) (p : PassState) (cursor : ℕ) : Type 0 where
   pub seen : List Record
   pub more : List Record

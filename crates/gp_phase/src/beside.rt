@@ -1,4 +1,4 @@
-//! Other work beside that of a phase.
+//! Other work beside that of a work phase.
 ghost use Rattle.std.specs.Prelude.{◌≡◌};
 ghost use Rattle.gp_work.specs.declared.job.Job.{Job};
 ghost use Rattle.gp_phase.specs.Beside.{CanWork, HaveAllWorked, topics};
@@ -10,15 +10,15 @@ use std::mem::replace;
 use std::sync::Wait;
 use std::thread::{Threads, join_mut};
 
-/// Work that is done beside each phase, in a thread of its own.
+/// Work that is done beside each work phase, in a thread of its own.
 pub trait Beside<N, P: Process<N>> {
     /// The type of its topic.
     ghost Topic: { Type 0 };
 
-    /// What it is about, which stays the same.
+    /// What the work is about. It never changes.
     ghost topic: { Self → Topic };
 
-    /// Looks at the nodes before a phase.
+    /// Looks at the nodes before a work phase.
     fn prepare(&mut self, jobs: &[Job<P>])
         ensures { topic self.new ≡ topic self.old };
 
@@ -27,7 +27,7 @@ pub trait Beside<N, P: Process<N>> {
         ensures { topic self.new ≡ topic self.old };
 }
 
-/// No work is done beside the phases.
+/// No work beside the work phases.
 #[derive(Clone, Copy, Debug, PartialEq, Eq)]
 pub struct Nothing;
 
@@ -45,7 +45,7 @@ impl<N, P: Process<N>> Beside<N, P> for Nothing {
     }
 }
 
-/// What is done beside the phases, in three threads.
+/// What is done beside the work phases, in three threads.
 #[derive(Drop)]
 pub struct Trio<A, B> {
     pub main: A,
@@ -54,7 +54,7 @@ pub struct Trio<A, B> {
 }
 
 impl Trio<Nothing, Nothing> {
-    /// Nothing is done beside the phases.
+    /// Nothing is done beside the work phases.
     pub const NOTHING: Trio<Nothing, Nothing> = Trio {
         main: Nothing,
         first: Nothing,
@@ -103,7 +103,7 @@ fn act<
     );
 }
 
-// Does all jobs of a phase in their place: they are told of in one clause.
+// Does all jobs of a work phase in place, so that one clause covers them all.
 fn work_on<N: Sync, P: Process<N> + Send + Drop, W: Threads + Wait + Sync, G: Gate + Sync>(
     rt: &W,
     alloc: Global,
@@ -118,8 +118,9 @@ fn work_on<N: Sync, P: Process<N> + Send + Drop, W: Threads + Wait + Sync, G: Ga
     *jobs = workers(rt, alloc, net, ready, gate);
 }
 
-/// Does the jobs of a phase, and other work beside them, each in a thread of its own, and joins the threads. The jobs come
-/// back in order.
+/// Does the jobs of a work phase and the other work beside them, and returns the jobs in order.
+/// Each job and each piece of the other work has a thread of its own, and all threads are joined;
+/// no clause says so.
 pub fn workers_beside<
     N: Sync,
     P: Process<N> + Send + Drop,

@@ -1,4 +1,4 @@
-//! Who says which round begins next.
+//! The trait of callers, which say which round begins next.
 ghost use Rattle.std.specs.Prelude.{◌≡◌, ◌++◌, true, [], List, Option, IfOk, IfSome};
 ghost use Rattle.std.specs.Option.{option_to_list};
 ghost use Rattle.gp_round.specs.Counts.{Counts};
@@ -21,28 +21,30 @@ pub struct Call {
     pub round: Round,
 }
 
-/// It watches what one node sees, and says before each phase which round the node is to begin in it.
+/// A caller watches what one node sees, and says before each work phase which round the node is to
+/// begin in it.
 pub trait Caller<N, P: Process<N>> {
     /// The node that begins the rounds.
     ghost node: { Self → Node };
 
-    /// The configuration of which the node is.
+    /// The configuration of that node.
     ghost config: { Self → Counts };
 
-    /// Its answers so far.
+    /// The calls that it returned so far.
     ghost called: { Self → List Call };
 
-    /// What it may answer for a node of a configuration, if it gave these answers before and the node has seen these records.
+    /// What it may return for a node of a configuration, if it returned these calls before and the
+    /// node has seen these records.
     ghost answers: { Counts → Node → List Call → List Record → Option Call → Type 0 };
 
     /// What it knows of the records that the node has seen, so that it need not look at them again.
     ghost knows: { Self → List Record → Type 0 };
 
-    /// It still knows it once the node has seen more.
+    /// It still knows this after the node has seen more.
     ghost lasts: { (caller : Self) (seen more : List Record) → knows caller seen → knows caller (seen ++ more) };
 
-    /// Looks at all that was sent, as the node sees it, and answers the round that the node is to begin next, if there is
-    /// one. The node is up and posts nothing. It may answer `NoMemory`.
+    /// Looks at all that was sent, as the node sees it, and returns the round that the node is to
+    /// begin next, if there is one. The node is up and posts nothing. It may return `NoMemory`.
     fn next<W: Wait>(&mut self, rt: &W, net: &N, cell: &mut P) -> Result<Option<Call>, NoMemory>
         requires own { P.is_of cell.old net.now }
         requires up { (P.state cell.old).up ≡ true }

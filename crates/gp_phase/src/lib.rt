@@ -1,4 +1,4 @@
-//! Phases: rounds of work of all nodes, one after another, until all that was sent was seen by all.
+//! Work phases of all nodes, one after another, until every node has seen all that was sent.
 #![tactic(auto)]
 
 mod beside;

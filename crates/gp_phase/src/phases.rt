@@ -1,4 +1,4 @@
-//! The phases of a run.
+//! The work phases of a run.
 ghost use Rattle.std.specs.Prelude.{◌≡◌, ◌<◌, ℕ, true, false, [], length, slice_index_or, IfOk, IfSome};
 ghost use Rattle.std.specs.List.{All};
 ghost use Rattle.std.specs.Prelude.{None};
@@ -17,18 +17,19 @@ use std::alloc::Global;
 use std::sync::Wait;
 use std::thread::Threads;
 
-/// Why phases ended.
+/// Why the work phases ended.
 #[derive(Clone, Copy, Debug, PartialEq, Eq)]
 pub enum PhasesEnd {
-    /// Nothing was posted in the last phase, all that was posted before was seen by all, and no round is left to begin.
+    /// No node posted a record in the last work phase, every node has seen all records that were
+    /// posted before, and no round is left to begin.
     Quiet,
     /// A job has a fault.
     Fault,
-    /// Memory ran out between two phases.
+    /// Memory ran out between two work phases.
     NoMemory,
 }
 
-/// The jobs after the last phase.
+/// The jobs after the last work phase.
 #[derive(Drop)]
 pub struct Phases<P> {
     pub jobs: Vec<Job<P>>,
@@ -59,7 +60,7 @@ fn count<N, P: Process<N>>(others: u64, jobs: &[Job<P>]) -> Option<u64>
     Some(sum)
 }
 
-// Whether each node has seen so many records.
+// Whether each node has seen `all` records.
 fn have_seen<N, P: Process<N>>(jobs: &[Job<P>], all: u64) -> bool
     ensures { result ≡ true → All (λ (j : Job P). length (P.state j.cell).list ≡ all) jobs.now }
 {
@@ -71,7 +72,7 @@ fn have_seen<N, P: Process<N>>(jobs: &[Job<P>], all: u64) -> bool
     true
 }
 
-// Whether nothing was posted in a phase, and all that was posted before was seen.
+// Whether nothing was posted in a work phase, and each node has seen all that was posted before.
 fn is_quiet<N, P: Process<N>>(before: Option<u64>, others: u64, jobs: &[Job<P>]) -> bool
     ensures { result ≡ true → All (λ (j : Job P). length (P.state j.cell).list ≡ total P.state others jobs.now) jobs.now }
 {
@@ -81,8 +82,8 @@ fn is_quiet<N, P: Process<N>>(before: Option<u64>, others: u64, jobs: &[Job<P>])
     }
 }
 
-/// Asks which round the node of a job is to begin next, and leaves it the move for the next phase. Answers whether there is
-/// one.
+/// Asks the caller which round the node of a job is to begin next, and leaves the move for the next
+/// work phase in the job. Returns false only if there is no such round.
 pub fn call_round<N, P: Process<N>, C: Caller<N, P>, W: Wait>(
     rt: &W,
     net: &N,
@@ -117,12 +118,13 @@ pub fn call_round<N, P: Process<N>, C: Caller<N, P>, W: Wait>(
     }
 }
 
-/// Runs phases: in each of them the jobs are done, each in a thread of its own, beside other work, and behind it the caller
-/// is asked which round the node of job `at` is to begin in the next one.
+/// Runs work phases. In each of them the jobs and the other work are done (`workers_beside`). After
+/// it the caller is asked which round the node of job `at` is to begin in the next one.
 ///
-/// They end after a phase in which a job has a fault, or if memory runs out. They also end after a phase in which no node
-/// posted a record, behind which each node has seen as many records as all nodes posted, and which leaves no round to begin.
-/// `others` is how many records the nodes without a job posted.
+/// The work phases end after one in which a job has a fault, or if memory runs out. They also end
+/// after one in which no node posted a record, after which each node has seen as many records as
+/// all nodes posted, and which leaves no round to begin. `others` is the number of records that the
+/// nodes without a job posted.
 pub fn run_phases<
     N: Sync,
     P: Process<N> + Send + Drop,

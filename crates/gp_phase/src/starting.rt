@@ -1,4 +1,4 @@
-//! The start of phases.
+//! The start of work phases.
 ghost use Rattle.std.specs.Prelude.{◌≡◌, ◌<◌, ℕ, [], length, slice_index_or, OnOk};
 ghost use Rattle.std.specs.List.{All};
 ghost use Rattle.gp_work.specs.declared.job.Job.{Job};
@@ -10,8 +10,9 @@ use gp_command::NoMemory;
 use gp_work::{Job, Process};
 use std::sync::Wait;
 
-/// Asks which round the node of job `at` is to begin in the first phase, and leaves it the move. The nodes have posted
-/// nothing, and the caller gave no answer before. It may answer `NoMemory`.
+/// Asks the caller which round the node of job `at` is to begin in the first work phase, and leaves
+/// the move in the job. The nodes have posted nothing, and the caller has returned no call before.
+/// It returns `NoMemory` if memory runs out or the caller returns that.
 pub fn call_first<N, P: Process<N>, C: Caller<N, P>, W: Wait>(
     rt: &W,
     net: &N,

@@ -3,9 +3,9 @@ use crate::epochs::CHECKPOINT_BETWEEN_PUTS;
 use crate::stage::{goes_on, plays};
 use std::test::Fail;
 
-// An acceptor falls and keeps its vote; another keeps one that it never sends. A coordinator follows a
-// round, begins one that nobody hears of, and begins one that is learned; another falls in its round.
-// A learner loses what it learned.
+// An acceptor crashes and keeps its vote; another keeps one that it never sends. A coordinator
+// follows a round, begins one that nobody hears of, and begins one that is learned; another crashes
+// in its round. A learner loses what it learned.
 pub const EVERY_KIND_OF_FALL: &[u8] = b"\
 nodes 3 2 2
 offer p0 put a 1
@@ -51,8 +51,8 @@ l1 replies: p0.1=ok
 events 31 messages 14
 ";
 
-// A coordinator and an acceptor fall in steps that take a message of each kind, the last one the Final, and
-// are in the next epoch then. The learner falls and takes its own Final.
+// A coordinator and an acceptor crash in steps that take a message of each kind, the last one the
+// Final, and are in the next epoch then. The learner crashes and takes its own Final.
 const KEPT_STEPS_OF_EACH_KIND: &[u8] = b"\
 fall c0 begin 1 single
 fall c0 take 0

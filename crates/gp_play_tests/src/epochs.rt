@@ -1,4 +1,4 @@
-//! Scripts with a checkpoint, which closes its epoch once it is learned.
+//! Scripts with a checkpoint, which closes its epoch when it is learned.
 use crate::stage::{goes_on, plays};
 use gp_msg::Msg;
 use gp_text::play;
@@ -115,7 +115,7 @@ l0 replies: p2.1=ok p1.1=ok
 events 28 messages 10
 ";
 
-// an acceptor does
+// an acceptor takes such messages
 const AN_ACCEPTOR_TAKES: &[u8] = b"\
 take a0 0
 take a0 3
@@ -138,7 +138,7 @@ l0 replies: p2.1=ok p1.1=ok
 events 27 messages 10
 ";
 
-// a proposer does, and a learner, which has learned what the Final has
+// a proposer and a learner take such messages; the learner has learned what the Final has
 const A_PROPOSER_AND_A_LEARNER_TAKE: &[u8] = b"\
 take p0 0
 take p0 3

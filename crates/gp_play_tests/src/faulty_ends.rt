@@ -43,7 +43,7 @@ fn each_write_may_fail(rt: HostRuntime) -> Result<(), Fail> {
     Ok(())
 }
 
-// Whether a script prints this where each read and each write is of one byte.
+// Whether a script prints this if each read and each write is of one byte.
 fn prints_in_pieces(
     rt: &(impl Threads + Wait + Sync),
     alloc: Global,

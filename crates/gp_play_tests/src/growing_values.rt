@@ -1,4 +1,4 @@
-//! Scripts where a value grows in its round.
+//! Scripts in which a value grows in its round.
 use crate::stage::plays;
 use std::test::Fail;
 

@@ -3,7 +3,7 @@ use crate::stage::{plays, refuses};
 use std::alloc::Global;
 use std::test::Fail;
 
-// A script whose first line is `nodes 3 1 1`, and then this line so many times.
+// A script whose first line is `nodes 3 1 1`, followed by `line` repeated `count` times.
 fn repeated(alloc: Global, line: &[u8], count: usize) -> Result<Vec<u8>, Fail> {
     let mut script = Vec::from_slice(alloc, b"nodes 3 1 1\n")?;
     for _ in 0..count {
@@ -12,7 +12,7 @@ fn repeated(alloc: Global, line: &[u8], count: usize) -> Result<Vec<u8>, Fail> {
     Ok(script)
 }
 
-// These bytes, and then as many of a comment that the script has this many bytes.
+// These bytes, followed by a comment that fills the script up to `length` bytes.
 fn filled(alloc: Global, bytes: &[u8], length: usize) -> Result<Vec<u8>, Fail> {
     let mut script = Vec::from_slice(alloc, bytes)?;
     for _ in script.len()..length {
@@ -21,7 +21,7 @@ fn filled(alloc: Global, bytes: &[u8], length: usize) -> Result<Vec<u8>, Fail> {
     Ok(script)
 }
 
-// One offer, and then takes of a proposer, so many events in all.
+// One offer, and then takes of a proposer: `count` events in all.
 fn events(alloc: Global, count: usize) -> Result<Vec<u8>, Fail> {
     let mut script = Vec::from_slice(alloc, b"nodes 3 1 1\noffer p0 get a\n")?;
     for _ in 1..count {

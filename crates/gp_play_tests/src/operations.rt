@@ -26,7 +26,7 @@ fn a_put_writes_its_key(rt: HostRuntime) -> Result<(), Fail> {
     Ok(())
 }
 
-// operations at keys that are absent, of values that are others, and of two keys in either order
+// operations at keys that are absent, of values that differ, and of two keys in either order
 const OPERATIONS_AT_ABSENT_KEYS: &[u8] = b"\
 nodes 3 1 1
 offer p0 add a 3

@@ -23,7 +23,7 @@ const ROWS: [Row; 25] = [
     ),
     // no line at all
     (b"", b"line 1: no nodes line"),
-    // no line but one that is passed over
+    // no line except one that is passed over
     (b"\n", b"line 2: no nodes line"),
     // a first line that is another row of the table
     (b"offer p0 get a\n", b"line 1: no nodes line"),
@@ -44,9 +44,9 @@ const ROWS: [Row; 25] = [
         b"nodes 3 1 2\ntake a0 18446744073709551616\n",
         b"line 2: bad number",
     ),
-    // a proposer that takes a message which is not there
+    // a proposer that takes a message that does not exist
     (b"nodes 3 1 2\ntake p0 0\n", b"line 2: no message"),
-    // a step that is kept and takes a message which is not there
+    // a step that is kept and takes a message that does not exist
     (b"nodes 3 1 2\nfall a0 take 0\n", b"line 2: no message"),
     (b"nodes 3 1 2\nfall c0 take 0\n", b"line 2: no message"),
     // a line after comments and empty lines
@@ -61,17 +61,17 @@ const ROWS: [Row; 25] = [
         b"nodes 3 1 2\nfall a0 begin 1 single\n",
         b"line 2: bad fall",
     ),
-    // a learner that keeps something, whether it is there or not
+    // a learner that keeps something, whether it exists or not
     (b"nodes 3 1 2\nfall l0 take 0\n", b"line 2: bad fall"),
     (
         b"nodes 3 1 2\noffer p0 get a\nfall l0 take 0\n",
         b"line 3: bad fall",
     ),
-    // a learner that is not there
+    // a learner that does not exist
     (b"nodes 3 1 2\nshow l2\n", b"line 2: no node"),
     // and before the first
     (b"nodes 3 1 2\nbegin c0 0 single\n", b"line 2: bad count"),
-    // a byte that is no text
+    // a byte that is not text
     (b"nodes 3 1 2\n\xff\n", b"line 2: bad line"),
 ];
 

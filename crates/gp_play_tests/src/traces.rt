@@ -1,4 +1,4 @@
-//! Traces: scripts without comments and `show` lines are their own.
+//! Traces: a script without comments and `show` lines is its own trace.
 use crate::crashes::EVERY_KIND_OF_FALL;
 use crate::epochs::CHECKPOINT_BETWEEN_PUTS;
 use crate::whole_scripts::{EIGHT_OPERATIONS, FAST_TWO_KEYS, ONE_PUT, PROPOSER_TAKES};

@@ -20,7 +20,7 @@ fn see(watch: &mut Watch, world: &World, k: u64) -> Result<(), Fail> {
     Ok(())
 }
 
-// Whether a watch that saw these messages of a script that is played has clashed.
+// Whether a watch that saw these messages of a script that is played has noticed a collision.
 fn clash_of(alloc: Global, script: &[u8], messages: &[u64]) -> Result<Option<bool>, Fail> {
     let Ok(played) = play(alloc, script) else {
         return Ok(None);
@@ -32,7 +32,7 @@ fn clash_of(alloc: Global, script: &[u8], messages: &[u64]) -> Result<Option<boo
     Ok(Some(watch.clashed()))
 }
 
-// Whether one that saw all of them has clashed.
+// Whether a watch that saw all of them has noticed a collision.
 fn clash_of_all(alloc: Global, script: &[u8]) -> Result<Option<bool>, Fail> {
     let Ok(played) = play(alloc, script) else {
         return Ok(None);

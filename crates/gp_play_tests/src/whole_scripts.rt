@@ -42,7 +42,7 @@ l1 replies: -
 events 11 messages 7
 ";
 
-// the last vote comes four times more
+// the last vote is taken four more times
 const ONE_PUT_HEARD_AGAIN: &[u8] = b"\
 nodes 3 1 2
 offer p0 put a 5
@@ -400,7 +400,7 @@ l0 replies: -
 events 11 messages 5
 ";
 
-// a proposer takes a message, and nothing comes of it
+// a proposer takes a message, and nothing follows from it
 pub const PROPOSER_TAKES: &[u8] = b"\
 nodes 3 1 2
 offer p0 get a
@@ -417,7 +417,7 @@ l1 replies: -
 events 2 messages 1
 ";
 
-// comments and empty lines are passed over, and a learner is shown that learned nothing
+// comments and empty lines are passed over, and a learner that learned nothing is shown
 const PASSED_LINES: &[u8] = b"\
 # a comment
 

@@ -1,4 +1,4 @@
-//! The proposer: it numbers what it is given and proposes it.
+//! The proposer: it numbers the drafts that it is given, and proposes them as commands.
 #![tactic(auto)]
 
 ghost use Rattle.std.specs.Prelude.{◌≡◌, ◌<◌, ◌^◌, ◌-◌, IfOk, OnOk, OnErr, IfErr, map};
@@ -28,24 +28,24 @@ impl Model for Proposer {
     ghost inverse = { λ s. record { number = s.number; offers = s.offers } };
 }
 
-/// Memory ran out, and the draft comes back.
+/// Memory ran out. The draft is returned.
 #[derive(Drop, Debug)]
 pub struct Unoffered {
     pub draft: Draft,
 }
 
 impl Proposer {
-    /// A proposer that has proposed nothing. `number` is its number among the proposers, from 0. It takes
-    /// no memory.
+    /// A proposer that has proposed nothing. `number` is its number among the proposers, from 0.
     pub fn new(number: u32) -> Proposer
         ensures { result ≡ opening number }
     {
         Proposer { number, offers: 0 }
     }
 
-    /// Makes a command of the draft, with the next number, from 1, and proposes it. A proposer gives no
-    /// number twice, so it takes fewer than 2^32 - 1 offers. If memory runs out, the draft comes back and
-    /// its number is not used up.
+    /// Makes a command of the draft with the next number, counted from 1, and returns the message
+    /// that proposes it. No number is used again, so there must be fewer than 2^32 - 1 offers
+    /// before this one. If memory runs out, the proposer stays unchanged, and `Unoffered` returns
+    /// the draft.
     pub fn offer(&mut self, alloc: Global, draft: Draft) -> Result<Outs, Unoffered>
         requires { self.old.offers < 2 ^ 32 - 1 }
         ensures next { OnOk result (self.new ≡ (proposer_offer self.old draft).0) }

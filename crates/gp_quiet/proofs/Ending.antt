@@ -12,11 +12,11 @@ use Rattle.gp_msg.specs.declared.event.Event.TheVariants.{Offer, Begin, Take, Fa
 use Rattle.gp_msg.specs.declared.record.Record.{Record}
 use Rattle.gp_msg.specs.Nodes.{is_present}
 use Rattle.gp_run.specs.Legal.{Legal}
-use Rattle.gp_run.specs.Runs.{entries_in}
+use Rattle.gp_run.specs.Runs.{newest_first}
 use Rattle.gp_wire.specs.Lists.{Each, Has}
-use Rattle.gp_wire.specs.Messages.{messages_in}
+use Rattle.gp_msg.specs.Records.{messages_in}
 use Rattle.gp_wire.specs.Known.{WireState, records}
-use Rattle.gp_rules.specs.Own.{own, own_events, event_in}
+use Rattle.gp_rules.specs.Own.{own, own_events, event_in, IsBehind}
 use Rattle.gp_rules.specs.declared.rules.PaxosRules.{PaxosRules}
 use Rattle.gp_work.specs.declared.job.Job.{Job}
 use Rattle.gp_work.specs.declared.moves.Move.TheVariants as move
@@ -43,7 +43,7 @@ use Rattle.gp_begins.proofs.Concluding.{begins_in_turn, opens_with_first}
 use Rattle.gp_begins.proofs.Resting.{begins_in_course, opens_with_first_fast}
 use Rattle.gp_begins.proofs.Places.{head_is, cons_not_nil}
 use Rattle.gp_quiet.specs.Quiet.{IsFall, IsOffer, IsQuietList, IsQuietRun, IsAdaptiveRun}
-use Rattle.gp_quiet.specs.Ended.{is_proposer, cell_in, cells_of, nodes_of, EndedRun, EndsQuietly, StaysSteady, HasOwnPass, IsBehind, cells_in, IsListOf, IsClosedList}
+use Rattle.gp_quiet.specs.Ended.{is_proposer, cell_in, cells_of, nodes_of, EndedRun, EndsQuietly, StaysSteady, HasOwnPass, cells_in, IsListOf, IsClosedList}
 use Rattle.gp_quiet.proofs.Indexing.{pick, each_of, each_got, get_each, each_both, each_mapped, each_then, first_cells, second_cells, JobOf, job_of, has_node, same_nodes}
 use Rattle.gp_quiet.proofs.Holding.{all_there, own_behind, of_node, counted_append, total_counted, each_begun}
 use Rattle.gp_quiet.proofs.Offering.{events_of, offers_made, are_offers, no_takes, offer_is_no_fall, none_is_read}
@@ -311,7 +311,7 @@ module _ {D : Type 0} (answers : Answers) (faults : D → ℕ) (wire : WireState
     followed : HasFollowed answers lead run.calls
     followed = record {
       node = lead_node;
-      legal = subst (λ rs. Legal lead.config (entries_in rs)) (sym lead_list) (subst (λ c. Legal c (entries_in X)) (sym lead_config) l.legal);
+      legal = subst (λ rs. Legal lead.config (newest_first rs)) (sym lead_list) (subst (λ c. Legal c (newest_first X)) (sym lead_config) l.legal);
       begun = (q.phases.worked.follows d0).all (unfallen run.at d0 q.phases.within);
       acts = subst (λ rs. others_in (own_events lead.node rs) ≡ begins lead.node (rounds run.calls)) (sym lead_list)
           (subst (λ n. others_in (own_events n X) ≡ begins n (rounds run.calls)) (sym lead_node) begun_just);

@@ -9,22 +9,23 @@ use Rattle.gp_msg.specs.Messages.{Entry}
 use Rattle.gp_run.specs.Messages.{messages}
 use Rattle.gp_msg.specs.Nodes.{is_present}
 use Rattle.gp_run.specs.Legal.{Legal}
-use Rattle.gp_run.specs.Runs.{entries_in}
+use Rattle.gp_run.specs.Runs.{newest_first}
 use Rattle.gp_run.proofs.Fitting.{node_there}
 use Rattle.gp_wire.specs.Lists.{Each, Has}
 use Rattle.gp_wire.specs.Known.{records, old_of}
 use Rattle.gp_wire.specs.declared.view.Post.{Post}
 use Rattle.gp_wire.specs.Ends.{AllBegin}
 use Rattle.gp_wire.specs.Rule.{items, item, Begins}
-use Rattle.gp_rules.specs.Own.{own, own_events, event_in}
-use Rattle.gp_rules.specs.Owning.{same_tells, own_append, own_foreign}
+use Rattle.gp_rules.specs.Own.{own, own_events, event_in, IsBehind}
+use Rattle.gp_rules.specs.SameNodes.{same_tells}
+use Rattle.gp_rules.proofs.OwnRecords.{own_append, own_foreign}
 use Rattle.gp_rules.specs.Still.{entries_append}
 use Rattle.gp_work.specs.declared.job.Job.{Job}
 use Rattle.gp_cell.specs.Cells.{CellState, pass_of}
 use Rattle.gp_cell.specs.Working.{process_of}
 use Rattle.gp_phase.specs.Phases.{total}
 use Rattle.gp_phase.proofs.Quieting.{counted}
-use Rattle.gp_quiet.specs.Ended.{nodes_of, IsBehind}
+use Rattle.gp_quiet.specs.Ended.{nodes_of}
 use Rattle.gp_quiet.proofs.Indexing.{each_front, each_back}
 
 -- ---- nodes of the configuration
@@ -34,15 +35,15 @@ there config [] l = tt
 there config (e ∷ es) l = (subst (λ n. is_present config n ≡ true) (sym l.1.own_node) (node_there config (length (messages es)) e.event l.1.event_fits), there config es l.0)
 
 -- each record is of a node of the configuration
-pub all_there : (config : Counts) (list : List Record) → Legal config (entries_in list) → Each (λ r. is_present config r.node ≡ true) list
-all_there config list l = forth list (there config (entries_in list) l)
+pub all_there : (config : Counts) (list : List Record) → Legal config (newest_first list) → Each (λ r. is_present config r.node ≡ true) list
+all_there config list l = forth list (there config (newest_first list) l)
   where
-    forth : (rs : List Record) → Each (λ (e : Entry). is_present config e.node ≡ true) (entries_in rs) → Each (λ (r : Record). is_present config r.node ≡ true) rs
+    forth : (rs : List Record) → Each (λ (e : Entry). is_present config e.node ≡ true) (newest_first rs) → Each (λ (r : Record). is_present config r.node ≡ true) rs
     forth [] h = tt
     forth (r ∷ rs) h =
         let two = subst (Each (λ (e : Entry). is_present config e.node ≡ true)) (entries_append (r ∷ []) rs) h in (
-          (each_back (λ (e : Entry). is_present config e.node ≡ true) (entries_in rs) (entries_in (r ∷ [])) two).0,
-          forth rs (each_front (λ (e : Entry). is_present config e.node ≡ true) (entries_in rs) (entries_in (r ∷ [])) two),
+          (each_back (λ (e : Entry). is_present config e.node ≡ true) (newest_first rs) (newest_first (r ∷ [])) two).0,
+          forth rs (each_front (λ (e : Entry). is_present config e.node ≡ true) (newest_first rs) (newest_first (r ∷ [])) two),
         )
 
 -- ---- the records of one node

@@ -9,7 +9,7 @@ use Rattle.gp_msg.specs.declared.event.Event.{Event}
 use Rattle.gp_msg.specs.declared.event.Event.TheVariants as event
 use Rattle.gp_msg.specs.declared.message.Msg.{Msg}
 use Rattle.gp_wire.specs.Lists.{Each}
-use Rattle.gp_wire.specs.Messages.{messages_in}
+use Rattle.gp_msg.specs.Records.{messages_in}
 use Rattle.gp_rules.specs.Own.{own_events}
 use Rattle.gp_work.specs.declared.moves.Move.{Move}
 use Rattle.gp_work.specs.declared.moves.Move.TheVariants.{Offer, Begin, Take}

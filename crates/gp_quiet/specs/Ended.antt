@@ -8,15 +8,15 @@ use Rattle.gp_msg.specs.declared.record.Record.{Record}
 use Rattle.gp_edge.specs.Faults.{Rose}
 use Rattle.gp_msg.specs.Nodes.{is_present}
 use Rattle.gp_run.specs.Legal.{Legal}
-use Rattle.gp_run.specs.Runs.{entries_in}
+use Rattle.gp_run.specs.Runs.{newest_first}
 use Rattle.gp_wire.specs.Lists.{Each, IsDistinct, Has}
 use Rattle.gp_wire.specs.Known.{WireState, records}
 use Rattle.gp_wire.specs.Ends.{Closed}
-use Rattle.gp_rules.specs.Own.{own, own_events}
+use Rattle.gp_rules.specs.Own.{own, own_events, IsBehind}
 use Rattle.gp_rules.specs.Lawful.{paxos_legal}
 use Rattle.gp_rules.specs.declared.rules.PaxosRules.{PaxosRules}
 use Rattle.gp_work.specs.declared.job.Job.{Job}
-use Rattle.gp_work.specs.Moves.{is_offer}
+use Rattle.gp_work.specs.Moves.{is_offer, event_of}
 use Rattle.gp_cell.specs.Cells.{CellState, pass_of}
 use Rattle.gp_cell.specs.Working.{process_of, IsAt}
 use Rattle.gp_phase.specs.declared.caller.Call.{Call}
@@ -32,7 +32,7 @@ is_proposer (Coordinator c) = false
 is_proposer (Acceptor a) = false
 is_proposer (Learner l) = false
 
--- the nodes of a configuration, each once: the proposers, and the others, which take messages
+-- the nodes of a configuration, without duplicates: the proposers, and the others, which take messages
 pub record AreNodesOf (config : Counts) (takers proposers : List Node) : Type 0 where
   pub distinct : IsDistinct (takers ++ proposers)
   pub take : (n : Node) → Has n takers ↔ ((is_present config n ≡ true) × (is_proposer n ≡ false))
@@ -53,7 +53,7 @@ module _ {D : Type 0} where
   abbrev pub nodes_of : List (Job (CellState D)) → List Node
   nodes_of js = map node_in js
 
--- a job of a node that has posted nothing, and which is to offer commands
+-- a job of a node that has posted nothing and is to offer commands
 pub record IsToOffer {D : Type 0} (j : Job (CellState D)) : Type 0 where
   pub nothing : own_events j.cell.node (records j.cell.pass) ≡ []
   pub risen : j.risen ≡ false
@@ -63,7 +63,7 @@ pub record IsToOffer {D : Type 0} (j : Job (CellState D)) : Type 0 where
 abbrev pub IsSteady : {D : Type 0} → (D → ℕ) → Job (CellState D) → Job (CellState D) → Type 0
 IsSteady faults j k = ¬ Rose (process_of faults j.cell).faults (process_of faults k.cell).faults
 
--- the jobs of the proposers before their phase and after it, those of the other nodes before the first phase and after the last, the place of the leader's among them, and the calls before the first phase and at the end
+-- the jobs of the proposers before their work phase and after it, those of the other nodes before the first work phase and after the last, the place of the leader's among them, and the calls before the first work phase and at the end
 pub record EndedRun (D : Type 0) : Type 0 where
   pub offering : List (Job (CellState D))
   pub offered : List (Job (CellState D))
@@ -73,7 +73,11 @@ pub record EndedRun (D : Type 0) : Type 0 where
   pub first : List Call
   pub calls : List Call
 
--- phases from these jobs, of which the leader's stands at a place, to those, which ended quietly, once the other nodes had posted so many records. By their end a caller with these answers had called these rounds
+-- the events of each job that was to offer are exactly its offers, in their order
+abbrev pub AreOffersMade : {D : Type 0} → EndedRun D → List Record → Type 0
+AreOffersMade {D} run list = (i : ℕ) (d : Job (CellState D)) → i < length run.offering → let j = slice_index_or run.offering i d in own_events j.cell.node list ≡ map (λ m. event_of j.cell.node m) j.first
+
+-- work phases that began with these jobs, the leader's at place `at`, and ended quietly with those, after the other nodes had posted `others` records. By their end a caller with these answers had called these rounds
 pub record HaveWorked {D : Type 0} (answers : Answers) (faults : D → ℕ) (wire : WireState PaxosRules) (at others : ℕ) (calls : List Call) (jobs ended : List (Job (CellState D))) : Type 0 where
   pub size : length ended ≡ length jobs
   pub finished : (i : ℕ) (d : Job (CellState D)) → i < length jobs
@@ -82,7 +86,7 @@ pub record HaveWorked {D : Type 0} (answers : Answers) (faults : D → ℕ) (wir
   pub follows : (d : Job (CellState D)) → Follows (process_of faults) answers (slice_index_or ended at d) calls None
   pub last : (d : Job (CellState D)) → let j = slice_index_or ended at d in answers (process_of faults j.cell).config (process_of faults j.cell).node calls (process_of faults j.cell).list None
 
--- the same, where the jobs are of nodes that have posted nothing, and these rounds were called before the first phase
+-- the same for jobs of nodes that had posted nothing; the rounds of `first` were called before the first work phase
 pub record AreEnded {D : Type 0} (answers : Answers) (faults : D → ℕ) (wire : WireState PaxosRules) (at others : ℕ) (first calls : List Call) (starting ended : List (Job (CellState D))) : Type 0 where
   pub within : at < length starting
   pub leads : (d : Job (CellState D)) → (process_of faults (slice_index_or starting at d).cell).node ≡ leader
@@ -91,16 +95,16 @@ pub record AreEnded {D : Type 0} (answers : Answers) (faults : D → ℕ) (wire 
   pub answered : (d : Job (CellState D)) → HasAnswered (process_of faults) answers first (slice_index_or starting at d)
   pub worked : HaveWorked answers faults wire at others calls starting ended
 
--- what the calls of a run leave if no job has a fault and the phases end quietly
+-- what the calls of a run leave if no job has a fault and the work phases end quietly
 pub record EndsQuietly {D : Type 0} (answers : Answers) (faults : D → ℕ) (wire : WireState PaxosRules) (run : EndedRun D) : Type 0 where
   pub nodes : AreNodesOf wire.rules.config (nodes_of run.starting) (nodes_of run.offering)
   pub some : 0 < wire.rules.config.acceptors
-  -- one phase of the proposers' jobs, each of which ended without a fault
+  -- one work phase of the proposers' jobs, each of which ended without a fault
   pub offers : (i : ℕ) (d : Job (CellState D)) → i < length run.offering → IsToOffer (slice_index_or run.offering i d)
   pub offered_size : length run.offered ≡ length run.offering
   pub offered : (i : ℕ) (d : Job (CellState D)) → i < length run.offering → IsWorkedJob faults wire (slice_index_or run.offering i d) (slice_index_or run.offered i d)
   pub unbroken : All (λ j. j.fault ≡ None) run.offered
-  -- the phases of the other jobs
+  -- the work phases of the other jobs
   pub phases : AreEnded answers faults wire run.at (total (process_of faults) 0 run.offered) run.first run.calls run.starting run.ended
 
 -- no disk's count of faults rose
@@ -110,20 +114,14 @@ pub record StaysSteady {D : Type 0} (faults : D → ℕ) (run : EndedRun D) : Ty
 
 -- ---- the list
 
--- a list begins with another one, and what follows is not of the node
-pub record IsBehind (n : Node) (start list : List Record) : Type 0 where
-  pub more : List Record
-  pub split : list ≡ start ++ more
-  pub others : own n more ≡ []
-
 -- the cells of a run at its end
 abbrev pub cells_in : {D : Type 0} → EndedRun D → List (CellState D)
 cells_in run = cells_of run.ended ++ cells_of run.offered
 
--- a legal list that holds what each cell has seen, with no more of its node
+-- a legal list that begins with what each cell has seen, followed by no more records of its node
 pub record IsListOf {D : Type 0} (wire : WireState PaxosRules) (run : EndedRun D) (list : List Record) : Type 0 where
   pub behind : (i : ℕ) (c : CellState D) → slice_get (cells_in run) i ≡ Some c → IsBehind c.node (records c.pass) list
-  pub legal : Legal wire.rules.config (entries_in list)
+  pub legal : Legal wire.rules.config (newest_first list)
 
 -- the pass of a cell is that of its node
 abbrev pub HasOwnPass : {D : Type 0} → CellState D → Type 0
@@ -132,5 +130,5 @@ HasOwnPass c = c.pass.node ≡ c.node
 -- the list with which the wire was closed by these cells
 pub record IsClosedList {D : Type 0} (wire : WireState PaxosRules) (run : EndedRun D) (list : List Record) : Type 0 where
   pub closed : Closed (paxos_legal wire.rules.config) wire.nodes (map pass_of (cells_in run)) list
-  pub legal : Legal wire.rules.config (entries_in list)
+  pub legal : Legal wire.rules.config (newest_first list)
   pub own : All HasOwnPass (cells_in run)

@@ -1,4 +1,4 @@
-//! What a run of nodes comes to that ends quietly.
+//! What holds of a run of nodes that ends quietly.
 #![tactic(auto)]
 
 pub mod laws;

@@ -9,7 +9,7 @@ use Rattle.gp_msg.specs.declared.event.Event.{Event}
 use Rattle.gp_msg.specs.declared.event.Event.TheVariants.{Offer}
 use Rattle.gp_random.specs.Draws.{draw}
 
--- the key `k` with this number behind it in decimal
+-- the key `k` followed by this number in decimal
 abbrev pub numbered_key : ℕ → List ℕ
 numbered_key n = 107 ∷ decimal n
 

@@ -17,7 +17,7 @@ IsNumbered (Coordinator c) = c < 3
 IsNumbered (Acceptor a) = a < 3
 IsNumbered (Learner l) = l < 2
 
--- one of eight proposers offers the draft of an operation; a coordinator begins a round that it owns; a node takes one of so many messages, or falls and keeps nothing
+-- one of eight proposers offers the draft of an operation; a coordinator begins a round that it owns; a node takes one of so many messages, or crashes and keeps nothing
 abbrev pub IsFit : ℕ → Event → Type 0
 IsFit have (Offer proposer draft) = (proposer < PROPOSERS) × ((op : Op) × IsOp op × (draft ≡ draft_for op))
 IsFit have (Begin coordinator round) = (coordinator < 3) × (is_owner 3 coordinator round ≡ true) × (round.count ≤ 2048)
@@ -34,6 +34,6 @@ pub record HasEnded (p : Plan) : Type 0 where
   pub turns : p.turns ≡ 0
   pub offered : p.offered ≡ p.size
 
--- the most events that are left: one in each turn, and one for each command
+-- the greatest number of events that are left: one for each turn, and one for each command
 abbrev pub events_left : Plan → ℕ
 events_left p = p.turns + (p.size - p.offered)

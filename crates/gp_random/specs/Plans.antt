@@ -22,7 +22,7 @@ plan_of seed commands = record {
   turns = 8 * commands;
 }
 
--- three acceptors, three coordinators and two learners, by one number
+-- the nodes by one number: three acceptors, three coordinators and two learners
 abbrev pub node_numbered : ℕ → Node
 node_numbered n = if nat_lt n 3 then Acceptor n else if nat_lt n 6 then Coordinator (n - 3) else Learner (n - 6)
 
@@ -43,20 +43,20 @@ begins p =
     let mode = mode_numbered m.0 in
     (Some (Begin c.0 (round_of c.0 (p.top_count + 1) mode)), record p { schedule = m.1; top_count = p.top_count + 1 })
 
--- a node is drawn, and it falls and keeps nothing
+-- a node is drawn, and it crashes and keeps nothing
 abbrev pub falls : Plan → Option Event × Plan
 falls p =
     let n = draw p.schedule 8 in
     (Some (Fall (node_numbered n.0) None), record p { schedule = n.1 })
 
--- of sixteen times a round is begun once, a node falls once, and otherwise nothing happens
+-- of sixteen draws, one begins a round, one makes a node crash, and the others do nothing
 abbrev pub interrupts : Plan → Option Event × Plan
 interrupts p =
     let e = draw p.schedule 16 in
     let q = record p { schedule = e.1 } in
     if nat_eq e.0 0 then begins q else if nat_eq e.0 1 then falls q else (None, q)
 
--- a node is drawn; where messages stand, one of the last 32 is drawn, and the node takes it
+-- a node is drawn; if messages were sent, one of the last 32 is drawn, and the node takes it
 abbrev pub takes : ℕ → Plan → Option Event × Plan
 takes have p =
     let n = draw p.schedule 8 in
@@ -70,16 +70,16 @@ turn have p =
     let q = record p { schedule = d.1; turns = p.turns - 1 } in
     if nat_lt d.0 2 then offers q else if nat_eq d.0 2 then interrupts q else takes have q
 
--- the event of a turn, or that of what is behind it
+-- the event of a turn, or, if it has none, the event that follows
 abbrev pub or_behind : Option Event × Plan → (Plan → Option Event × Plan) → Option Event × Plan
 or_behind (Some event, p) behind = (Some event, p)
 or_behind (None, p) behind = behind p
 
--- the first event of at most n turns, or else a command that is left is offered
+-- the first event of at most n turns; if there is none, a command that is left is offered
 abbrev pub next_within : ℕ → ℕ → Plan → Option Event × Plan
 next_within have zero p = offers p
 next_within have (suc n) p = or_behind (turn have p) (next_within have n)
 
--- the next event where so many messages stand, and the plan behind it
+-- the next event if so many messages were sent, and the plan after it
 unfoldable pub next : ℕ → Plan → Option Event × Plan
 next have p = next_within have p.turns p

@@ -19,7 +19,7 @@ const VALUES: u32 = 1000;
 /// Each command whose number is a multiple of this is a checkpoint.
 const CHECKPOINT_EVERY: u32 = 32;
 
-// Command i, from 1, as it is offered.
+// The event that offers command i, counted from 1.
 pub(crate) fn offer_at(alloc: Global, i: u32, rng: &mut ChaCha20Rng) -> Result<Event, NoMemory>
     ensures { IfOk result (λ event. (event, rng.new) ≡ offer_at i rng.old) }
 {
@@ -54,7 +54,7 @@ fn drawn_op(alloc: Global, rng: &mut ChaCha20Rng) -> Result<Op, NoMemory>
     })
 }
 
-// The key `k` with this number behind it.
+// The key `k` followed by this number.
 fn numbered_key(alloc: Global, number: u32) -> Result<Key, NoMemory>
     requires { number < 16 }
     ensures { IfOk result (λ key. key ≡ numbered_key number) }

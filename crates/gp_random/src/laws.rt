@@ -6,7 +6,7 @@ ghost use Rattle.gp_random.specs.Draws.{draw};
 ghost use Rattle.gp_random.specs.Plans.{next};
 ghost use Rattle.gp_random.specs.Fitting.{HasEnded};
 
-/// A workload that has ended has no event, however many messages stand.
+/// A workload that has ended has no more events, however many messages were sent.
 pub fn a_workload_stays_at_its_end()
     ensures { (have : ℕ) (p : Plan) → HasEnded p → next have p ≡ (None, p) }
 {}

@@ -1,5 +1,5 @@
-//! Workloads: events for a system of three acceptors, three coordinators and two learners, as a function
-//! of a seed.
+//! Workloads: events for a system of three acceptors, three coordinators and two learners, as a
+//! function of a seed.
 #![tactic(auto)]
 
 mod commands;

@@ -11,13 +11,13 @@ use gp_round::{Mode, Round};
 use rand_chacha::ChaCha20Rng;
 use std::alloc::Global;
 
-/// How many nodes take messages and fall: three acceptors, three coordinators and two learners.
+/// How many nodes take messages and crash: three acceptors, three coordinators and two learners.
 const NODES: u32 = 8;
 
 /// How many coordinators begin rounds.
 const COORDINATORS: u32 = 3;
 
-/// A message that is taken is one of this many last ones.
+/// A message that is taken is among the last ones that were sent, at most this many.
 const LAST_MESSAGES: u64 = 32;
 
 /// How many turns the schedule has for each command.
@@ -30,7 +30,7 @@ pub struct Plan {
     pub commands: ChaCha20Rng,
     /// The generator of the schedule.
     pub schedule: ChaCha20Rng,
-    /// How many commands there are in all.
+    /// How many commands there are in total.
     pub size: u32,
     /// How many commands were offered.
     pub offered: u32,
@@ -55,7 +55,7 @@ impl Plan {
         }
     }
 
-    // The next event where so many messages stand, and `None` where there is none.
+    // The next event if `have` messages were sent, or `None` if there is none.
     pub(crate) fn next(&mut self, alloc: Global, have: u64) -> Result<Option<Event>, NoMemory>
         requires { IsSound self.old }
         ensures { IfOk result (λ event. (event, self.new) ≡ next have self.old) }
@@ -81,7 +81,7 @@ impl Plan {
         }
     }
 
-    // The next command is offered, if one is left.
+    // Offers the next command, if one is left.
     fn offer(&mut self, alloc: Global) -> Result<Option<Event>, NoMemory>
         ensures { IfOk result (λ event. (event, self.new) ≡ offers self.old) }
     {
@@ -122,7 +122,7 @@ impl Plan {
         Event::Fall { node, kept: None }
     }
 
-    // A node takes one of the last messages, if any stands.
+    // A node takes one of the last messages, if any was sent.
     fn take(&mut self, have: u64) -> Option<Event>
         ensures { (result, self.new) ≡ takes have self.old }
     {
@@ -136,7 +136,7 @@ impl Plan {
     }
 }
 
-// Three acceptors, three coordinators and two learners, by one number.
+// The nodes by one number: three acceptors, three coordinators and two learners.
 fn node_numbered(number: u32) -> Node
     ensures { result ≡ node_numbered number }
 {

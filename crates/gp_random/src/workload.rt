@@ -9,14 +9,15 @@ use gp_msg::Event;
 use std::alloc::Global;
 use std::marker::Model;
 
-/// The most commands that a workload has.
+/// The greatest number of commands that a workload has.
 pub const MOST_COMMANDS: u32 = 256;
 
-/// Commands, and a schedule that offers them, begins rounds, takes messages and lets nodes fall.
+/// Commands, and a schedule that offers them, begins rounds, takes messages and makes nodes crash.
 ///
-/// A contract sees a workload as the plan of what is left. Two generators of one seed draw all that the
-/// plan leaves open: stream 0 makes the commands, and stream 1 the schedule. So the events are a function
-/// of the seed, the number of commands, and how many messages stand at each event.
+/// A contract sees a workload as the plan of what is left. Two generators of one seed draw
+/// everything that the plan leaves open: stream 0 makes the commands, and stream 1 the schedule. So
+/// the events are a function of the seed, the number of commands, and how many messages were sent
+/// before each event.
 #[derive(Drop, Debug)]
 pub struct Workload {
     plan: Plan,
@@ -47,11 +48,11 @@ impl Workload {
         })
     }
 
-    /// The next event where so many messages stand, and `None` once no turn of the schedule and no command
-    /// is left. After that it stays `None`. If memory runs out, the workload is as before.
+    /// The next event if `have` messages were sent, or `None` if no turn of the schedule and no
+    /// command is left. After that it stays `None`. If memory runs out, the workload is as before.
     ///
     /// The event fits a system of three acceptors, three coordinators and two learners with so many
-    /// messages, and there are at most nine events for each command.
+    /// messages. There are at most nine events for each command.
     pub fn next(&mut self, have: u64) -> Result<Option<Event>, NoMemory>
         ensures event { IfOk result (λ event. event ≡ (next have self.old).0) }
         ensures next { OnOk result (self.new ≡ (next have self.old).1) }

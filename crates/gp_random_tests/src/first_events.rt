@@ -1,5 +1,5 @@
-//! All events of one small workload. The expected ones were made by a model of its own of the generator
-//! and the schedule.
+//! All events of one small workload. The expected ones were made by a separate model of the
+//! generator and the schedule.
 use gp_msg::{Event, Node};
 use gp_random::Workload;
 use gp_round::{Mode, Round};
@@ -32,7 +32,7 @@ const MULTI: Round = Round {
     lead: 0,
 };
 
-// As many messages stand as there were events.
+// There are as many messages as there were events.
 static ROWS: [Row; 15] = [
     Row::Offer(7, b"del k12"),
     Row::Offer(6, b"cas k13 218 932"),

@@ -1,12 +1,12 @@
-//! Check sums over the events of many workloads. The expected ones were made by a model of its own of the
-//! generator and the schedule.
+//! Checksums over the events of many workloads. The expected ones were made by a separate model of
+//! the generator and the schedule.
 use gp_msg::{Event, Node};
 use gp_random::{MOST_COMMANDS, Workload};
 use gp_round::Mode;
 use std::alloc::Global;
 use std::test::Fail;
 
-// Seed, commands, number of events and check sum. As many messages stand as there were events.
+// Seed, commands, number of events and checksum. There are as many messages as there were events.
 static SEEDS: [(u64, u32, u64, u64); 8] = [
     (0, 1, 3, 3645149166216376495),
     (1, 31, 180, 5946213442798346241),
@@ -18,13 +18,13 @@ static SEEDS: [(u64, u32, u64, u64); 8] = [
     (4, 256, 1555, 13286466161398065118),
 ];
 
-// The check sum over the sums of the workloads of seed 7 with 1 to 256 commands.
+// The checksum over the sums of the workloads of seed 7 with 1 to 256 commands.
 const SIZES: u64 = 11238234121595557326;
 
 // More than the events of any workload.
 const MANY: u64 = 4096;
 
-// One more part of a check sum (Fowler, Noll, Vo).
+// One more part of a checksum (Fowler, Noll, Vo).
 fn mix(sum: u64, part: u64) -> u64 {
     (sum ^ part).wrapping_mul(1099511628211)
 }
@@ -76,7 +76,7 @@ fn mix_event(sum: u64, event: &Event) -> u64 {
     }
 }
 
-// The number of events of a workload and their check sum.
+// The number of events of a workload and their checksum.
 fn sum_of(alloc: Global, seed: u64, commands: u32) -> Result<(u64, u64), Fail> {
     let mut workload = Workload::new(alloc, seed, commands.clamp(1, MOST_COMMANDS))?;
     let mut sum = 0;

@@ -14,7 +14,7 @@ use Rattle.gp_replica.specs.Runs.{by_identity}
 use Rattle.gp_store.specs.Effects.{store_rules}
 use Rattle.gp_report.specs.Texts.{state_line, replies_line, totals_line}
 
--- what a key store that ran a sequence holds and replied, as the lines of learner 0 tell it
+-- what a key store that ran a sequence holds and replied, as lines of learner 0
 abbrev pub store_lines : List Command → List ℕ
 store_lines ran = state_line 0 (state_of store_rules (history_of ran)) ++ replies_line 0 (by_identity (replies_to store_rules ran))
 
@@ -34,7 +34,7 @@ asked_line seed commands = codes "sim " ++ decimal seed ++ codes " " ++ decimal 
 abbrev pub counts_line : ℕ → ℕ → List ℕ
 counts_line ran other = codes "learned " ++ decimal ran ++ codes " " ++ decimal other ++ codes "\n"
 
--- whether they are alike
+-- whether they hold and replied the same
 abbrev pub same_line : Bool → List ℕ
 same_line alike = if alike then codes "same yes\n" else codes "same no\n"
 
@@ -42,7 +42,7 @@ same_line alike = if alike then codes "same yes\n" else codes "same no\n"
 abbrev pub sum_line : ℕ → List ℕ
 sum_line sum = codes "sum " ++ decimal sum ++ codes "\n"
 
--- how many commands each of two replicas ran, whether their key stores are alike, and the sum of the values of the first
+-- how many commands each of two replicas ran, whether their key stores hold and replied the same, and the sum of the values of the first
 abbrev pub replicas_summary : List Command → List Command → List ℕ
 replicas_summary ran other =
     counts_line (length ran) (length other) ++ same_line (are_alike ran other) ++ sum_line (sum_of_values (entries (state_of store_rules (history_of ran))))

@@ -13,7 +13,8 @@ use gp_words::{push_dash, push_gap, push_number};
 use gp_world::World;
 use std::alloc::Global;
 
-/// Appends the identity of a command: `pN.M` is number M of proposer N.
+/// Appends the identity of a command: `pN.M` is number M of proposer N. If memory runs out, `to`
+/// may hold the beginning of this text.
 pub fn push_identity(id: CommandId, to: &mut Vec<u8>) -> Result<(), NoMemory>
     ensures { OnOk result (to.new.items ≡ to.old.items ++ identity id) }
 {
@@ -23,7 +24,7 @@ pub fn push_identity(id: CommandId, to: &mut Vec<u8>) -> Result<(), NoMemory>
     push_number(u64::from(id.number), to)
 }
 
-// The same history, its commands in canonical order.
+// The same history, with its commands in canonical order.
 fn in_order<H: Hist>(alloc: Global, h: &H) -> Result<H, NoMemory>
     ensures { IfOk result (λ ordered. H.sequence ordered ≡ canonical (history_of (H.sequence h.now))) }
 {
@@ -44,8 +45,8 @@ fn push_identities(commands: &History, to: &mut Vec<u8>) -> Result<(), NoMemory>
     push_dash(commands.len(), to)
 }
 
-/// Appends the identities of the commands of a history, in canonical order with single spaces between
-/// them, or `-` if there are none. If memory runs out, `to` holds what it held.
+/// Appends the identities of the commands of a history, in canonical order with single spaces
+/// between them, or `-` if there is none. If memory runs out, `to` stays as it was.
 pub fn identities(alloc: Global, history: &History, to: &mut Vec<u8>) -> Result<(), NoMemory>
     ensures written { OnOk result (to.new.items ≡ to.old.items ++ identities (history_of history.now)) }
     ensures unchanged { OnErr result (to.new.items ≡ to.old.items) }
@@ -57,7 +58,7 @@ pub fn identities(alloc: Global, history: &History, to: &mut Vec<u8>) -> Result<
     Ok(())
 }
 
-// Appends the learned line of a learner who learned these commands, in their order.
+// Appends the learned line of a learner that learned these commands, in their order.
 #[tactic(auto, unfolding(crate::specs::Texts::commands_line))]
 pub(crate) fn push_commands(
     learner: u32,
@@ -75,8 +76,8 @@ pub(crate) fn push_commands(
     Ok(to.push(b'\n')?)
 }
 
-/// Appends the learned line of a learner of the world's configuration: how many commands it learned and
-/// who they are, in canonical order. If memory runs out, `to` holds what it held.
+/// Appends the learned line of a learner of the world's configuration: how many commands it has
+/// learned, and their identities in canonical order. If memory runs out, `to` stays as it was.
 pub fn show_learned(
     alloc: Global,
     world: &World,

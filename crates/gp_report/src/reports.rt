@@ -1,4 +1,4 @@
-//! The whole report of a world.
+//! The complete report of a world.
 ghost use Rattle.std.specs.Prelude.{◌≡◌, ◌<◌, ◌++◌, length, OnOk, OnErr, IfOk};
 ghost use Rattle.gp_history.specs.Sequence.{history_of};
 ghost use Rattle.gp_replica.specs.Runs.{HasDistinctIds};
@@ -18,7 +18,7 @@ use gp_words::push_number;
 use gp_world::World;
 use std::alloc::Global;
 
-// Appends the lines of a learner who learned this history, as a replica runs it.
+// Appends the lines of a learner that learned this history, as a replica runs it.
 fn push_lines<S: Service>(
     alloc: Global,
     learner: u32,
@@ -69,13 +69,13 @@ fn report_of<S: Service>(alloc: Global, world: &World) -> Result<Vec<u8>, NoMemo
     Ok(text)
 }
 
-/// Appends the report of a world whose learners run this service: for each learner, in order, its lines,
-/// and then the numbers of events and messages.
+/// Appends the report of a world whose learners run this service: for each learner, in order, its
+/// lines, and then the numbers of events and messages.
 ///
 /// The learned line has the number of commands that the learner learned and their identities, in
-/// canonical order. The state line has the pairs that the service holds once it ran these commands, in
-/// ascending order of the keys. The replies line has its reply to each command, in canonical order. Then
-/// come the lines that the service has of its own. If memory runs out, `to` holds what it held.
+/// canonical order. The state line has the pairs that the service holds after these commands, in
+/// ascending order of the keys. The replies line has its reply to each command, in canonical order.
+/// The service's own lines follow, if it has any. If memory runs out, `to` stays as it was.
 pub fn report_for<S: Service>(
     alloc: Global,
     world: &World,
@@ -89,8 +89,8 @@ pub fn report_for<S: Service>(
     Ok(())
 }
 
-/// Appends the report of a world whose learners run key stores, which have three lines for each learner.
-/// If memory runs out, `to` holds what it held.
+/// Appends the report of a world whose learners run key stores, with three lines for each learner.
+/// If memory runs out, `to` stays as it was.
 pub fn report(alloc: Global, world: &World, to: &mut Vec<u8>) -> Result<(), NoMemory>
     ensures written { OnOk result (to.new.items ≡ to.old.items ++ report world.now.config (entries_of world.now)) }
     ensures unchanged { OnErr result (to.new.items ≡ to.old.items) }

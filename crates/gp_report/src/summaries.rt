@@ -120,12 +120,13 @@ fn summary_of(alloc: Global, seed: u64, commands: u32, world: &World) -> Result<
     Ok(text)
 }
 
-/// Appends the summary of a world with two learners or more whose events were drawn from a seed, for so
-/// many commands.
+/// Appends the summary of a world with two or more learners, whose events were drawn from a seed
+/// for `commands` commands.
 ///
-/// Five lines: what was asked for; how many commands learner 0 and learner 1 learned; whether key stores
-/// that ran what they learned hold and replied the same; the sum of the values that the first holds,
-/// modulo 2^64; and the numbers of events and messages. If memory runs out, `to` holds what it held.
+/// It has five lines: what was asked for; how many commands learner 0 and learner 1 learned;
+/// whether key stores that ran what they learned hold and replied the same; the sum of the values
+/// that the first one holds, modulo 2^64; and the numbers of events and messages. If memory runs
+/// out, `to` stays as it was.
 pub fn summary(
     alloc: Global,
     seed: u64,

@@ -1,9 +1,9 @@
--- What `run` prints.
+-- What `run` and `adapt` print, and what `views` prints.
 use Rattle.std.specs.Prelude.{◌≡◌, ℕ, List, ◌++◌, codes}
 use Rattle.gp_round.specs.Counts.{Counts}
 use Rattle.gp_msg.specs.declared.record.Record.{Record}
 use Rattle.gp_run.specs.Learned.{learned_at}
-use Rattle.gp_run.specs.Runs.{entries_in}
+use Rattle.gp_run.specs.Runs.{newest_first}
 use Rattle.gp_onlookers.specs.declared.looks.Looks.{Looks}
 use Rattle.gp_onlookers.specs.Looks.{AreSeen}
 use Rattle.gp_onlookers.specs.Texts.{looks_text}
@@ -12,8 +12,8 @@ use Rattle.gp_text.specs.Traces.{trace, events_in}
 
 -- the trace of the records, a line `--`, and the report of their run
 abbrev pub run_text : Counts → List Record → List ℕ
-run_text config list = trace config (events_in list) ++ codes "--\n" ++ report config (entries_in list)
+run_text config list = trace config (events_in list) ++ codes "--\n" ++ report config (newest_first list)
 
--- the same, and behind it the order in which a replica ran what learner 0 learned, and what two readers saw of the key along it
+-- the same, followed by the order in which a replica ran what learner 0 learned, and by what two readers saw of the key along that order
 abbrev pub IsViewsText : List ℕ → Counts → List Record → List ℕ → Type 0
-IsViewsText key config list text = (looks : Looks) × AreSeen key (learned_at config 0 (entries_in list)) looks × (text ≡ run_text config list ++ looks_text looks)
+IsViewsText key config list text = (looks : Looks) × AreSeen key (learned_at config 0 (newest_first list)) looks × (text ≡ run_text config list ++ looks_text looks)

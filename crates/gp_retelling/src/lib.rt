@@ -1,4 +1,5 @@
-//! What nodes posted, told as a run: the world that its events lead to, its trace and its report.
+//! Turns the records that nodes posted into a run: the world that their events lead to, its trace
+//! and its report.
 #![tactic(auto)]
 
 mod texts;

@@ -1,8 +1,8 @@
-//! What readers of a key saw while nodes ran, behind what `run` prints of them.
+//! The text of `views`: what `run` prints, followed by what readers of a key saw while nodes ran.
 ghost use Rattle.std.specs.Prelude.{IfOk};
 ghost use Rattle.gp_run.specs.Learned.{learned_at};
 ghost use Rattle.gp_run.specs.Legal.{Legal};
-ghost use Rattle.gp_run.specs.Runs.{entries_in};
+ghost use Rattle.gp_run.specs.Runs.{newest_first};
 ghost use Rattle.gp_phase.specs.Beside.{topics};
 ghost use Rattle.gp_onlookers.specs.Ends.{AreWatching, topic_of};
 ghost use Rattle.gp_onlookers.specs.Looks.{AreSeen};
@@ -17,7 +17,7 @@ use gp_round::Config;
 use std::alloc::Global;
 use std::sync::Wait;
 
-// What the onlookers saw of the key along what learner 0 learned by these records.
+// What the onlookers saw of the key along what learner 0 learned according to these records.
 fn looks_along<W: Wait>(
     rt: &W,
     alloc: Global,
@@ -26,9 +26,9 @@ fn looks_along<W: Wait>(
     records: &[Record],
     onlookers: Onlookers,
 ) -> Result<Looks, NoMemory>
-    requires legal { Legal config.now (entries_in records.now) }
+    requires legal { Legal config.now (newest_first records.now) }
     requires watching { AreWatching key (topics (λ p. p.feed) topic_of onlookers) }
-    ensures { IfOk result (λ looks. AreSeen key (learned_at config.now 0 (entries_in records.now)) looks) }
+    ensures { IfOk result (λ looks. AreSeen key (learned_at config.now 0 (newest_first records.now)) looks) }
 {
     let _learners = config.learners();
     match world_of(alloc, *config, records) {
@@ -40,9 +40,10 @@ fn looks_along<W: Wait>(
     }
 }
 
-/// What `run` prints of these records, and behind it the order in which a replica ran what learner 0 learned, and what
-/// each of the onlookers saw of the key, the last time at the end of that order. The records are a legal run of the
-/// configuration. The onlookers end also where memory runs out.
+/// What `run` prints for these records, followed by the order in which a replica ran what learner 0
+/// learned, and by what each of the onlookers saw of the key, the last time at the end of that
+/// order. The records are a legal run of the configuration. The onlookers end, also if memory runs
+/// out.
 pub fn views_text<W: Wait>(
     rt: &W,
     alloc: Global,
@@ -51,7 +52,7 @@ pub fn views_text<W: Wait>(
     records: &[Record],
     onlookers: Onlookers,
 ) -> Result<Vec<u8>, NoMemory>
-    requires legal { Legal config.now (entries_in records.now) }
+    requires legal { Legal config.now (newest_first records.now) }
     requires watching { AreWatching key (topics (λ p. p.feed) topic_of onlookers) }
     ensures { IfOk result (λ text. IsViewsText key config.now records.now text.items) }
 {

@@ -2,7 +2,7 @@
 ghost use Rattle.std.specs.Prelude.{◌≡◌, ◌<◌, ◌∷◌, ◌^◌, length, IfOk, OnOk};
 ghost use Rattle.gp_msg.specs.Messages.{entry_of};
 ghost use Rattle.gp_run.specs.Legal.{Legal, Follows};
-ghost use Rattle.gp_run.specs.Runs.{entries_in};
+ghost use Rattle.gp_run.specs.Runs.{newest_first};
 ghost use Rattle.gp_world.specs.State.{entries_of};
 
 use gp_command::NoMemory;
@@ -11,15 +11,16 @@ use gp_round::Config;
 use gp_world::World;
 use std::alloc::Global;
 
-// The most records of a world.
+// The greatest number of records of a world.
 const MOST_RECORDS: usize = 2_147_483_648;
 
-/// The world in which the events of these records happen, in their order. The records are a legal run of the configuration.
-/// `NoMemory` is also the answer if there are more than 2^31 records, which a world does not hold.
+/// The world after the events of these records, in their order. The records are a legal run of the
+/// configuration. Returns `NoMemory` if memory runs out, and also if there are more than 2^31
+/// records, which a world cannot hold.
 pub fn world_of(alloc: Global, config: Config, records: &[Record]) -> Result<World, NoMemory>
-    requires { Legal config (entries_in records.now) }
+    requires { Legal config (newest_first records.now) }
     ensures config { IfOk result (λ world. world.config ≡ config) }
-    ensures entries { IfOk result (λ world. entries_of world ≡ entries_in records.now) }
+    ensures entries { IfOk result (λ world. entries_of world ≡ newest_first records.now) }
 {
     if records.len() > MOST_RECORDS {
         return Err(NoMemory);
@@ -31,7 +32,8 @@ pub fn world_of(alloc: Global, config: Config, records: &[Record]) -> Result<Wor
     Ok(world)
 }
 
-// The event of a record, which may come next, happens again. Such an event is refused only if memory runs out.
+// Repeats the event of a record, which may come next. Such an event is refused only if memory runs
+// out.
 fn retell(world: &mut World, happened: &Record) -> Result<(), NoMemory>
     requires few { length world.old.records < 2 ^ 31 }
     requires follows { Follows world.old.config (entries_of world.old) (entry_of happened.now) }

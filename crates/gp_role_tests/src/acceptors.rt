@@ -23,7 +23,7 @@ enum Step {
     Keeps(u32, Round, Round, &'static str),
     // It crashes, and restarts with that.
     Crashes,
-    // An equal one takes its place.
+    // An equal acceptor takes its place.
     IsCopied,
 }
 
@@ -33,7 +33,7 @@ static IN_A_SINGLE_ROUND: [Step; 18] = [
     Takes(0, P1a(SINGLE_1), P1b(SINGLE_1, 1, ZERO, "")),
     Takes(0, P1a(SINGLE_1), Nothing),
     Takes(0, P1a(ZERO), Nothing),
-    // another coordinator is no quorum
+    // another coordinator is not a quorum
     Takes(0, P2a(SINGLE_1, 2, "q"), Nothing),
     // the lead alone is one; its first value is voted for, and once
     Takes(0, P2a(SINGLE_1, 0, "a"), P2b(SINGLE_1, 1, "a")),
@@ -48,16 +48,16 @@ static IN_A_SINGLE_ROUND: [Step; 18] = [
     Takes(0, Propose(b'd'), Nothing),
     Takes(0, P1b(SINGLE_1, 0, ZERO, ""), Nothing),
     Takes(0, P2b(SINGLE_1, 0, "d"), Nothing),
-    // the next round is told of the vote
+    // the answer in the next round has the vote
     Takes(0, P1a(SINGLE_2), P1b(SINGLE_2, 1, SINGLE_1, "ab")),
     Takes(0, P2a(SINGLE_1, 0, "abe"), Nothing),
-    // a round whose lead is no coordinator has no quorum
+    // a round whose lead is not a coordinator has no quorum
     Takes(0, P2a(UNOWNED, 0, "abe"), Nothing),
     Keeps(0, UNOWNED, SINGLE_1, "ab"),
 ];
 
 static IN_A_MULTI_ROUND: [Step; 8] = [
-    // one of three coordinators is no quorum
+    // one of three coordinators is not a quorum
     Takes(0, P2a(MULTI_1, 0, "aX"), Nothing),
     // two are: the vote is what both sent
     Takes(0, P2a(MULTI_1, 1, "bX"), P2b(MULTI_1, 1, "X")),
@@ -91,7 +91,7 @@ static IN_A_FAST_ROUND: [Step; 11] = [
 ];
 
 static OVER_A_CRASH: [Step; 5] = [
-    // what coordinator 0 sent is held, and is no quorum
+    // what coordinator 0 sent is held, and is not a quorum
     Takes(0, P2a(MULTI_1, 0, "a"), Nothing),
     Crashes,
     // the round stays: an older one is not answered
@@ -116,7 +116,7 @@ static IN_EPOCHS: [Step; 25] = [
     Takes(1, P2a(SINGLE_2, 1, "b"), Nothing),
     Takes(0, P2a(SINGLE_1, 0, "a1c"), P2b(SINGLE_1, 1, "a1c")),
     Keeps(0, SINGLE_1, SINGLE_1, "a1c"),
-    // the Final of its epoch brings it to the next one, where it has not voted
+    // the Final of its epoch brings it to the next one, in which it has not voted
     Takes(0, Final(0, "a1"), Nothing),
     Keeps(1, ZERO, ZERO, ""),
     // messages of the epoch before change nothing, nor does another Final of it
@@ -127,7 +127,7 @@ static IN_EPOCHS: [Step; 25] = [
     Takes(1, P2a(SINGLE_1, 0, "b"), P2b(SINGLE_1, 1, "b")),
     Takes(0, Final(1, "a1"), Nothing),
     Keeps(1, SINGLE_1, SINGLE_1, "b"),
-    // proposals are of every epoch
+    // proposals belong to every epoch
     Takes(1, P2a(FAST_1, 0, "b"), P2b(FAST_1, 1, "b")),
     Takes(1, Propose(b'X'), P2b(FAST_1, 1, "bX")),
     // the Final of a later epoch brings it to the one after that

@@ -20,7 +20,7 @@ enum Step {
     Keeps(u32, Round),
     // It crashes, and restarts with that.
     Crashes,
-    // An equal one takes its place.
+    // An equal coordinator takes its place.
     IsCopied,
 }
 
@@ -40,7 +40,7 @@ static IN_A_SINGLE_ROUND: [Step; 23] = [
     // from then on each new command is sent at once
     Takes(0, Propose(b'Y'), P2a(SINGLE_1, 0, "aXY")),
     Takes(0, Propose(b'Y'), Nothing),
-    // messages of the second phase are for other nodes
+    // messages of phase 2 are for other nodes
     Takes(0, P2a(SINGLE_1, 0, "aXYZ"), Nothing),
     Takes(0, P2b(SINGLE_1, 0, "aXYZ"), Nothing),
     // the single round of another is not entered
@@ -83,7 +83,7 @@ static OVER_A_CRASH: [Step; 10] = [
     Takes(0, P1b(SINGLE_1, 1, ZERO, ""), Nothing),
     Takes(0, P1b(SINGLE_1, 2, ZERO, ""), Nothing),
     Takes(0, P1a(SINGLE_1), Nothing),
-    // but of a greater one; the command that was pending is lost
+    // it collects those of a greater round; the command that was pending is lost
     Takes(0, P1a(MULTI_2), Nothing),
     Takes(0, P1b(MULTI_2, 1, ZERO, ""), Nothing),
     Takes(0, P1b(MULTI_2, 2, ZERO, ""), P2a(MULTI_2, 0, "")),

@@ -15,13 +15,13 @@ enum Step {
     Takes(u32, Text, Text, &'static str),
     // It crashes, and has learned nothing.
     Crashes,
-    // An equal one takes its place.
+    // An equal learner takes its place.
     IsCopied,
 }
 
 static IN_SINGLE_ROUNDS: [Step; 17] = [
-    // one vote is no quorum, also if it comes again, is of an acceptor beyond the three, or comes with the
-    // vote of another round
+    // one vote is not a quorum, also if it comes again, is of an acceptor beyond the three, or
+    // comes with the vote of another round
     Takes(0, P2b(SINGLE_1, 0, "a"), Nothing, ""),
     Takes(0, P2b(SINGLE_1, 0, "a"), Nothing, ""),
     Takes(0, P2b(SINGLE_1, 3, "a"), Nothing, ""),
@@ -33,7 +33,7 @@ static IN_SINGLE_ROUNDS: [Step; 17] = [
     // fewer commands do not take the place of more
     Takes(0, P2b(SINGLE_1, 2, "X"), Nothing, "ab"),
     Takes(0, P2b(SINGLE_1, 1, "abX"), Nothing, "abX"),
-    // the next round adds to what is learned, and takes nothing of it
+    // the next round adds to what is learned, and removes nothing from it
     Takes(0, P2b(SINGLE_2, 0, "abXY"), Nothing, "abX"),
     Takes(0, P2b(SINGLE_2, 1, "abXYc"), Nothing, "abXY"),
     // one vote makes two quorums, and each of them adds a command

@@ -25,9 +25,9 @@ static AMONG_THREE: [Row; 9] = [
     (&[(1, ZERO, ""), (2, FAST_1, "Y")], "Y"),
     // all three count: the vote of acceptor 2 may agree with what is common
     (&[(0, FAST_1, "aX"), (1, FAST_1, "bX")], "X"),
-    // two of three are a quorum of a single round: 1 and 2, of whom 1 answered
+    // two of three are a quorum of a single round: acceptors 1 and 2, and acceptor 1 answered
     (&[(0, SINGLE_1, "abc"), (1, SINGLE_2, "d")], "d"),
-    // the quorums 0 and 2, 1 and 2, and 0 and 1, of whom 2 did not answer: all votes
+    // the quorums 0 and 2, 1 and 2, and 0 and 1; acceptor 2 did not answer: all votes
     (&[(0, SINGLE_1, "ab"), (1, SINGLE_1, "abc")], "abc"),
     // of two answers of one acceptor the first counts
     (

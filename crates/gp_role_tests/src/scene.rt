@@ -57,7 +57,7 @@ pub const FAST_1: Round = Round {
     lead: 0,
 };
 
-/// A single round of a coordinator that there is not, above all others here.
+/// A single round of a coordinator that does not exist, above all others here.
 pub const UNOWNED: Round = Round {
     count: 3,
     mode: Mode::Single,
@@ -69,7 +69,7 @@ pub fn three() -> Result<Config, Fail> {
     Ok(Config::new(3, 3, 2)?)
 }
 
-/// A message whose values are words. Its epoch stands beside it.
+/// A message whose values are words. Its epoch is given with it.
 #[derive(Clone, Copy, Debug)]
 pub enum Text {
     /// No message.
@@ -114,7 +114,7 @@ pub fn history(alloc: Global, word: &str) -> Result<History, Fail> {
     Ok(history)
 }
 
-/// The message of a text in an epoch, if the text is one. A proposal is of no epoch.
+/// The message of a text in an epoch, if the text is one. A proposal belongs to no epoch.
 pub fn message(alloc: Global, epoch: u32, text: Text) -> Result<Option<Msg>, Fail> {
     Ok(match text {
         Text::Nothing => None,
@@ -149,7 +149,7 @@ pub fn message(alloc: Global, epoch: u32, text: Text) -> Result<Option<Msg>, Fai
     })
 }
 
-/// The epoch of a message, 0 of a proposal.
+/// The epoch of a message, 0 for a proposal.
 pub fn epoch_of(m: &Msg) -> u32
     ensures { result ≡ epoch_of (message_of m.now) }
 {
@@ -163,7 +163,7 @@ pub fn epoch_of(m: &Msg) -> u32
     }
 }
 
-/// The epoch that a message closes, 0 of one that closes none.
+/// The epoch that a message closes, 0 for one that closes none.
 pub fn closed_by(m: &Msg) -> u32
     ensures { result ≡ closed_by (message_of m.now) }
 {
@@ -173,8 +173,8 @@ pub fn closed_by(m: &Msg) -> u32
     }
 }
 
-// The round of a message, the round of the last vote in an answer, and the number of the sender; zero
-// where a message has none.
+// The round of a message, the round of the last vote in an answer, and the number of the sender;
+// zero if a message has none.
 fn header(m: &Msg) -> (Round, Round, u32) {
     match m {
         Msg::Propose { .. } => (ZERO, ZERO, 0),

@@ -1,4 +1,4 @@
--- Configurations: their refusal, the sizes of quorums, and who owns a round.
+-- Configurations: which numbers are refused, the sizes of quorums, and who owns a round.
 use Rattle.std.specs.Prelude.{ℕ, ◌+◌, ◌*◌, ◌/◌, Bool, cond, ◌&&◌, nat_lt, nat_le, nat_eq, Option, Some, None}
 use Rattle.gp_round.specs.declared.round.Mode.{Mode}
 use Rattle.gp_round.specs.declared.round.Mode.TheVariants.{Single, Multi, Fast}
@@ -49,7 +49,7 @@ lead_of Single c = c
 lead_of Multi c = 0
 lead_of Fast c = c
 
--- the round of this count and mode that the coordinator may begin
+-- the round of this count and mode for this coordinator
 abbrev pub round_of : ℕ → ℕ → Mode → Round
 round_of coordinator count mode = record { count = count; mode = mode; lead = lead_of mode coordinator }
 

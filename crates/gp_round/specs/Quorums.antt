@@ -10,7 +10,7 @@ use Rattle.gp_round.specs.Sets.{members}
 abbrev pub IsQuorum : ℕ → Mode → (ℕ → Bool) → Type 0
 IsQuorum n mode q = quorum_size n mode ≤ members q n
 
--- a quorum of the first phase
+-- a quorum of phase 1
 abbrev pub IsFirstQuorum : ℕ → (ℕ → Bool) → Type 0
 IsFirstQuorum n q = majority n ≤ members q n
 

@@ -37,6 +37,6 @@ same_round = eq_by_cmp round_cmp
 pub round_cmp_total : IsTotalOrder round_cmp
 round_cmp_total = then_total (on_total (λ (r : Round). r.count) nat_cmp_total) (then_total (on_total (λ (r : Round). mode_number r.mode) nat_cmp_total) (on_total (λ (r : Round). r.lead) nat_cmp_total))
 
--- below all that are begun
+-- below all rounds that a coordinator may begin
 abbrev pub round_zero : Round
 round_zero = record { count = 0; mode = Single; lead = 0 }

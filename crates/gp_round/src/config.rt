@@ -5,10 +5,10 @@ ghost use Rattle.gp_round.specs.Configs.{counts, bad_count, quorum_size, majorit
 use crate::round::{Mode, Round, lead_of};
 use std::marker::Model;
 
-/// The greatest count of a round that is begun.
+/// The greatest count of a round that a coordinator may begin.
 pub const LAST_COUNT: u32 = 1_000_000;
 
-/// A kind of nodes that a configuration counts.
+/// A kind of node that a configuration counts.
 #[derive(Clone, Copy, Debug, PartialEq, Eq)]
 pub enum Which {
     Acceptors,
@@ -16,8 +16,8 @@ pub enum Which {
     Learners,
 }
 
-/// The first number that is out of range: acceptors have to be 3 to 7, coordinators 1 to 5, and
-/// learners 1 to 4.
+/// The first number of nodes that is out of range. A configuration has 3 to 7 acceptors, 1 to 5
+/// coordinators and 1 to 4 learners.
 #[derive(Clone, Copy, Debug, PartialEq, Eq)]
 pub struct BadCount {
     pub which: Which,
@@ -47,7 +47,7 @@ impl Model for Config {
 }
 
 impl Config {
-    /// The configuration with these numbers of nodes.
+    /// The configuration with these numbers of nodes. `BadCount` if one of them is out of range.
     pub fn new(acceptors: u32, coordinators: u32, learners: u32) -> Result<Config, BadCount>
         ensures made { IfOk result (λ config. config ≡ counts acceptors coordinators learners) }
         ensures accepted { OnOk result (bad_count acceptors coordinators learners ≡ None) }
@@ -97,8 +97,8 @@ impl Config {
         self.learners
     }
 
-    /// The least size of a quorum of acceptors in a round of this mode: more than half, and three
-    /// quarters in a fast round.
+    /// The least size of a quorum of acceptors in a round of this mode: more than half of them, and
+    /// in a fast round three quarters, rounded up.
     pub fn quorum(&self, mode: Mode) -> u32
         ensures value { result ≡ quorum_size self.now.acceptors mode }
         ensures most { result ≤ self.now.acceptors }
@@ -109,7 +109,7 @@ impl Config {
         }
     }
 
-    /// The least size of a quorum of the first phase: more than half of the acceptors.
+    /// The least size of a quorum of phase 1: more than half of the acceptors.
     pub fn first_quorum(&self) -> u32
         ensures value { result ≡ majority self.now.acceptors }
         ensures most { result ≤ self.now.acceptors }
@@ -117,8 +117,8 @@ impl Config {
         self.acceptors / 2 + 1
     }
 
-    /// The least size of a quorum of coordinators: more than half in a multi round, and otherwise the
-    /// one coordinator that leads.
+    /// The least size of a quorum of coordinators: more than half of them in a multi round, and
+    /// otherwise 1, for the coordinator that leads.
     pub fn coordinator_quorum(&self, mode: Mode) -> u32
         ensures value { result ≡ coordinator_quorum_size self.now.coordinators mode }
         ensures most { result ≤ self.now.coordinators }
@@ -130,7 +130,8 @@ impl Config {
     }
 
     /// Whether a coordinator may begin a round: it is one of the configuration, the count is 1 to
-    /// `LAST_COUNT`, and the lead is the coordinator, or 0 in a multi round, which every coordinator owns.
+    /// `LAST_COUNT`, and the lead is the coordinator, or 0 in a multi round, which every
+    /// coordinator owns.
     pub fn owns(&self, coordinator: u32, round: Round) -> bool
         ensures { result ≡ is_owner self.now.coordinators coordinator round }
     {

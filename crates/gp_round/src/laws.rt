@@ -10,7 +10,7 @@ ghost use Rattle.gp_round.specs.Quorums.{IsQuorum, IsFirstQuorum, IsCoordinatorQ
 ghost use Rattle.gp_round.specs.Rounds.{earlier, round_zero};
 ghost use Rattle.gp_round.specs.Sets.{bit, members, masks};
 
-/// Round zero is before every round that a coordinator begins.
+/// Round zero is before every round that a coordinator may begin.
 pub fn round_zero_is_before_all_that_are_begun()
     ensures { (n c : ℕ) (r : Round) → is_owner n c r ≡ true → earlier round_zero r ≡ true }
 {}
@@ -20,12 +20,12 @@ pub fn two_quorums_of_a_round_meet()
     ensures { (n : ℕ) (mode : Mode) (p q : ℕ → Bool) → 0 < n → IsQuorum n mode p → IsQuorum n mode q → Shared n p q }
 {}
 
-/// A quorum of any round and a quorum of the first phase share an acceptor.
+/// A quorum of any round and a quorum of phase 1 share an acceptor.
 pub fn a_quorum_meets_each_quorum_of_the_first_phase()
     ensures { (n : ℕ) (mode : Mode) (p q : ℕ → Bool) → IsQuorum n mode p → IsFirstQuorum n q → Shared n p q }
 {}
 
-/// Two quorums of a fast round and a quorum of the first phase share an acceptor.
+/// Two quorums of a fast round and a quorum of phase 1 share an acceptor.
 pub fn two_fast_quorums_and_one_of_the_first_phase_meet()
     ensures { (n : ℕ) (p q s : ℕ → Bool) → IsQuorum n Fast p → IsQuorum n Fast q → IsFirstQuorum n s → SharedByThree n p q s }
 {}
@@ -35,8 +35,8 @@ pub fn two_coordinator_quorums_meet()
     ensures { (n : ℕ) (r : Round) (p q : ℕ → Bool) → IsCoordinatorQuorum n r p → IsCoordinatorQuorum n r q → Shared n p q }
 {}
 
-/// The subsets of one size are the masks below 2 to the n that have as many numbers, in ascending
-/// order, and so each once.
+/// `masks n size` are exactly the masks below 2^n with `size` members, in ascending order and so
+/// without duplicates.
 pub fn each_subset_stands_once_in_ascending_order()
     ensures all { (n size mask : ℕ) → Contains (masks n size) mask ↔ ((mask < 2 ^ n) × (members (bit mask) n ≡ size)) }
     ensures ascending { (n size : ℕ) → IsStrictlyIncreasing (masks n size) }

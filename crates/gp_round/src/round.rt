@@ -7,8 +7,8 @@ use std::cmp::Ordering;
 
 /// How a round is coordinated.
 ///
-/// In a single round one coordinator sends values, as in Paxos; in a multi round quorums of
-/// coordinators do (Camargos, Schmidt, Pedone, *Multicoordinated Paxos*, 2007); in a fast round the
+/// In a single round one coordinator sends values, as in Paxos. In a multi round quorums of
+/// coordinators do (Camargos, Schmidt, Pedone, *Multicoordinated Paxos*, 2007). In a fast round the
 /// acceptors also take proposals themselves (Lamport, *Generalized Consensus and Paxos*, 2005).
 #[derive(Clone, Copy, Debug, PartialEq, Eq, PartialOrd, Ord)]
 pub enum Mode {
@@ -28,8 +28,8 @@ impl Mode {
 
 /// A ballot round. Rounds are ordered by count, then mode, then lead.
 ///
-/// A round that is begun has a count from 1 to `LAST_COUNT`. The lead is the coordinator of a single or
-/// fast round, and 0 in a multi round.
+/// A round that a coordinator may begin has a count from 1 to `LAST_COUNT`. The lead is the
+/// coordinator of a single or fast round, and 0 in a multi round.
 #[derive(Clone, Copy, Debug)]
 pub struct Round {
     pub count: u32,
@@ -38,7 +38,8 @@ pub struct Round {
 }
 
 impl Round {
-    /// The round of this count and mode that the coordinator may begin: it leads it, but in a multi round the lead is 0.
+    /// The round of this count and mode for this coordinator. Its lead is the coordinator, or 0 in
+    /// a multi round.
     pub fn of(coordinator: u32, count: u32, mode: Mode) -> Round
         ensures { result ≡ round_of coordinator count mode }
     {
@@ -49,7 +50,8 @@ impl Round {
         }
     }
 
-    /// The round before all that are begun, in which every acceptor has voted the empty history.
+    /// Round zero, before all rounds that a coordinator may begin. Acceptors start with a vote for
+    /// the empty history in it.
     pub fn zero() -> Round
         ensures { result ≡ round_zero }
     {

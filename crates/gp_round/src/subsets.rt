@@ -1,11 +1,11 @@
-//! Subsets of a few nodes, as masks: bit i stands for number i.
+//! Subsets of a few nodes, as masks: bit i is set if number i is a member.
 ghost use Rattle.std.specs.Prelude.{◌≡◌, ◌≤◌, ◌<◌, List, ℕ};
 ghost use Rattle.std.specs.Iterator.{YieldsFirst, item_count};
 ghost use Rattle.gp_round.specs.Sets.{bit, members, masks};
 
 use std::marker::Model;
 
-/// Whether a number is in the set that a mask stands for.
+/// Whether a number below 8 is in the set of a mask.
 pub fn is_member(mask: u8, i: u32) -> bool
     requires { i < 8 }
     ensures { result ≡ bit mask i }
@@ -13,7 +13,7 @@ pub fn is_member(mask: u8, i: u32) -> bool
     (mask >> i) % 2 == 1
 }
 
-/// How many numbers below n are in the set that a mask stands for.
+/// How many numbers below n are in the set of a mask. n must be at most 8.
 pub fn count_members(mask: u8, n: u32) -> u32
     requires { n ≤ 8 }
     ensures { result ≡ members (bit mask) n }
@@ -27,9 +27,10 @@ pub fn count_members(mask: u8, n: u32) -> u32
     count
 }
 
-/// The subsets of one size of the numbers below n, each once, in ascending order of their masks.
+/// The subsets of one size of the numbers below n, without duplicates, in ascending order of their
+/// masks.
 ///
-/// A contract sees it as the list of the masks that are left.
+/// A contract sees it as the list of the masks that are still to come.
 #[derive(Drop, Debug)]
 pub struct Subsets {
     n: u32,
@@ -50,7 +51,7 @@ impl Model for Subsets {
 }
 
 impl Subsets {
-    /// The subsets with `size` of the numbers below n, which is at most 7.
+    /// The subsets with `size` of the numbers below n. n must be at most 7, and `size` at most n.
     pub fn new(n: u32, size: u32) -> Subsets
         requires few { n ≤ 7 }
         requires room { size ≤ n }

@@ -11,10 +11,10 @@ use Rattle.gp_run.specs.Messages.{messages}
 use Rattle.gp_msg.specs.Nodes.{node_of}
 use Rattle.gp_run.specs.States.{proposer_at, coordinator_at, acceptor_at, learner_at}
 use Rattle.gp_run.specs.Legal.{Legal, Follows, sent_by}
-use Rattle.gp_run.specs.Runs.{entries_in}
+use Rattle.gp_run.specs.Runs.{newest_first}
 use Rattle.gp_run.proofs.Others.{proposer_rests, coordinator_rests, acceptor_rests, learner_rests}
 use Rattle.gp_wire.specs.Legal.{LegalFrom}
-use Rattle.gp_rules.specs.Owning.{same_tells}
+use Rattle.gp_rules.specs.SameNodes.{same_tells}
 use Rattle.gp_rules.specs.declared.roles.Core.{Core}
 use Rattle.gp_rules.specs.declared.roles.Core.TheVariants.{Proposer, Coordinator, Acceptor, Learner}
 use Rattle.gp_rules.specs.Cores.{acts, core_at}
@@ -64,14 +64,14 @@ lawful_follows config es e l f = record {
   own_messages = f.own_messages ∙ ap option_to_list (ap (λ c. (acts e.node c (messages es) e.event).1) (core_is config e.node es l) ∙ sends_as config e.node e es ∙ ap (λ n. sent_by config es n e.event) f.own_node);
 }
 
-legal_on : (config : Counts) (before xs : List Record) → Legal config (entries_in before) → LegalFrom (paxos_legal config) before xs → Legal config (entries_in (before ++ xs))
-legal_on config before [] l f = subst (λ r. Legal config (entries_in r)) (sym (nil before)) l where
+legal_on : (config : Counts) (before xs : List Record) → Legal config (newest_first before) → LegalFrom (paxos_legal config) before xs → Legal config (newest_first (before ++ xs))
+legal_on config before [] l f = subst (λ r. Legal config (newest_first r)) (sym (nil before)) l where
   nil : (r : List Record) → r ++ [] ≡ r
   nil [] = refl
   nil (x ∷ r) = ap (λ y. x ∷ y) (nil r)
 legal_on config before (x ∷ xs) l f =
-    let next : Legal config (entries_in (before ++ x ∷ [])) = subst (Legal config) (sym (entries_append before (x ∷ []))) (l, lawful_follows config (entries_in before) (entry_of x) l f.0) in
-    subst (λ r. Legal config (entries_in r)) (append_assoc before (x ∷ []) xs) (legal_on config (before ++ x ∷ []) xs next f.1)
+    let next : Legal config (newest_first (before ++ x ∷ [])) = subst (Legal config) (sym (entries_append before (x ∷ []))) (l, lawful_follows config (newest_first before) (entry_of x) l f.0) in
+    subst (λ r. Legal config (newest_first r)) (append_assoc before (x ∷ []) xs) (legal_on config (before ++ x ∷ []) xs next f.1)
 
-pub legal_run : (config : Counts) (xs : List Record) → LegalFrom (paxos_legal config) [] xs → Legal config (entries_in xs)
+pub legal_run : (config : Counts) (xs : List Record) → LegalFrom (paxos_legal config) [] xs → Legal config (newest_first xs)
 legal_run config xs f = legal_on config [] xs tt f

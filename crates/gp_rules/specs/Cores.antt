@@ -1,4 +1,4 @@
--- The core of a node, by its own records. A run is a list of entries, the newest first.
+-- The core of a node, which its own records determine. A run is a list of entries, the newest first.
 use Rattle.std.specs.Prelude.{cond, List, [], ◌∷◌, Option, Some, None}
 use Rattle.gp_history.specs.History.{History}
 use Rattle.gp_round.specs.Counts.{Counts}
@@ -12,7 +12,7 @@ use Rattle.gp_acceptor.specs.Epochs as acceptor
 use Rattle.gp_learner.specs.Epochs as learner
 use Rattle.gp_run.specs.Messages.{messages}
 use Rattle.gp_run.specs.States.{proposer_acts, coordinator_acts, acceptor_acts, learner_acts}
-use Rattle.gp_rules.specs.Own.{same_node}
+use Rattle.gp_msg.specs.Nodes.{same_node}
 use Rattle.gp_rules.specs.declared.roles.Core.{Core}
 use Rattle.gp_rules.specs.declared.roles.Core.TheVariants.{Proposer, Coordinator, Acceptor, Learner}
 
@@ -23,7 +23,7 @@ opening config (node.Coordinator c) = Coordinator (coordinator.opening config c)
 opening config (node.Acceptor a) = Acceptor (acceptor.opening config a)
 opening config (node.Learner l) = Learner (learner.opening config l)
 
--- what an event does at a node with this core, when these messages were sent: its next core, and the message that it sends
+-- what an event does at a node with this core, after these messages were sent: its next core, and the message that it sends
 abbrev pub acts : Node → Core → List Stamped → Event → Core × Option Stamped
 acts (node.Proposer p) (Proposer s) ms e = (Proposer (proposer_acts p s e).0, (proposer_acts p s e).1)
 acts (node.Coordinator c) (Coordinator s) ms e = (Coordinator (coordinator_acts c s ms e).0, (coordinator_acts c s ms e).1)
@@ -31,7 +31,7 @@ acts (node.Acceptor a) (Acceptor s) ms e = (Acceptor (acceptor_acts a s ms e).0,
 acts (node.Learner l) (Learner s) ms e = (Learner (learner_acts l s ms e).0, (learner_acts l s ms e).1)
 acts n core ms e = (core, None)
 
--- the core of a node after a run: what its own entries make of the opening
+-- the core of a node after a run: what its own entries make of the opening core
 abbrev pub core_at : Counts → Node → List Entry → Core
 core_at config n [] = opening config n
 core_at config n (e ∷ es) = cond (same_node n e.node) (acts n (core_at config n es) (messages es) e.event).0 (core_at config n es)

@@ -7,7 +7,7 @@ use Rattle.gp_msg.specs.Messages.{Entry, entry_of}
 use Rattle.gp_run.specs.Messages.{messages}
 use Rattle.gp_msg.specs.Nodes.{node_of}
 use Rattle.gp_run.specs.Legal.{fits}
-use Rattle.gp_run.specs.Runs.{entries_in}
+use Rattle.gp_run.specs.Runs.{newest_first}
 use Rattle.gp_rules.specs.Cores.{acts, core_at}
 
 -- the entry may come next: its event fits the entries before, and it has the message that its node sends at the event
@@ -18,4 +18,4 @@ pub record IsLawful (config : Counts) (es : List Entry) (e : Entry) : Type 0 whe
 
 -- the record is legal after these records
 abbrev pub paxos_legal : Counts → List Record → Record → Type 0
-paxos_legal config before x = IsLawful config (entries_in before) (entry_of x)
+paxos_legal config before x = IsLawful config (newest_first before) (entry_of x)

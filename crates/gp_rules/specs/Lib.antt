@@ -1,5 +1,5 @@
 pub mod Own
-pub mod Owning
+pub mod SameNodes
 pub mod Cores
 pub mod Lawful
 pub mod Still

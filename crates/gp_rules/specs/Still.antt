@@ -23,12 +23,12 @@ use Rattle.gp_run.specs.Messages.{messages, on_message}
 use Rattle.gp_msg.specs.Nodes.{is_present, may_keep, fits_among}
 use Rattle.gp_run.specs.States.{coordinator_acts, coordinator_kept, acceptor_acts, acceptor_kept, learner_acts}
 use Rattle.gp_run.specs.Legal.{fits}
-use Rattle.gp_run.specs.Runs.{entries_in}
+use Rattle.gp_run.specs.Runs.{newest_first}
 use Rattle.gp_run.proofs.Choices.{left_true, right_true}
 use Rattle.gp_run.proofs.Telling.{messages-append}
 use Rattle.gp_wire.specs.Lists.{Each}
 use Rattle.gp_wire.specs.Legal.{LegalFrom, IsOfOther}
-use Rattle.gp_rules.specs.Owning.{same_tells}
+use Rattle.gp_rules.specs.SameNodes.{same_tells}
 use Rattle.gp_rules.specs.declared.roles.Core.{Core}
 use Rattle.gp_rules.specs.declared.roles.Core.TheVariants.{Proposer, Coordinator, Acceptor, Learner}
 use Rattle.gp_rules.specs.Cores.{acts, core_at}
@@ -161,18 +161,18 @@ lawful_still config more es e f h = record {
         let le : length (messages es) ≤ length (messages (more ++ es)) = omega (arith, ap length (messages-append more es), length-append (messages es) (messages more)) in
         fits_among_more config (length (messages es)) (length (messages (more ++ es))) e.event le f.event_fits
 
--- the later records stand in front
-pub entries_append : (xs ys : List Record) → entries_in (xs ++ ys) ≡ entries_in ys ++ entries_in xs
+-- the later records come first
+pub entries_append : (xs ys : List Record) → newest_first (xs ++ ys) ≡ newest_first ys ++ newest_first xs
 entries_append xs ys = ap (map entry_of) (reverse-append xs ys) ∙ map-append entry_of (reverse ys) (reverse xs)
 
 others_join : (n : Node) (xs ys : List Entry) → AreOthers n xs → AreOthers n ys → AreOthers n (xs ++ ys)
 others_join n [] ys a b = b
 others_join n (x ∷ xs) ys a b = (a.0, others_join n xs ys a.1 b)
 
-pub others_in : (x : Record) (ys : List Record) → Each (IsOfOther x) ys → AreOthers x.node (entries_in ys)
+pub others_in : (x : Record) (ys : List Record) → Each (IsOfOther x) ys → AreOthers x.node (newest_first ys)
 others_in x [] o = tt
-others_in x (y ∷ ys) o = subst (AreOthers x.node) (sym (entries_append (y ∷ []) ys)) (others_join x.node (entries_in ys) (entry_of y ∷ []) (others_in x ys o.1) (o.0, tt))
+others_in x (y ∷ ys) o = subst (AreOthers x.node) (sym (entries_append (y ∷ []) ys)) (others_join x.node (newest_first ys) (entry_of y ∷ []) (others_in x ys o.1) (o.0, tt))
 
 pub paxos_stays : (config : Counts) (xs ys : List Record) (x : Record) → paxos_legal config xs x → LegalFrom (paxos_legal config) xs ys → Each (IsOfOther x) ys → paxos_legal config (xs ++ ys) x
 paxos_stays config xs ys x may lawful others = subst (λ es. IsLawful config es (entry_of x)) (sym (entries_append xs ys))
-    (lawful_still config (entries_in ys) (entries_in xs) (entry_of x) may (others_in x ys others))
+    (lawful_still config (newest_first ys) (newest_first xs) (entry_of x) may (others_in x ys others))

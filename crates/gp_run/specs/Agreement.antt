@@ -1,4 +1,4 @@
--- What learners show agrees.
+-- Agreement: what learners show.
 use Rattle.std.specs.Prelude.{◌≡◌, ℕ, true, List, [], ◌∷◌, ◌++◌}
 use Rattle.std.specs.List.{Contains}
 use Rattle.gp_command.specs.declared.command.Command.{Command}
@@ -12,7 +12,7 @@ use Rattle.gp_msg.specs.Messages.{Offered, Final, Entry}
 use Rattle.gp_run.specs.Messages.{messages}
 use Rattle.gp_run.specs.Learned.{learned_at, taken_at, base_at, IsBoundOfHeard}
 
--- the event is not a fall of learner l
+-- the event is not a crash of learner l
 abbrev pub IsNoFallOf : ℕ → Event → Type 0
 IsNoFallOf l (Offer p d) = Unit {0}
 IsNoFallOf l (Begin c r) = Unit {0}
@@ -22,7 +22,7 @@ IsNoFallOf l (Fall (Coordinator c) what) = Unit {0}
 IsNoFallOf l (Fall (Acceptor a) what) = Unit {0}
 IsNoFallOf l (Fall (Learner i) what) = l ≡ i → ⊥
 
--- learner l does not fall in these entries
+-- learner l does not crash in these entries
 abbrev pub StaysUp : ℕ → List Entry → Type 0
 StaysUp l [] = Unit {0}
 StaysUp l (e ∷ es) = IsNoFallOf l e.event × StaysUp l es
@@ -39,7 +39,7 @@ pub record IsLearned (config : Counts) (es : List Entry) (l : ℕ) : Type 0 wher
   pub bound : IsBoundOfHeard config (taken_at config l es) part
   pub joined : learned_at config l es ≡ join (base_at config l es) part
 
--- what learners show agrees. A moment of a run is some of its entries, from the first on: ys where xs ++ ys is the run
+-- what learners show agrees. A moment of a run is given by the entries up to it: ys, if xs ++ ys is the run
 pub record Agrees (config : Counts) (es : List Entry) : Type 0 where
   -- what any two learners show at any two moments is alike
   pub alike : (xs ys us vs : List Entry) → xs ++ ys ≡ es → us ++ vs ≡ es → (l i : ℕ) → AreAlike (learned_at config l ys) (learned_at config i vs)
@@ -47,7 +47,7 @@ pub record Agrees (config : Counts) (es : List Entry) : Type 0 where
   pub proposed : (xs ys : List Entry) → xs ++ ys ≡ es → (l : ℕ) (c : Command) → has (learned_at config l ys) c ≡ true → Contains (messages ys) (Offered c)
   -- no two commands that learners show at any two moments have one identity
   pub identities : (xs ys us vs : List Entry) → xs ++ ys ≡ es → us ++ vs ≡ es → (l i : ℕ) (c d : Command) → has (learned_at config l ys) c ≡ true → has (learned_at config i vs) d ≡ true → c.id ≡ d.id → c ≡ d
-  -- what a learner shows grows while it does not fall
+  -- what a learner shows grows while it does not crash
   pub grows : (xs ys zs : List Entry) → xs ++ (ys ++ zs) ≡ es → (l : ℕ) → StaysUp l ys → IsPrefix (learned_at config l zs) (learned_at config l (ys ++ zs))
   -- what a learner shows is a history
   pub history : (xs ys : List Entry) → xs ++ ys ≡ es → (l : ℕ) → IsHistory (learned_at config l ys)

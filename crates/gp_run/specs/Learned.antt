@@ -1,4 +1,4 @@
--- What learners show, what they heard in their epoch, and what the epochs before it give.
+-- What learners show, what they heard in their epoch, and what earlier epochs give.
 use Rattle.std.specs.Prelude.{◌≡◌, ◌<◌, ℕ, zero, suc, Bool, true, cond, nat_eq, nat_lt, List, [], ◌∷◌, slice_get, Option, Some, None}
 use Rattle.std.specs.List.{Contains}
 use Rattle.std.specs.Option.{option_or}
@@ -44,7 +44,7 @@ votes_after config e votes (Offered c) = votes
 votes_after config e votes (InEpoch i m) = cond (nat_eq i e) (votes_heard config votes m) votes
 votes_after config e votes (Final i l v) = votes
 
--- the votes that learner l took in its life and its epoch, after one more event at which these messages were sent; its epoch is e before the event and f after it
+-- the votes that learner l took since its last crash and in its epoch, after one more event, before which these messages were sent; its epoch is e before the event and f after it
 abbrev pub taken_after : Counts → ℕ → ℕ → ℕ → List Vote → List Stamped → Event → List Vote
 taken_after config l e f votes ms (Offer p d) = votes
 taken_after config l e f votes ms (Begin c r) = votes
@@ -57,7 +57,7 @@ taken_after config l e f votes ms (Fall (Coordinator c) what) = votes
 taken_after config l e f votes ms (Fall (Acceptor a) what) = votes
 taken_after config l e f votes ms (Fall (Learner i) what) = cond (nat_eq l i) [] votes
 
--- the votes that learner l took since it last fell and since it entered its epoch, the newest first
+-- the votes that learner l took since it last crashed and since it entered its epoch, the newest first
 abbrev pub taken_at : Counts → ℕ → List Entry → List Vote
 taken_at config l [] = []
 taken_at config l (e ∷ es) = taken_after config l (epoch_at config l es) (epoch_at config l (e ∷ es)) (taken_at config l es) (messages es) e.event
@@ -73,7 +73,7 @@ pub record IsHeard (config : Counts) (taken : List Vote) (u : History) : Type 0 
   pub below : (a : ℕ) → a < config.acceptors → quorum a ≡ true → IsPrefix u (vote a)
   pub greatest : (z : History) → IsHistory z → ((a : ℕ) → a < config.acceptors → quorum a ≡ true → IsPrefix z (vote a)) → IsPrefix z u
 
--- ---- what the epochs before give
+-- ---- what earlier epochs give
 
 -- the value of a message that is a Final of epoch e
 abbrev pub final_value : ℕ → Stamped → Option History

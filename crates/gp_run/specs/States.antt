@@ -17,7 +17,7 @@ use Rattle.gp_learner.specs.Epochs as learner
 use Rattle.gp_learner.specs.Epochs.{LearnerInEpoch}
 use Rattle.gp_run.specs.Messages.{messages, on_message}
 
--- the message that a fall keeps taken, when these were sent
+-- the message that a crash keeps as taken, among these, which were sent
 abbrev pub message_kept : List Stamped → Option Kept → Option Stamped
 message_kept ms None = None
 message_kept ms (Some (kept.Begin r)) = None
@@ -39,17 +39,17 @@ proposer_at p (e ∷ es) = (proposer_acts p (proposer_at p es) e.event).0
 
 -- ---- coordinators
 
--- the durable part after a fall that keeps this, of which m is the message: that before the fall, or that after the step which the fall keeps
-abbrev pub coordinator_left : CoordinatorInEpoch → Option Kept → Option Stamped → EpochPart
-coordinator_left s None m = coordinator.durable s
-coordinator_left s (Some (kept.Begin r)) m = coordinator.durable (coordinator.begin s r).0
-coordinator_left s (Some (kept.Take k)) m = on_message (coordinator.durable s) (λ x. coordinator.durable (coordinator.take s x).0) m
+-- the durable part after a crash that keeps this step, whose message is m: the part before the crash, or the part after that step
+abbrev pub coordinator_after_crash : CoordinatorInEpoch → Option Kept → Option Stamped → EpochPart
+coordinator_after_crash s None m = coordinator.durable s
+coordinator_after_crash s (Some (kept.Begin r)) m = coordinator.durable (coordinator.begin s r).0
+coordinator_after_crash s (Some (kept.Take k)) m = on_message (coordinator.durable s) (λ x. coordinator.durable (coordinator.take s x).0) m
 
--- the same, when these messages were sent
+-- the same, after these messages were sent
 abbrev pub coordinator_kept : CoordinatorInEpoch → List Stamped → Option Kept → EpochPart
-coordinator_kept s ms what = coordinator_left s what (message_kept ms what)
+coordinator_kept s ms what = coordinator_after_crash s what (message_kept ms what)
 
--- what coordinator c does in this state at an event, when these messages were sent: its next state, and the message that it sends
+-- what coordinator c does in this state at an event, after these messages were sent: its next state, and the message that it sends
 abbrev pub coordinator_acts : ℕ → CoordinatorInEpoch → List Stamped → Event → CoordinatorInEpoch × Option Stamped
 coordinator_acts c s ms (Offer p d) = (s, None)
 coordinator_acts c s ms (Begin b r) = cond (nat_eq c b) (coordinator.begin s r) (s, None)
@@ -69,17 +69,17 @@ coordinator_at config c (e ∷ es) = (coordinator_acts c (coordinator_at config 
 
 -- ---- acceptors
 
--- the durable part after a fall that keeps this, of which m is the message: that before the fall, or that after the step which the fall keeps
-abbrev pub acceptor_left : AcceptorInEpoch → Option Kept → Option Stamped → EpochPart
-acceptor_left s None m = acceptor.durable s
-acceptor_left s (Some (kept.Begin r)) m = acceptor.durable s
-acceptor_left s (Some (kept.Take k)) m = on_message (acceptor.durable s) (λ x. acceptor.durable (acceptor.take s x).0) m
+-- the durable part after a crash that keeps this step, whose message is m: the part before the crash, or the part after that step
+abbrev pub acceptor_after_crash : AcceptorInEpoch → Option Kept → Option Stamped → EpochPart
+acceptor_after_crash s None m = acceptor.durable s
+acceptor_after_crash s (Some (kept.Begin r)) m = acceptor.durable s
+acceptor_after_crash s (Some (kept.Take k)) m = on_message (acceptor.durable s) (λ x. acceptor.durable (acceptor.take s x).0) m
 
--- the same, when these messages were sent
+-- the same, after these messages were sent
 abbrev pub acceptor_kept : AcceptorInEpoch → List Stamped → Option Kept → EpochPart
-acceptor_kept s ms what = acceptor_left s what (message_kept ms what)
+acceptor_kept s ms what = acceptor_after_crash s what (message_kept ms what)
 
--- what acceptor a does in this state at an event, when these messages were sent: its next state, and the message that it sends
+-- what acceptor a does in this state at an event, after these messages were sent: its next state, and the message that it sends
 abbrev pub acceptor_acts : ℕ → AcceptorInEpoch → List Stamped → Event → AcceptorInEpoch × Option Stamped
 acceptor_acts a s ms (Offer p d) = (s, None)
 acceptor_acts a s ms (Begin c r) = (s, None)
@@ -99,7 +99,7 @@ acceptor_at config a (e ∷ es) = (acceptor_acts a (acceptor_at config a es) (me
 
 -- ---- learners
 
--- what learner l does in this state at an event, when these messages were sent: its next state, and the message that it sends
+-- what learner l does in this state at an event, after these messages were sent: its next state, and the message that it sends
 abbrev pub learner_acts : ℕ → LearnerInEpoch → List Stamped → Event → LearnerInEpoch × Option Stamped
 learner_acts l s ms (Offer p d) = (s, None)
 learner_acts l s ms (Begin c r) = (s, None)

@@ -42,12 +42,12 @@ acceptor_rounds s = s.round ∷ s.voted ∷ []
 abbrev pub learner_rounds : LearnerState → List Round
 learner_rounds s = map (λ v. v.0.0) s.votes
 
--- the rounds of nodes 0 to n - 1 of one kind, where f gives those of a node
+-- the rounds of nodes 0 to n - 1 of one kind; f gives those of a node
 abbrev pub rounds_below : ℕ → (ℕ → List Round) → List Round
 rounds_below zero f = []
 rounds_below (suc n) f = rounds_below n f ++ f n
 
--- all rounds in the messages and the nodes of a run, of whatever epoch
+-- all rounds in the messages and the nodes of a run, of any epoch
 abbrev pub rounds_in : Counts → List Entry → List Round
 rounds_in config es =
     flat_map rounds_of (messages es)

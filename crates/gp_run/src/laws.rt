@@ -14,10 +14,11 @@ ghost use Rattle.gp_acceptor.specs.Epochs.{AcceptorInEpoch};
 ghost use Rattle.gp_learner.specs.Epochs as learner;
 ghost use Rattle.gp_learner.specs.Epochs.{LearnerInEpoch};
 ghost use Rattle.gp_msg.specs.Nodes.{node_of};
-ghost use Rattle.gp_run.specs.Messages.{messages, messages_in};
+ghost use Rattle.gp_run.specs.Messages.{messages};
+ghost use Rattle.gp_msg.specs.Records.{messages_in};
 ghost use Rattle.gp_run.specs.Legal.{fits, Legal, Follows};
 ghost use Rattle.gp_run.specs.Refusals.{refusal};
-ghost use Rattle.gp_run.specs.Runs.{run_onto, run_of, events_of, entries_in, AllFit, AreOfOthers};
+ghost use Rattle.gp_run.specs.Runs.{run_onto, run_of, oldest_first, newest_first, AllFit, AreOfOthers};
 ghost use Rattle.gp_run.specs.States.{proposer_at, coordinator_at, acceptor_at, learner_at};
 ghost use Rattle.gp_run.specs.TopCount.{top_count, top_of_messages, top_of_coordinators};
 
@@ -27,32 +28,32 @@ pub fn an_event_is_refused_exactly_if_it_does_not_fit()
         → (refusal config es event ≡ None) ↔ (fits config es event ≡ true) }
 {}
 
-/// A legal run stays legal when events happen each of which fits what was before it.
+/// A legal run stays legal if events happen after it, each of which fits the entries before it.
 pub fn a_run_of_events_that_fit_is_legal()
     ensures { (config : Counts) (es : List Entry) (events : List Event)
         → Legal config es → AllFit config es events → Legal config (run_onto config es events) }
 {}
 
-/// A legal run is the run of its events, and each of them fits what was before it. So its events
+/// A legal run is the run of its events, and each of them fits the entries before it. So its events
 /// determine it.
 pub fn a_legal_run_is_that_of_its_events()
-    ensures run { (config : Counts) (es : List Entry) → Legal config es → run_of config (events_of es) ≡ es }
-    ensures fit { (config : Counts) (es : List Entry) → Legal config es → AllFit config [] (events_of es) }
+    ensures run { (config : Counts) (es : List Entry) → Legal config es → run_of config (oldest_first es) ≡ es }
+    ensures fit { (config : Counts) (es : List Entry) → Legal config es → AllFit config [] (oldest_first es) }
 {}
 
-/// The events of two lists, one list after the other, make the run that the second list makes after
-/// the run of the first.
+/// The run of two lists of events, one after the other, is the run of the second list after the run
+/// of the first.
 pub fn a_run_goes_on()
     ensures { (config : Counts) (es : List Entry) (first second : List Event)
         → run_onto config es (first ++ second) ≡ run_onto config (run_onto config es first) second }
 {}
 
-/// One more record is one more entry of the run of the records, and the messages of that run are
-/// those of the records, in their order.
+/// One more record adds one entry to the run of the records. The messages of that run are those of
+/// the records, in their order.
 pub fn records_make_a_run()
     ensures entry { (records : List Record) (last : Record)
-        → entries_in (records ++ last ∷ []) ≡ entry_of last ∷ entries_in records }
-    ensures same { (records : List Record) → messages (entries_in records) ≡ map message_of (messages_in records) }
+        → newest_first (records ++ last ∷ []) ≡ entry_of last ∷ newest_first records }
+    ensures same { (records : List Record) → messages (newest_first records) ≡ map message_of (messages_in records) }
 {}
 
 /// Later entries add their messages after the earlier ones, so message k stays message k.
@@ -60,7 +61,8 @@ pub fn messages_are_only_added()
     ensures { (later earlier : List Entry) → messages (later ++ earlier) ≡ messages earlier ++ messages later }
 {}
 
-/// A message of a kind that a node does not read does not change the node, and the node sends nothing.
+/// A message of a kind that a node does not read does not change the node, and the node sends
+/// nothing.
 pub fn what_is_not_read_changes_nothing()
     ensures coordinators { (s : CoordinatorInEpoch) (c : ℕ) (m : Msg)
         → reads (Node.Coordinator c) (kind_of m) ≡ false → coordinator.take s (message_of m) ≡ (s, None) }

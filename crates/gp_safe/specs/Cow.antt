@@ -1,4 +1,4 @@
--- What a history that may be borrowed stands for.
+-- The value of a history that is borrowed or owned.
 use Rattle.gp_history.specs.History.{History}
 use Rattle.gp_history.specs.Sequence.{history_of}
 use Rattle.gp_safe.specs.declared.cow.HistoryCow.{HistoryCow}

@@ -23,12 +23,14 @@ use gp_index::History;
 use gp_round::{Subsets, is_member};
 use std::alloc::Global;
 
-/// What is known, joined with the meets of those sets of `size` of n senders that are whole, in order of
-/// their masks, when a value of one sender replaces its older one. The meets of the older values are in
-/// what is known already. There is none only if nothing is added.
+/// The known history, joined with the meets of those sets of `size` of n senders that are whole, in
+/// order of their masks, after a value of one sender replaces its older one. The known history must
+/// have the meets of the older values already. n must be at most 7, `size` at most n, and `sender`
+/// below n. The result is `None` only if nothing is added. `NoMemory` if memory runs out.
 ///
-/// There is one only if a command that was not known is in the values of all members of some whole set. It
-/// may still add nothing, as when the members disagree on what comes before that command.
+/// The result is a history only if a command that was not known is in the values of all members of
+/// some whole set. That history may still add nothing, for example if the members disagree on what
+/// comes before the command.
 pub fn join_news<V: Values>(
     alloc: Global,
     known: &History,
@@ -77,7 +79,8 @@ pub fn join_news<V: Values>(
     Ok(news)
 }
 
-// How many commands a value has at its start from an older value that it extends; 0 if it extends none.
+// The number of commands at the start of a value that are an older value which it extends; 0 if it
+// does not begin so.
 fn shared_start(old: Option<&History>, new: &History) -> usize
     ensures within { result ≤ length new.now }
     ensures old { IsFromOld (option_map history_of (option_copied old.entry)) new.now result }
@@ -113,7 +116,7 @@ fn count_there<V: Values>(values: &V, n: u32) -> u32
     count
 }
 
-// Whether a history has a command, and all that comes before it there is known.
+// Whether a history has a command that is not known, while all commands before it there are.
 fn is_open(h: &History, c: &Command, known: &History, near: usize) -> bool
     ensures { result ≡ (has (history_of h.now) c.now && is_ready (history_of h.now) (history_of known.now) c.now) }
 {
@@ -126,7 +129,8 @@ fn is_open(h: &History, c: &Command, known: &History, near: usize) -> bool
     }
 }
 
-// Whether a sender does not count, or its value has a command and all that comes before it there is known.
+// Whether a sender does not count, or its value has a command that is not known while all commands
+// before it there are.
 fn opens<V: Values>(values: &V, i: u32, c: &Command, known: &History, near: usize) -> bool
     requires { i < 8 }
     ensures { result ≡ opens (V.within values.now i) (V.value values.now i) (history_of known.now) c.now }
@@ -181,8 +185,8 @@ fn may_add<V: Values>(
     false
 }
 
-// Whether some command of a value, from a place of its sequence on, is not known, and all members of one
-// set have it.
+// Whether some command of a value, from a place of its sequence on, is not known, and all members
+// of one set have it.
 fn has_new_from<V: Values>(
     known: &History,
     values: &V,

@@ -1,9 +1,9 @@
-//! The safe choice.
+//! The safe choice from the answers of phase 1.
 ghost use Rattle.std.specs.Prelude.{◌≡◌, ◌≤◌, IfOk, Option};
 ghost use Rattle.std.specs.Option.{option_map, option_copied};
 ghost use Rattle.gp_history.specs.Sequence.{history_of};
 ghost use Rattle.gp_safe.specs.Choice.{reply_of, reply_by, top_round, votes_at, answers_by, lowest, safe_choice};
-ghost use Rattle.gp_safe.specs.Counting.{AreConsistent, SomeCounts, IsLeastUpperBoundOfValues, IsSafe};
+ghost use Rattle.gp_safe.specs.Counting.{AreConsistent, IsLeastChoice, IsSafe};
 
 use crate::meets::{Values, join_of_meets};
 use gp_command::NoMemory;
@@ -12,7 +12,7 @@ use gp_index::History;
 use gp_round::{Config, Round};
 use std::alloc::Global;
 
-/// What an acceptor answered in the first phase: the last round in which it voted, and its vote there.
+/// What an acceptor answered in phase 1: the last round in which it voted, and its vote there.
 #[derive(Drop, Debug)]
 pub struct Answer {
     pub acceptor: u32,
@@ -22,23 +22,24 @@ pub struct Answer {
 
 /// The safe choice from the answers of acceptors.
 ///
-/// Of the quorums of the greatest round that was answered, of the least size and in order of their
-/// masks, those count whose members among the answering acceptors all answered that round. If one
-/// counts, the choice is the join of the meets of their votes, and otherwise the vote of the lowest
-/// acceptor that answered that round. It is in the manner of the provably safe values of Lamport,
-/// *Generalized Consensus and Paxos*, 2005. Of several answers of one acceptor the first counts, and
-/// those of acceptors that the configuration does not have are passed over.
+/// The choice is made at the greatest round among the answers, from the quorums of that round of
+/// the least size. Such a quorum counts if all its members that answered did so with that round,
+/// and some member did. If a quorum counts, the choice is the join of the meets of the votes of
+/// those that count, in order of their masks. Otherwise it is the vote of the acceptor with the
+/// lowest number that answered with that round. This follows the provably safe values of Lamport,
+/// *Generalized Consensus and Paxos*, 2005. If an acceptor answered several times, its first answer
+/// is used. Answers of acceptors that are not in the configuration are ignored. `NoMemory` if
+/// memory runs out.
 ///
-/// Let the acceptors that answered be a quorum of the first phase, and the meets of those quorums of the least size
-/// that count compatible in pairs. Then the choice is the least upper bound of these meets, of quorums of
-/// every size, if one counts. And it extends each value that a quorum of that round may still
-/// choose, whatever its members that did not answer have voted for.
+/// Suppose that the acceptors that answered are a quorum of phase 1, and that the meets of the
+/// quorums of the least size that count are compatible in pairs. Then the choice extends each value
+/// that a quorum of that round may still choose, whatever its members that did not answer have
+/// voted for. If a quorum counts, the choice is also the least upper bound of the meets of the
+/// counting quorums of every size.
 #[tactic(auto, using(gp_history::proofs::Pushing::history_of_nothing))]
 pub fn pick(alloc: Global, config: &Config, answers: &[Answer]) -> Result<History, NoMemory>
     ensures choice { IfOk result (λ h. history_of h ≡ safe_choice config.now.acceptors (reply_by answers.now)) }
-    ensures least { IfOk result (λ h. AreConsistent config.now.acceptors (reply_by answers.now)
-        → SomeCounts config.now.acceptors (reply_by answers.now)
-        → IsLeastUpperBoundOfValues config.now.acceptors (reply_by answers.now) (history_of h)) }
+    ensures least { IfOk result (λ h. IsLeastChoice config.now.acceptors (reply_by answers.now) (history_of h)) }
     ensures safe { IfOk result (λ h. AreConsistent config.now.acceptors (reply_by answers.now)
         → IsSafe config.now.acceptors (reply_by answers.now) (history_of h)) }
 {
@@ -54,7 +55,7 @@ pub fn pick(alloc: Global, config: &Config, answers: &[Answer]) -> Result<Histor
     }
 }
 
-// The answer of an acceptor.
+// The first answer of an acceptor.
 fn reply_by(answers: &[Answer], acceptor: u32) -> Option<&Answer>
     ensures { option_map reply_of (option_copied result) ≡ reply_by answers.now acceptor }
 {
@@ -66,7 +67,7 @@ fn reply_by(answers: &[Answer], acceptor: u32) -> Option<&Answer>
     None
 }
 
-// The greatest round that was answered.
+// The greatest round among the answers.
 fn top_round(answers: &[Answer], n: u32) -> Round
     ensures { result ≡ top_round (reply_by answers.now) n }
 {
@@ -81,7 +82,8 @@ fn top_round(answers: &[Answer], n: u32) -> Round
     top
 }
 
-// The votes of those that answered one round, by acceptor. Those count that answered.
+// The votes of the acceptors that answered with one round, by acceptor. The acceptors that answered
+// count.
 #[derive(Drop)]
 struct Votes<'a> {
     answers: &'a [Answer],

@@ -7,7 +7,7 @@ use gp_command::NoMemory;
 use gp_history::Hist;
 use gp_index::History;
 
-/// A history that is borrowed, or one of its own: a value that is passed on as it is needs no copy.
+/// A history that is borrowed or owned.
 #[derive(Drop)]
 pub enum HistoryCow<'a> {
     Borrowed(&'a History),
@@ -15,7 +15,7 @@ pub enum HistoryCow<'a> {
 }
 
 impl HistoryCow<'_> {
-    /// The history itself.
+    /// The history.
     pub fn history(&self) -> &History
         ensures { history_of result.now ≡ cow_history self.now }
     {
@@ -25,7 +25,7 @@ impl HistoryCow<'_> {
         }
     }
 
-    /// The history, to be kept: a borrowed one is copied.
+    /// The history, as an owned value. `NoMemory` if memory runs out.
     pub fn into_owned(self) -> Result<History, NoMemory>
         ensures { IfOk result (λ h. history_of h ≡ cow_history self.entry) }
     {

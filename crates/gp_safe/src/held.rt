@@ -1,4 +1,4 @@
-//! What is held of senders: of each the value with the most commands.
+//! The values that are held of senders: of each the one with the most commands.
 ghost use Rattle.std.specs.Prelude.{◌≡◌, Option, IfOk};
 ghost use Rattle.std.specs.Option.{option_map, option_copied};
 ghost use Rattle.gp_history.specs.Sequence.{history_of};
@@ -9,7 +9,8 @@ use gp_command::NoMemory;
 use gp_history::Hist;
 use gp_index::History;
 
-/// A copy of a value, if nothing is held of its sender or what is held has fewer commands.
+/// A copy of a value, if it is to be held: no value of its sender is held, or one with fewer
+/// commands. Otherwise `None`. `NoMemory` if memory runs out.
 pub fn newer(held: Option<&History>, value: &History) -> Result<Option<History>, NoMemory>
     ensures { IfOk result (λ v. option_map history_of v ≡ newer (option_map history_of (option_copied held.entry)) (history_of value.now)) }
 {
@@ -19,7 +20,8 @@ pub fn newer(held: Option<&History>, value: &History) -> Result<Option<History>,
     }
 }
 
-/// Values, with one that replaces what its sender gave, if there is one.
+/// The values of senders, in which a new value of one sender, if there is one, replaces its older
+/// one.
 #[derive(Drop)]
 pub struct Replaced<'a, V> {
     pub values: &'a V,

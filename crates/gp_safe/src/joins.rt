@@ -1,4 +1,4 @@
-//! Joins that share the list of the second history where they can.
+//! The join of two histories, with a case of its own if the second begins with the first.
 ghost use Rattle.std.specs.Prelude.{◌≡◌, IfOk};
 ghost use Rattle.gp_history.specs.Sequence.{history_of};
 ghost use Rattle.gp_history.specs.Bounds.{join};
@@ -9,8 +9,7 @@ use gp_history::walks::common_start;
 use gp_index::History;
 use std::alloc::Global;
 
-/// The join of both. If the commands of the second begin with those of the first, the join shares the
-/// list of the second.
+/// The join of both. `NoMemory` if memory runs out.
 pub fn join(alloc: Global, a: &History, b: &History) -> Result<History, NoMemory>
     ensures { IfOk result (λ j. history_of j ≡ join (history_of a.now) (history_of b.now)) }
 {

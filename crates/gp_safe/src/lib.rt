@@ -1,5 +1,5 @@
-//! The safe choice of a value for a round, and the joins of meets over quorums that it and the roles
-//! are made of.
+//! The safe choice of a value for a round, and the joins of meets over quorums, which the roles use
+//! too.
 #![tactic(auto)]
 
 mod changes;

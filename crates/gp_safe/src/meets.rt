@@ -18,7 +18,7 @@ use gp_index::History;
 use gp_round::{Subsets, is_member};
 use std::alloc::Global;
 
-/// What senders gave, by their numbers.
+/// The values of senders, by the numbers of the senders.
 pub trait Values {
     /// The value of a sender.
     ghost value: { Self → ℕ → Option History };
@@ -26,19 +26,21 @@ pub trait Values {
     /// Whether a sender counts.
     ghost within: { Self → ℕ → Bool };
 
-    /// The value of a sender, if it has one.
+    /// The value of a sender, if it has one. Its number must be below 8.
     fn value(&self, i: u32) -> Option<&History>
         requires { i < 8 }
         ensures { option_map history_of (option_copied result) ≡ value self.now i };
 
-    /// Whether a sender counts. A set of senders is whole if each member that counts has a value.
+    /// Whether a sender counts. Its number must be below 8. A set of senders is whole if each
+    /// member that counts has a value.
     fn is_within(&self, i: u32) -> bool
         requires { i < 8 }
         ensures { result ≡ within self.now i };
 }
 
-/// The join of the meets of those sets with `size` of n senders that are whole, in order of their
-/// masks, if there is one.
+/// The join of the meets of those sets with `size` of n senders that are whole and have a member
+/// that counts, in order of their masks. `None` if there is no such set. n must be at most 7, and
+/// `size` at most n. `NoMemory` if memory runs out.
 #[tactic(auto, using(crate::proofs::Gathering::one_more_meet))]
 pub fn join_of_meets<V: Values>(
     alloc: Global,
@@ -62,8 +64,8 @@ pub fn join_of_meets<V: Values>(
     Ok(joined)
 }
 
-// Whether a join has all commands of the values of all senders that count, so that no further meet
-// adds any.
+// Whether a join has all commands of the values of all senders, so that no further meet adds a
+// command.
 fn has_all_values<V: Values>(joined: Option<&History>, values: &V, n: u32) -> bool
     requires { n ≤ 7 }
     ensures all { result ≡ true → HasAllValues (option_map history_of (option_copied joined.entry)) (V.value values.now) (V.within values.now) n }
@@ -90,7 +92,7 @@ fn has_value_of<V: Values>(joined: &History, values: &V, i: u32) -> bool
     }
 }
 
-// Whether a history has all commands of another one.
+// Whether a history has all commands of another.
 fn has_all_of(joined: &History, value: &History) -> bool
     ensures { result ≡ list_all (has (history_of joined.now)) value.now }
 {
@@ -103,7 +105,7 @@ fn has_all_of(joined: &History, value: &History) -> bool
     true
 }
 
-// What there was, joined with one more if there is one.
+// The join so far, with one more meet if there is one.
 #[tactic(auto, using(crate::proofs::Gathering::join_empty))]
 fn with_meet(joined: Option<History>, met: Option<History>) -> Result<Option<History>, NoMemory>
     ensures { IfOk result (λ j. option_map history_of j ≡ with_meet (option_map history_of joined) (option_map history_of met)) }
@@ -115,7 +117,8 @@ fn with_meet(joined: Option<History>, met: Option<History>) -> Result<Option<His
     }
 }
 
-/// The meet of the values of one set, if it is whole and not empty.
+/// The meet of the values of one set, if it is whole and has a member that counts. `NoMemory` if
+/// memory runs out.
 pub(crate) fn quorum_meet<V: Values>(
     alloc: Global,
     values: &V,
@@ -155,7 +158,7 @@ pub(crate) fn is_whole<V: Values>(values: &V, n: u32, mask: u8) -> bool
     true
 }
 
-// The meet with one value more. The meet of one value borrows it.
+// The meet with one more value. The meet of one value borrows it.
 fn and_value<'a>(
     alloc: Global,
     met: Option<HistoryCow<'a>>,

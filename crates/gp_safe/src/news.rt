@@ -1,4 +1,4 @@
-//! What is known, with what the meets of quorums add to it.
+//! The known history, with what the meets of quorums add to it.
 ghost use Rattle.std.specs.Prelude.{◌≡◌, ◌≤◌, ◌&&◌, ◌||◌, [], Option, IfOk, unwrap_or};
 ghost use Rattle.std.specs.Option.{option_map, option_copied, is_some};
 ghost use Rattle.gp_history.specs.History.{has};
@@ -17,7 +17,7 @@ use gp_index::History;
 use gp_round::is_member;
 use std::alloc::Global;
 
-// What is known by now.
+// The known history so far.
 pub(crate) fn latest<'a>(known: &'a History, news: &'a Option<History>) -> &'a History
     ensures { history_of result.now ≡ unwrap_or (option_map history_of news.now) (history_of known.now) }
 {
@@ -27,7 +27,7 @@ pub(crate) fn latest<'a>(known: &'a History, news: &'a Option<History>) -> &'a H
     }
 }
 
-// What is known by now, joined with a meet if there is one.
+// The known history so far, joined with a meet if there is one.
 pub(crate) fn with_new(
     alloc: Global,
     known: &History,
@@ -67,7 +67,8 @@ fn is_in(value: Option<&History>, c: &Command, near: usize) -> bool
     }
 }
 
-// Whether a history has a command. It is looked for from a place on, near which it mostly is.
+// Whether a history has a command. The search starts at `near`, since the command is usually close
+// to it.
 #[tactic(auto, using(crate::proofs::Adding::has_from_place))]
 pub(crate) fn has_near(h: &History, c: &Command, near: usize) -> bool
     ensures { result ≡ has (history_of h.now) c.now }

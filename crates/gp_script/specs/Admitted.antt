@@ -8,7 +8,7 @@ use Rattle.gp_service.specs.Languages.{Language, IsSpoken}
 use Rattle.gp_script.specs.declared.items.Item.{Item}
 use Rattle.gp_script.specs.declared.items.Item.TheVariants.{Offer, Begin, Take, Fall, Show}
 
--- the nodes are of the configuration, a begun round is its coordinator's own, and a crash is of a kind that can be
+-- the nodes are of the configuration, a round that is begun is its coordinator's own, and a crash is one that the node can have
 abbrev pub IsInPlace : Counts → Item → Type 0
 IsInPlace c (Offer proposer draft) = proposer < PROPOSERS
 IsInPlace c (Begin coordinator round) = IsTrue (is_owner c.coordinators coordinator round)
@@ -16,7 +16,7 @@ IsInPlace c (Take node message) = IsTrue (is_present c node) × (message < 2 ^ 6
 IsInPlace c (Fall node what) = IsTrue (is_present c node) × IsTrue (may_keep c (2 ^ 64) node what)
 IsInPlace c (Show learner) = learner < c.learners
 
--- the same, and a draft that is offered is that of an operation of the language
+-- the same, and an offered draft is that of an operation of the language
 abbrev pub IsAdmitted : Language → Counts → Item → Type 0
 IsAdmitted language c (Offer proposer draft) = (proposer < PROPOSERS) × IsSpoken language draft
 IsAdmitted language c (Begin coordinator round) = IsInPlace c (Begin coordinator round)

@@ -1,4 +1,4 @@
--- What is wrong with a line of the table that says nothing: its first token that breaks its rule.
+-- What is wrong with a line of the table that is refused: its first token that breaks its rule.
 use Rattle.std.specs.Prelude.{◌≡◌, ◌≢◌, ◌⊎◌, ℕ, ◌<◌, ◌≤◌, ◌^◌, List, Some, None, Err, IsTrue, decimal}
 use Rattle.gp_round.specs.Counts.{Counts}
 use Rattle.gp_round.specs.declared.config.TheConstants.{LAST_COUNT}
@@ -16,15 +16,15 @@ use Rattle.gp_script.specs.Forms.{Form, NodesLine, OfferLine, BeginLine, TakeLin
 
 -- ---- the rules of tokens
 
--- it is written as a number below 2^64 is
+-- the token is the spelling of a number below 2^64
 abbrev pub IsNumberWord : List ℕ → Type 0
 IsNumberWord token = (n : ℕ) × (token ≡ decimal n) × (n < 2 ^ 64)
 
--- it is written as a number from low to high is
+-- the token is the spelling of a number from low to high
 abbrev pub IsCountWord : ℕ → ℕ → List ℕ → Type 0
 IsCountWord low high token = (n : ℕ) × (token ≡ decimal n) × (low ≤ n) × (n ≤ high)
 
--- it is the letter and the number of a node of the configuration
+-- the token is the letter and the number of a node of the configuration
 abbrev pub IsNodeWord : Counts → List ℕ → Type 0
 IsNodeWord c token = (node : Node) × (token ≡ node_word node) × IsTrue (is_present c node)
 
@@ -37,35 +37,35 @@ IsCoordinatorWord c token = (n : ℕ) × (token ≡ node_word (Coordinator n)) �
 abbrev pub IsLearnerWord : Counts → List ℕ → Type 0
 IsLearnerWord c token = (n : ℕ) × (token ≡ node_word (Learner n)) × IsTrue (is_present c (Learner n))
 
--- ---- the first that is broken
+-- ---- the first rule that is broken
 
--- a token breaks its rule, for its reason
+-- a token breaks its rule, and the reason is that of the rule
 abbrev pub BreaksRule : Type 0 → Reason → Reason → Type 0
 BreaksRule rule why reason = (¬ rule) × (reason ≡ why)
 
--- it does, or it keeps the rule, and this is so of the tokens behind it
+-- the token breaks its rule, or it keeps the rule and a later token breaks one
 abbrev pub BreaksFirst : Type 0 → Reason → Reason → Type 0 → Type 0
 BreaksFirst rule why reason later = BreaksRule rule why reason ⊎ (rule × later)
 
--- no number, or one that is out of range
+-- the token is no number, or a number that is out of range
 abbrev pub BreaksCount : ℕ → ℕ → List ℕ → Reason → Type 0
 BreaksCount low high token reason = BreaksFirst (IsNumberWord token) BadNumber reason (BreaksRule (IsCountWord low high token) BadCount reason)
 
--- what a crash keeps
+-- a token of what a crash keeps breaks its rule
 abbrev pub BreaksKept : KeptForm → Reason → Type 0
 BreaksKept NothingKept reason = ⊥
 BreaksKept (TakeKept message) reason = BreaksRule (IsNumberWord message) BadNumber reason
 BreaksKept (BeginKept count mode) reason = BreaksCount 1 LAST_COUNT count reason
 
--- the words of an operation, of which the first with a fault gives the reason
+-- the words of an operation have a fault, and the first one gives the reason
 abbrev pub BreaksWords : Language → List (List ℕ) → Reason → Type 0
 BreaksWords language words reason = (fault : OpFault) × (language words ≡ Some (Err fault)) × (reason ≡ fault_reason fault)
 
--- a node that may not crash so, and then what it keeps
+-- the node cannot crash in this way, or else a token of what it keeps breaks its rule
 abbrev pub BreaksFall : List ℕ → KeptForm → Reason → Type 0
 BreaksFall token form reason = (node : Node) × (token ≡ node_word node) × BreaksFirst (IsTrue (may_fall node (step_in form))) BadFall reason (BreaksKept form reason)
 
--- the tokens of a line behind the `nodes` line, from left to right. That no operation has such words comes before the proposer
+-- the tokens of a line after the `nodes` line, from left to right. That no operation has such words comes before the proposer
 abbrev pub BreaksLine : Language → Counts → Form → Reason → Type 0
 BreaksLine language c (NodesLine acceptors coordinators learners) reason = reason ≡ BadLine
 BreaksLine language c (OfferLine node words) reason = BreaksFirst (language words ≢ None) BadLine reason (BreaksFirst (IsProposerWord c node) NoNode reason (BreaksWords language words reason))
@@ -74,7 +74,7 @@ BreaksLine language c (TakeLine node message) reason = BreaksFirst (IsNodeWord c
 BreaksLine language c (FallLine node form) reason = BreaksFirst (IsNodeWord c node) NoNode reason (BreaksFall node form reason)
 BreaksLine language c (ShowLine node) reason = BreaksRule (IsLearnerWord c node) NoNode reason
 
--- the three numbers of a `nodes` line
+-- the three numbers of a `nodes` line, from left to right
 abbrev pub BreaksCounts : Form → Reason → Type 0
 BreaksCounts (NodesLine acceptors coordinators learners) reason =
     BreaksCount 3 7 acceptors reason ⊎ (IsCountWord 3 7 acceptors × (BreaksCount 1 5 coordinators reason ⊎ (IsCountWord 1 5 coordinators × BreaksCount 1 4 learners reason)))

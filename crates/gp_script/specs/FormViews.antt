@@ -1,4 +1,4 @@
--- Forms without where their tokens lie in memory.
+-- Forms without the place of their tokens in memory.
 use Rattle.gp_words.specs.Tokens.{texts}
 use Rattle.gp_script.specs.declared.forms.Form.{Form}
 use Rattle.gp_script.specs.declared.forms.Form.TheVariants as line

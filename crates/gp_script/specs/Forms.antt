@@ -1,4 +1,4 @@
--- The lines of a script by their words: which tokens stand for names and numbers.
+-- The lines of a script by their words: which tokens are names and numbers.
 use Rattle.std.specs.Prelude.{ℕ, List, [], ◌∷◌, Option, Some, None, option_map, if◌then◌else◌, codes}
 use Rattle.std.specs.Str.{bytes_eq}
 use Rattle.gp_round.specs.declared.round.Mode.{Mode}
@@ -11,7 +11,7 @@ pub data KeptForm : Type 0 where
   TakeKept : List ℕ → KeptForm
   BeginKept : List ℕ → Mode → KeptForm
 
--- a row of the table, with the tokens that stand for names and numbers; behind the node of an offer stand the words of its operation
+-- a row of the table, with the tokens of its names and numbers; the words of an operation follow the node of an offer
 pub data Form : Type 0 where
   NodesLine : List ℕ → List ℕ → List ℕ → Form
   OfferLine : List ℕ → List (List ℕ) → Form
@@ -28,37 +28,37 @@ mode_of word =
     else if bytes_eq word (codes "fast") then Some Fast
     else None
 
--- behind `nodes` stand three numbers
+-- three numbers follow `nodes`
 abbrev pub nodes_form : List (List ℕ) → Option Form
 nodes_form (acceptors ∷ coordinators ∷ learners ∷ []) = Some (NodesLine acceptors coordinators learners)
 nodes_form _ = None
 
--- behind `offer` stand a node and the words of an operation
+-- a node and the words of an operation follow `offer`
 abbrev pub offer_form : List (List ℕ) → Option Form
 offer_form [] = None
 offer_form (node ∷ words) = Some (OfferLine node words)
 
--- behind `begin` stand a node, a count and a mode
+-- a node, a count and a mode follow `begin`
 abbrev pub begin_form : List (List ℕ) → Option Form
 begin_form (node ∷ count ∷ mode ∷ []) = option_map (BeginLine node count) (mode_of mode)
 begin_form _ = None
 
--- behind `take` stand a node and a message
+-- a node and a message follow `take`
 abbrev pub take_form : List (List ℕ) → Option Form
 take_form (node ∷ message ∷ []) = Some (TakeLine node message)
 take_form _ = None
 
--- behind the `take` of a crash stands a message
+-- a message follows the `take` of a crash
 abbrev pub kept_take_form : List (List ℕ) → Option KeptForm
 kept_take_form (message ∷ []) = Some (TakeKept message)
 kept_take_form _ = None
 
--- behind the `begin` of a crash stand a count and a mode
+-- a count and a mode follow the `begin` of a crash
 abbrev pub kept_begin_form : List (List ℕ) → Option KeptForm
 kept_begin_form (count ∷ mode ∷ []) = option_map (BeginKept count) (mode_of mode)
 kept_begin_form _ = None
 
--- behind the node of a crash stands nothing, or the step that is kept
+-- nothing follows the node of a crash, or the step that is kept
 abbrev pub kept_form : List (List ℕ) → Option KeptForm
 kept_form [] = Some NothingKept
 kept_form (word ∷ others) =
@@ -66,12 +66,12 @@ kept_form (word ∷ others) =
     else if bytes_eq word (codes "begin") then kept_begin_form others
     else None
 
--- behind `fall` stand a node and what is kept
+-- a node and what is kept follow `fall`
 abbrev pub fall_form : List (List ℕ) → Option Form
 fall_form [] = None
 fall_form (node ∷ kept) = option_map (FallLine node) (kept_form kept)
 
--- behind `show` stands a node
+-- a node follows `show`
 abbrev pub show_form : List (List ℕ) → Option Form
 show_form (node ∷ []) = Some (ShowLine node)
 show_form _ = None
@@ -88,6 +88,6 @@ form_by_word (word ∷ others) =
     else if bytes_eq word (codes "show") then show_form others
     else None
 
--- the row of the table that has these tokens, if there is one; an empty token makes the line wrong
+-- the row of the table that has these tokens, if there is one; no row has an empty token
 unfoldable pub form_of : List (List ℕ) → Option Form
 form_of tokens = if has_empty tokens then None else form_by_word tokens

@@ -7,7 +7,9 @@ use Rattle.gp_round.specs.Configs.{round_of}
 use Rattle.gp_msg.specs.declared.node.Node.{Node}
 use Rattle.gp_msg.specs.declared.event.Kept.{Kept}
 use Rattle.gp_msg.specs.declared.event.Kept.TheVariants as kept
-use Rattle.gp_msg.specs.Nodes.{node_number, KeptStep, Took, Began, may_fall}
+use Rattle.gp_msg.specs.declared.event.KeptStep.{KeptStep}
+use Rattle.gp_msg.specs.declared.event.KeptStep.TheVariants.{Took, Began}
+use Rattle.gp_msg.specs.Nodes.{node_number, may_fall}
 use Rattle.gp_memory.specs.Results.{◌>>=◌}
 use Rattle.gp_service.specs.Languages.{Language}
 use Rattle.gp_script.specs.declared.reason.Reason.{Reason}
@@ -18,7 +20,7 @@ use Rattle.gp_script.specs.Reasons.{or_reason}
 use Rattle.gp_script.specs.Names.{number, count_of, node_of, proposer_of, coordinator_of, learner_of}
 use Rattle.gp_script.specs.Forms.{Form, NodesLine, OfferLine, BeginLine, TakeLine, FallLine, ShowLine, KeptForm, NothingKept, TakeKept, BeginKept}
 
--- a count of rounds
+-- the count of a round
 abbrev pub round_count : List ℕ → Result ℕ Reason
 round_count = count_of 1 LAST_COUNT
 
@@ -70,7 +72,7 @@ plain_item_of c (ShowLine node) = do
   learner ← learner_of c node
   Ok (Show learner)
 
--- what a line behind the `nodes` line says in a language
+-- what a line after the `nodes` line says in a language
 abbrev pub item_of : Language → Counts → Form → Result Item Reason
 item_of language c (NodesLine acceptors coordinators learners) = Err BadLine
 item_of language c (OfferLine node words) = offer_of language c node words

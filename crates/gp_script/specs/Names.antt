@@ -25,7 +25,7 @@ unfoldable pub letter_and_number : List ℕ → Option (ℕ × ℕ)
 letter_and_number [] = None
 letter_and_number (letter ∷ digits) = option_map (λ n. (letter, n)) (number_of digits)
 
--- by its letter: `p` (112) is a proposer, `c` (99) a coordinator, `a` (97) an acceptor and `l` (108) a learner of the configuration
+-- the node of the configuration with this letter and number: `p` (112) is a proposer, `c` (99) a coordinator, `a` (97) an acceptor and `l` (108) a learner
 abbrev pub node_by : Counts → ℕ → ℕ → Result Node Reason
 node_by c letter n =
     if letter == 112 && nat_lt n PROPOSERS then Ok (Proposer n)
@@ -61,14 +61,14 @@ as_learner (Coordinator n) = Err NoNode
 as_learner (Acceptor n) = Err NoNode
 as_learner (Learner n) = Ok n
 
--- a token where the table wants a proposer
+-- the proposer that a token names
 abbrev pub proposer_of : Counts → List ℕ → Result ℕ Reason
 proposer_of c token = node_of c token >>= as_proposer
 
--- a token where it wants a coordinator
+-- the coordinator that a token names
 abbrev pub coordinator_of : Counts → List ℕ → Result ℕ Reason
 coordinator_of c token = node_of c token >>= as_coordinator
 
--- a token where it wants a learner
+-- the learner that a token names
 abbrev pub learner_of : Counts → List ℕ → Result ℕ Reason
 learner_of c token = node_of c token >>= as_learner

@@ -1,11 +1,11 @@
--- Why what a line's words say is refused.
+-- Why the words of a line are refused.
 use Rattle.std.specs.Prelude.{Result, Ok, Err}
 use Rattle.gp_store.specs.declared.form.OpFault.{OpFault}
 use Rattle.gp_store.specs.declared.form.OpFault.TheVariants as fault
 use Rattle.gp_script.specs.declared.reason.Reason.{Reason}
 use Rattle.gp_script.specs.declared.reason.Reason.TheVariants.{BadNumber, BadKey}
 
--- why a line is refused whose operation has a fault
+-- the reason of a line whose operation has this fault
 abbrev pub fault_reason : OpFault → Reason
 fault_reason fault.BadKey = BadKey
 fault_reason fault.BadNumber = BadNumber

@@ -27,11 +27,11 @@ mode_word Single = codes "single"
 mode_word Multi = codes "multi"
 mode_word Fast = codes "fast"
 
--- the count and the mode of a round; whose round it is stands elsewhere in the line
+-- the count and the mode of a round; its owner is named elsewhere in the line
 abbrev pub round_words : Round → List ℕ
 round_words r = decimal r.count ++ codes " " ++ mode_word r.mode
 
--- the step that a crash keeps, behind the node
+-- the step that a crash keeps, after the node
 abbrev pub kept_words : Option Kept → List ℕ
 kept_words None = codes ""
 kept_words (Some (kept.Take message)) = codes " take " ++ decimal message
@@ -45,7 +45,7 @@ item_line (Take node message) = codes "take " ++ node_word node ++ codes " " ++ 
 item_line (Fall node what) = codes "fall " ++ node_word node ++ kept_words what
 item_line (Show learner) = codes "show " ++ node_word (Learner learner)
 
--- the most bytes that a line of this row of the table has
+-- the greatest number of bytes in a line of this row of the table
 abbrev pub longest_line : Item → ℕ
 longest_line (Offer proposer draft) = 71
 longest_line (Begin coordinator round) = 23

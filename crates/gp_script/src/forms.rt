@@ -7,7 +7,7 @@ ghost use Rattle.gp_script.specs.FormViews.{form_view, kept_view};
 use gp_round::Mode;
 use gp_words::has_empty;
 
-/// What a crash keeps, with the tokens that stand for numbers.
+/// What a crash keeps, with the tokens of its numbers.
 #[derive(Clone, Copy, Debug)]
 pub enum KeptForm<'a> {
     /// Nothing but what was durable before.
@@ -18,7 +18,7 @@ pub enum KeptForm<'a> {
     Begin(&'a [u8], Mode),
 }
 
-/// A line, with the tokens that stand for names and numbers.
+/// A line, with the tokens of its names and numbers.
 #[derive(Clone, Copy, Debug)]
 pub enum Form<'t, 'a> {
     /// The numbers of acceptors, coordinators and learners.
@@ -172,7 +172,7 @@ fn form_by_word<'t, 'a>(tokens: &'t [&'a [u8]]) -> Option<Form<'t, 'a>>
     }
 }
 
-/// The line of the table that has these tokens, if there is one. It takes no memory.
+/// The line of the table that has these tokens, or `None` if there is none.
 #[tactic(auto, unfolding(crate::specs::Forms::form_of))]
 pub fn form_of<'t, 'a>(tokens: &'t [&'a [u8]]) -> Option<Form<'t, 'a>>
     ensures { option_map form_view result ≡ form_of (texts tokens.now) }

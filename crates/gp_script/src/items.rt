@@ -11,7 +11,7 @@ use crate::forms::{Form, KeptForm};
 use crate::names::{coordinator_of, count_of, learner_of, node_of, number, proposer_of};
 use crate::reason::Reason;
 use gp_command::Draft;
-use gp_msg::{Kept, Node};
+use gp_msg::{Kept, KeptStep, Node, may_fall};
 use gp_round::{Config, LAST_COUNT, Round};
 use gp_service::{Service, Unsaid};
 use std::alloc::Global;
@@ -37,16 +37,13 @@ fn round_count(token: &[u8]) -> Result<u32, Reason>
     count_of(1, LAST_COUNT, token)
 }
 
-fn may_fall(node: Node, form: KeptForm<'_>) -> bool
-    ensures { result ≡ may_fall node (step_in (kept_view form.entry)) }
+fn step_in(form: KeptForm<'_>) -> Option<KeptStep>
+    ensures { result ≡ step_in (kept_view form.entry) }
 {
-    match (node, form) {
-        (Node::Proposer(_), _) => false,
-        (Node::Coordinator(_), _) => true,
-        (Node::Acceptor(_), KeptForm::Begin(_, _)) => false,
-        (Node::Acceptor(_), _) => true,
-        (Node::Learner(_), KeptForm::Nothing) => true,
-        (Node::Learner(_), _) => false,
+    match form {
+        KeptForm::Nothing => None,
+        KeptForm::Take(_) => Some(KeptStep::Took),
+        KeptForm::Begin(_, _) => Some(KeptStep::Began),
     }
 }
 
@@ -77,7 +74,7 @@ fn node_number(node: Node) -> u32
 fn fall_of(node: Node, form: KeptForm<'_>) -> Result<Item, Reason>
     ensures { result ≡ fall_of node (kept_view form.entry) }
 {
-    if !may_fall(node, form) {
+    if !may_fall(node, step_in(form)) {
         return Err(Reason::BadFall);
     }
     let kept = kept_of(node_number(node), form)?;
@@ -132,7 +129,9 @@ fn plain_item_of(config: &Config, line: Form<'_, '_>) -> Result<Item, Reason>
     }
 }
 
-/// What a line after the `nodes` line says to a service, its tokens read from left to right.
+/// What a line after the `nodes` line says to a service. Its tokens are read from left to right,
+/// and the first one that breaks its rule gives the reason. If no operation has the words of an
+/// offer, the reason is `BadLine`, whatever its other tokens are.
 #[tactic(auto, unfolding(crate::specs::Items::plain_item_of))]
 pub fn item_of<S: Service>(
     alloc: Global,
@@ -147,7 +146,8 @@ pub fn item_of<S: Service>(
     }
 }
 
-/// The configuration that the `nodes` line says. It takes no memory.
+/// The configuration that the `nodes` line gives. Its numbers are read from left to right, and the
+/// first one that breaks its rule gives the reason. Any other line is a `BadLine`.
 #[tactic(auto, unfolding(crate::specs::Items::counts_of))]
 pub fn config_of(line: Form<'_, '_>) -> Result<Config, Reason>
     ensures { result ≡ counts_of (form_view line.entry) }

@@ -8,14 +8,15 @@ use gp_msg::Node;
 use gp_round::Config;
 use gp_words::number_of;
 
-/// The number that a token spells.
+/// The number that a token spells, or `BadNumber` if it spells none.
 pub fn number(token: &[u8]) -> Result<u64, Reason>
     ensures { result ≡ number token.now }
 {
     number_of(token).ok_or(Reason::BadNumber)
 }
 
-/// The number that a token spells, from `low` to `high`.
+/// The number from `low` to `high` that a token spells. The result is `BadNumber` if the token
+/// spells no number, and `BadCount` if the number is out of range.
 #[tactic(auto, unfolding(crate::specs::Names::count_of))]
 pub fn count_of(low: u32, high: u32, token: &[u8]) -> Result<u32, Reason>
     ensures said { result ≡ count_of low high token.now }
@@ -38,7 +39,7 @@ fn letter_and_number(token: &[u8]) -> Option<(u8, u64)>
     Some((*letter, number))
 }
 
-/// The node of the configuration that a token names.
+/// The node of the configuration that a token names, or `NoNode` if it names none.
 #[tactic(auto, unfolding(crate::specs::Names::node_of))]
 pub fn node_of(config: &Config, token: &[u8]) -> Result<Node, Reason>
     ensures { result ≡ node_of config.now token.now }
@@ -57,7 +58,7 @@ pub fn node_of(config: &Config, token: &[u8]) -> Result<Node, Reason>
     }
 }
 
-/// The proposer that a token names.
+/// The proposer that a token names, or `NoNode` if it names none.
 pub fn proposer_of(config: &Config, token: &[u8]) -> Result<u32, Reason>
     ensures { result ≡ proposer_of config.now token.now }
 {
@@ -67,7 +68,7 @@ pub fn proposer_of(config: &Config, token: &[u8]) -> Result<u32, Reason>
     }
 }
 
-/// The coordinator that a token names.
+/// The coordinator that a token names, or `NoNode` if it names none.
 pub fn coordinator_of(config: &Config, token: &[u8]) -> Result<u32, Reason>
     ensures { result ≡ coordinator_of config.now token.now }
 {
@@ -77,7 +78,7 @@ pub fn coordinator_of(config: &Config, token: &[u8]) -> Result<u32, Reason>
     }
 }
 
-/// The learner that a token names.
+/// The learner that a token names, or `NoNode` if it names none.
 pub fn learner_of(config: &Config, token: &[u8]) -> Result<u32, Reason>
     ensures { result ≡ learner_of config.now token.now }
 {

@@ -10,9 +10,10 @@ use gp_store::OpFault;
 pub enum Reason {
     /// The line holds the byte at place 1,048,576 of the input, counted from 0.
     TooLong,
-    /// The first line that is not passed over is no `nodes` line, or there is no such line.
+    /// The first line that is not passed over is not a `nodes` line, or there is no such line.
     NoNodesLine,
-    /// The first word is unknown, a second `nodes`, or the other words are not those of the table.
+    /// The first word is unknown or a second `nodes`, or the other words are not those of the
+    /// table.
     BadLine,
     /// A number is not spelled in decimal without leading zeros, or is 2^64 or more.
     BadNumber,
@@ -22,9 +23,9 @@ pub enum Reason {
     BadKey,
     /// There is no such node, or one of its kind cannot be named here.
     NoNode,
-    /// A node of this kind cannot crash so.
+    /// A node of this kind cannot crash in this way.
     BadFall,
-    /// The message is not there yet.
+    /// The message was not sent yet.
     NoMessage,
     /// It is the 1,025th offer.
     TooManyCommands,

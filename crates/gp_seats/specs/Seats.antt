@@ -14,7 +14,7 @@ use Rattle.gp_cell.specs.Cells.{CellState, cell_of, IsFreshLog, log_of}
 use Rattle.gp_cell.specs.Working.{process_of, IsAt}
 use Rattle.gp_phase.specs.Phases.{IsNew}
 
--- nothing was appended to the log, and it can be
+-- the log is ready and has no entries
 abbrev pub IsBlank : {D : Type 0} → LogState D → Type 0
 IsBlank log = (log.ready ≡ true) × (log.entries ≡ [])
 
@@ -25,11 +25,11 @@ has_log (node.Coordinator c) = true
 has_log (node.Acceptor a) = true
 has_log (node.Learner l) = false
 
--- the log of a node, if the next nodes have these logs
+-- the log of a node, if these are the logs of this node and of those after it
 abbrev pub first_log : {D : Type 0} → Node → List (LogState D) → Option (LogState D)
 first_log n logs = cond (has_log n) (slice_get logs 0) None
 
--- the logs of the nodes behind it
+-- the logs of the nodes after it
 abbrev pub later_logs : {D : Type 0} → Node → List (LogState D) → List (LogState D)
 later_logs n logs = cond (has_log n) (drop 1 logs) logs
 
@@ -41,7 +41,7 @@ IsUnused config p = (is_present config p.node ≡ true) × (p.seen ≡ [])
 abbrev pub seat : {D : Type 0} → Counts → PassState → Option (LogState D) → Job (CellState D)
 seat config p log = record { cell = cell_of config p.node (opening config p.node) log p None; first = []; cursor = 0; turn = 0; risen = false; fault = None }
 
--- jobs of the nodes of these passes, of which those with a log take these logs, in their order
+-- jobs of the nodes of these passes; those with a log take these logs, in their order
 abbrev pub seats : {D : Type 0} → Counts → List PassState → List (LogState D) → List (Job (CellState D))
 seats config [] logs = []
 seats config (p ∷ ps) logs = seat config p (first_log p.node logs) ∷ seats config ps (later_logs p.node logs)
@@ -60,10 +60,10 @@ logs_in (j ∷ js) = option_to_list (log_of j.cell) ++ logs_in js
 abbrev pub new_passes : WireState PaxosRules → List Node → List PassState
 new_passes wire ns = map (λ n. new_pass n wire.id wire.nodes (n ∷ [])) ns
 
--- the job is one of a node that is up at this wire and has posted nothing, where `faults` counts the faults of a disk
+-- the job is one of a node that is up at this wire and has posted nothing; `faults` counts the faults of a disk
 abbrev pub IsNewAt : {D : Type 0} → (D → ℕ) → WireState PaxosRules → Job (CellState D) → Type 0
 IsNewAt faults wire job = IsNew (process_of faults) (λ c w. IsAt c w) wire job
 
--- so is this job, and its node is one of this configuration
+-- this job is such a job, and its node is one of this configuration
 abbrev pub IsNewJob : {D : Type 0} → (D → ℕ) → WireState PaxosRules → Counts → Job (CellState D) → Type 0
 IsNewJob faults wire config job = IsNewAt faults wire job × (job.cell.config ≡ config)

@@ -1,4 +1,5 @@
-//! The start of a run on threads: a wire with all nodes of a configuration, and a job for each of them.
+//! The start of a run in threads: a wire with all nodes of a configuration, and a job for each of
+//! them.
 #![tactic(auto)]
 
 pub mod laws;

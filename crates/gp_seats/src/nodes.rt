@@ -7,7 +7,7 @@ use gp_msg::Node;
 use gp_round::Config;
 use std::alloc::Global;
 
-/// What a node does.
+/// The role of a node.
 #[derive(Clone, Copy, Debug)]
 pub enum Role {
     Acceptor,
@@ -17,7 +17,7 @@ pub enum Role {
 }
 
 impl Role {
-    /// The node of the role with a number. It takes no memory.
+    /// The node of this role with this number.
     pub fn node(self, number: u32) -> Node
         ensures { result ≡ node_of self number }
     {
@@ -30,7 +30,7 @@ impl Role {
     }
 }
 
-// Appends the first nodes of a role.
+// Appends the first `count` nodes of a role.
 fn push_first(nodes: &mut Vec<Node>, role: Role, count: u32) -> Result<(), NoMemory>
     ensures { OnOk result (nodes.new.items ≡ nodes.old.items ++ first_of role count) }
 {

@@ -114,9 +114,10 @@ fn all_done<D: Disk>(jobs: &[Job<D>]) -> bool
     true
 }
 
-/// Posts the offers in one phase of the proposers alone, each its own in their order. The jobs are new ones of the eight
-/// proposers, and they come back in order. It is refused if memory runs out, also inside a job: a proposer has no disk that
-/// could fail. The wire then may have some of the offers.
+/// Posts the offers in one work phase of the proposers alone: each proposer posts its own offers,
+/// in their order. `proposers` are new jobs of the eight proposers, and they are returned in the
+/// same order. Returns `NoMemory` if memory runs out, also inside a job; a proposer has no disk
+/// that could fail. The wire may then have some of the offers.
 pub fn offer_all<D: Disk + Send, W: Threads + Wait + Sync, G: Gate + Sync>(
     rt: &W,
     alloc: Global,

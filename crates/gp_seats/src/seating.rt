@@ -15,7 +15,7 @@ use gp_vlog::Log;
 use gp_wire::{Pass, Wire};
 use std::alloc::Global;
 
-/// A new wire, and the jobs of its nodes. The proposers' stand apart.
+/// A new wire, and the jobs of its nodes. The jobs of the proposers are in a list of their own.
 #[derive(Drop)]
 pub struct Seated<D: Disk> {
     pub wire: Wire<PaxosRules>,
@@ -23,13 +23,13 @@ pub struct Seated<D: Disk> {
     pub proposers: Vec<Job<D>>,
 }
 
-/// Memory ran out, and the logs come back in their order.
+/// Memory ran out. The logs are returned in their order.
 #[derive(Drop)]
 pub struct Unseated<D: Disk> {
     pub logs: Vec<Log<D>>,
 }
 
-// Leaves the first passes, and answers the others.
+// Keeps the first `count` passes, and returns the others.
 fn split_behind(alloc: Global, passes: &mut Vec<Pass>, count: usize) -> Result<Vec<Pass>, NoMemory>
     requires { count ≤ length passes.old.items }
     ensures split { IfOk result (λ last. passes.old.items ≡ passes.new.items ++ last.items) }
@@ -45,7 +45,7 @@ fn split_behind(alloc: Global, passes: &mut Vec<Pass>, count: usize) -> Result<V
     Ok(last)
 }
 
-// A new wire, the passes of its nodes but the proposers, and the jobs of the proposers.
+// A new wire, the passes of all its nodes except the proposers, and the jobs of the proposers.
 fn open<D: Disk>(
     alloc: Global,
     config: Config,
@@ -64,9 +64,10 @@ fn open<D: Disk>(
     }
 }
 
-/// A wire with all nodes of a configuration, and their jobs, which have no move to make: those of the acceptors, of the
-/// coordinators and of the learners in this order, and those of the eight proposers. The logs, which are ready and without
-/// entries, are those of the acceptors and then of the coordinators.
+/// A wire with all nodes of a configuration, and their jobs, which have no moves to make: `jobs`
+/// are those of the acceptors, then of the coordinators, then of the learners, and `proposers` are
+/// those of the eight proposers. The given logs are ready and have no entries; they are those of
+/// the acceptors and then of the coordinators. If memory runs out, they are returned.
 pub fn seat_all<D: Disk>(
     alloc: Global,
     config: Config,

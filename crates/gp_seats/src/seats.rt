@@ -13,7 +13,7 @@ use gp_vlog::Log;
 use gp_wire::Pass;
 use std::alloc::Global;
 
-// The log of a node, if it keeps one. The logs stand in the reverse order of their nodes.
+// The log of a node, if it keeps one. The logs are in the reverse order of their nodes.
 fn next_log<D: Disk>(node: Node, logs: &mut Vec<Log<D>>) -> Option<Log<D>>
     ensures log { result ≡ first_log node (reverse logs.old.items) }
     ensures rest { logs.old.items ≡ logs.new.items ++ option_to_list result }
@@ -25,7 +25,7 @@ fn next_log<D: Disk>(node: Node, logs: &mut Vec<Log<D>>) -> Option<Log<D>>
     }
 }
 
-// A job of the node of a pass. If memory runs out, the log comes back.
+// A job of the node of a pass. If memory runs out, the log is returned.
 fn make_job<D: Disk>(
     alloc: Global,
     config: Config,
@@ -72,7 +72,7 @@ fn log_in<D: Disk>(job: Job<D>) -> Option<Log<D>>
     log
 }
 
-// The logs of jobs, and behind them others that stand in reverse order.
+// The logs of the jobs, followed by the given logs, which are in reverse order.
 fn take_back<D: Disk>(jobs: Vec<Job<D>>, mut logs: Vec<Log<D>>) -> Vec<Log<D>>
     requires { length (logs_in jobs.items) + length logs.items ≤ vec_capacity logs }
     ensures { result.items ≡ logs_in jobs.items ++ reverse logs.items }
@@ -86,8 +86,8 @@ fn take_back<D: Disk>(jobs: Vec<Job<D>>, mut logs: Vec<Log<D>>) -> Vec<Log<D>>
     logs
 }
 
-/// Jobs of the nodes of unused passes, in their order. Those that keep a log take the logs in order. If memory runs out, the
-/// logs come back as they were.
+/// Jobs of the nodes of unused passes, in their order. The nodes that keep a log take the logs in
+/// their order. If memory runs out, the logs are returned as they were.
 pub fn make_jobs<D: Disk>(
     alloc: Global,
     config: Config,

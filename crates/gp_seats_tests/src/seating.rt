@@ -16,8 +16,8 @@ use std::thread::Threads;
 
 const SCRIPT: &[u8] = b"nodes 3 2 1\noffer p0 put a 1\noffer p5 get a\noffer p0 put b 2\n";
 
-// How many jobs there are but the proposers', how many of these have a log without entries, and how many records each
-// proposer posted.
+// How many jobs there are besides those of the proposers, how many of these have a log without
+// entries, and how many records each proposer posted.
 type Outcome = (usize, usize, [u64; 8]);
 
 #[test]

@@ -51,7 +51,7 @@ text_feedless (Transfer from into amount) r = feedless_behind from (into ++ 32 �
 text_feedless (Balance key) r = key_feedless key r
 text_feedless Checkpoint r = refl
 
--- ---- what words say
+-- ---- what words mean
 
 -- the words are those of an operation with this draft
 pub record OfBank (words : List (List ℕ)) (draft : DraftView) : Type 0 where
@@ -68,7 +68,7 @@ said_says : (words : List (List ℕ)) (draft : DraftView) (o : Option BankForm) 
 said_says words draft None is e = absurd cc
 said_says words draft (Some form) is e = form_says words draft form (bank_op_of_form form) is refl cc
 
--- words that say something say an operation
+-- words with a draft are those of an operation
 pub bank_says : (words : List (List ℕ)) (draft : DraftView) → bank_language words ≡ Some (Ok draft) → OfBank words draft
 unfolding bank_language
 bank_says words draft e = said_says words draft (bank_form words) refl e
@@ -81,18 +81,18 @@ op_spelled op range = record {
   short = let short = text_short op range in omega arith;
 }
 
--- words that say an operation are its spelling
+-- words that spell an operation are its one spelling
 pub bank_spelled : IsLanguage bank_language
 bank_spelled words draft e =
     let s = bank_says words draft e in
     subst (λ (d : DraftView). IsSpelled words d) s.draft_of (subst (λ (ws : List (List ℕ)). IsSpelled ws (bank_draft_for s.op)) (sym s.words_of) (op_spelled s.op s.range))
 
--- the words of an operation say it
+-- the words of an operation are read as its draft
 words_say : (op : BankOp) → IsBankOp op → bank_language (bank_words op) ≡ Some (Ok (bank_draft_for op))
 unfolding bank_language
 words_say op range = rw (form_again op, op_again op range) refl
 
--- the draft of an operation is spoken
+-- the draft of an operation is read from its body
 pub bank_spoken : (op : BankOp) → IsBankOp op → IsSpoken bank_language (bank_draft_for op)
 bank_spoken op range = ap bank_language (tokens_again op range) ∙ words_say op range
 

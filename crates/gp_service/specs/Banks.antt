@@ -19,7 +19,7 @@ abbrev pub some_drafted : Result BankOp OpFault → Result DraftView OpFault
 some_drafted (Ok op) = Ok (bank_draft_for op)
 some_drafted (Err fault) = Err fault
 
--- the same of a form, if there is one
+-- the same for a form, if there is one
 abbrev pub bank_said : Option BankForm → Option (Result DraftView OpFault)
 bank_said None = None
 bank_said (Some form) = Some (some_drafted (bank_op_of_form form))
@@ -28,11 +28,11 @@ bank_said (Some form) = Some (some_drafted (bank_op_of_form form))
 unfoldable pub bank_language : Language
 bank_language words = bank_said (bank_form words)
 
--- a name, and the amount that it is of
+-- a name and its amount
 unfoldable pub amount_text : List ℕ → ℕ → List ℕ
 amount_text name amount = name ++ decimal amount
 
--- what all accounts hold, and what was deposited and withdrawn
+-- the line with the sum that all accounts hold, and the sums that were deposited and withdrawn
 abbrev pub totals_line : ℕ → ℕ → ℕ → ℕ → List ℕ
 totals_line learner total brought taken =
     codes "l" ++ decimal learner ++ amount_text (codes " total ") total ++ amount_text (codes " deposits ") brought ++ amount_text (codes " withdrawals ") taken ++ codes "\n"

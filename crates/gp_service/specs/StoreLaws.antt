@@ -27,7 +27,7 @@ said_says : (words : List (List ℕ)) (draft : DraftView) (o : Option OpForm) �
 said_says words draft None is e = absurd cc
 said_says words draft (Some form) is e = form_says words draft form (op_of_form form) is refl cc
 
--- words that say something say an operation
+-- words with a draft are those of an operation
 pub store_says : (words : List (List ℕ)) (draft : DraftView) → store_language words ≡ Some (Ok draft) → OfStore words draft
 unfolding store_language
 store_says words draft e = said_says words draft (op_form words) refl e
@@ -40,18 +40,18 @@ op_spelled op range = record {
   short = text_short op range;
 }
 
--- words that say an operation are its spelling
+-- words that spell an operation are its one spelling
 pub store_spelled : IsLanguage store_language
 store_spelled words draft e =
     let s = store_says words draft e in
     subst (λ (d : DraftView). IsSpelled words d) s.draft_of (subst (λ (ws : List (List ℕ)). IsSpelled ws (draft_for s.op)) (sym s.words_of) (op_spelled s.op s.range))
 
--- the words of an operation say it
+-- the words of an operation are read as its draft
 words_say : (op : Op) → IsOp op → store_language (op_words op) ≡ Some (Ok (draft_for op))
 unfolding store_language
 words_say op range = rw (form_again op, op_again op range) refl
 
--- the draft of an operation is spoken
+-- the draft of an operation is read from its body
 pub store_spoken : (op : Op) → IsOp op → IsSpoken store_language (draft_for op)
 store_spoken op range = ap store_language (tokens_again op range) ∙ words_say op range
 

@@ -15,7 +15,7 @@ abbrev pub some_drafted : Result Op OpFault → Result DraftView OpFault
 some_drafted (Ok op) = Ok (draft_for op)
 some_drafted (Err fault) = Err fault
 
--- the same of a form, if there is one
+-- the same for a form, if there is one
 abbrev pub store_said : Option OpForm → Option (Result DraftView OpFault)
 store_said None = None
 store_said (Some form) = Some (some_drafted (op_of_form form))

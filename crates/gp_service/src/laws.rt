@@ -11,15 +11,16 @@ ghost use Rattle.gp_service.specs.Banks.{bank_language};
 
 use crate::service::Service;
 
-/// A draft is spoken in the words of the key store, or in those of accounts, exactly if it is the draft of
-/// an operation.
+/// A draft is read from its body in the words of the key store exactly if it is the draft of an
+/// operation of the key store. The same holds for accounts.
 pub fn a_draft_is_spoken_if_it_is_of_an_operation()
     ensures store { (draft : DraftView) → IsSpoken store_language draft ↔ ((op : Op) × IsOp op × (draft ≡ draft_for op)) }
     ensures bank { (draft : DraftView) → IsSpoken bank_language draft ↔ ((op : BankOp) × IsBankOp op × (draft ≡ bank_draft_for op)) }
 {}
 
-/// Words that say an operation are the tokens of the body of its draft, so it has one spelling, and its
-/// draft is spoken. The spelling is part of one line and has at most 62 bytes.
+/// Words that spell an operation are the tokens of the body of its draft. So the operation has one
+/// spelling, and its draft is read from its body. The spelling has no line feed and at most 62
+/// bytes.
 pub fn an_operation_has_one_spelling<S: Service>()
     ensures spelled { (words : List (List ℕ)) (draft : DraftView) → S.profile.language words ≡ Some (Ok draft) → IsSpelled words draft }
     ensures spoken { (words : List (List ℕ)) (draft : DraftView) → S.profile.language words ≡ Some (Ok draft) → IsSpoken S.profile.language draft }

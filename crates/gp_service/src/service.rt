@@ -16,7 +16,8 @@ use std::collections::BTreeMap;
 pub enum Unsaid {
     /// No operation has this name and this number of words.
     NoOperation,
-    /// A word that stands for a key is no key, or one that stands for a number is no number in range.
+    /// A word in the place of a key is not a key, or one in the place of a number is not a number
+    /// in range.
     Fault(OpFault),
     /// Memory ran out.
     NoMemory,
@@ -26,20 +27,20 @@ pub enum Unsaid {
 ///
 /// An operation has one spelling, which is the body of its draft.
 pub trait Service: Machine {
-    /// What words say, what the machine does, and what reports show of it.
+    /// What words mean, what the machine does, and what reports show of it.
     ghost profile: { Profile Self };
 
-    /// The draft of the operation that the words spell. They are read from left to right, and the first
-    /// fault is answered.
+    /// The draft of the operation that the words spell. They are read from left to right, and the
+    /// first fault is returned.
     fn draft(alloc: Global, words: &[&[u8]]) -> Result<Draft, Unsaid>
         ensures { Answers (profile.language (texts words.now)) result };
 
-    /// The keys of the state with their values, in ascending order of the keys. It takes no memory.
+    /// The keys of the state with their values, in ascending order of the keys.
     fn pairs(&self) -> &BTreeMap<Key, u64>
         ensures { result.now.entries ≡ entries (profile.pairs self.now) };
 
-    /// Appends the lines that a report has after the replies of a learner with this replica. If memory
-    /// runs out, a part of them may stand there.
+    /// Appends the lines that a report has after the replies of a learner with this replica. If
+    /// memory runs out, `to` may hold the beginning of them.
     fn push_totals(learner: u32, replica: &Replica<Self>, to: &mut Vec<u8>) -> Result<(), NoMemory>
         ensures { OnOk result (to.new.items ≡ to.old.items ++ profile.totals learner replica.now) };
 

@@ -6,7 +6,7 @@ use Rattle.std.proofs.lemmas.Bool.{cases_lt}
 use Rattle.std.proofs.lemmas.Bool.Decides.{nat_tests}
 use Rattle.gp_round.specs.Counts.{Counts}
 use Rattle.gp_shelf.specs.Places.{logged, place_at}
-use Rattle.gp_shelf.specs.Lists.{lent_of, kept_of, shelved, KeepsOthers}
+use Rattle.gp_shelf.specs.Lists.{lent_of, unlent_of, shelved, KeepsOthers}
 
 -- ---- the place of a node
 
@@ -53,9 +53,9 @@ module _ {D : Type 0} where
       ap (λ (b : List D). (b ++ take n.acceptors disks) ++ take n.coordinators (drop (7 - n.acceptors) (drop n.acceptors disks))) none
       ∙ ap (λ (r : List D). take n.acceptors disks ++ take n.coordinators r) (drop_to n.acceptors disks le)
 
-  pub divided_kept : (n : Counts) (before disks : List D) (rest : ℕ) → before ≡ [] → n.acceptors ≤ 7 → length disks ≤ 7 + n.coordinators + rest
-      → (before ++ take (7 - n.acceptors) (drop n.acceptors disks)) ++ take rest (drop n.coordinators (drop (7 - n.acceptors) (drop n.acceptors disks))) ≡ kept_of n disks
-  divided_kept n before disks rest none le most =
+  pub divided_unlent : (n : Counts) (before disks : List D) (rest : ℕ) → before ≡ [] → n.acceptors ≤ 7 → length disks ≤ 7 + n.coordinators + rest
+      → (before ++ take (7 - n.acceptors) (drop n.acceptors disks)) ++ take rest (drop n.coordinators (drop (7 - n.acceptors) (drop n.acceptors disks))) ≡ unlent_of n disks
+  divided_unlent n before disks rest none le most =
       let there : drop n.coordinators (drop (7 - n.acceptors) (drop n.acceptors disks)) ≡ drop (7 + n.coordinators) disks
       = ap (drop n.coordinators) (drop_to n.acceptors disks le) ∙ drop-drop n.coordinators 7 disks in
       let all : take rest (drop (7 + n.coordinators) disks) ≡ drop (7 + n.coordinators) disks
@@ -70,26 +70,26 @@ module _ {D : Type 0} where
       ∙ ap (λ (m : ℕ). m + length (take n.coordinators (drop 7 disks))) (length-take-le n.acceptors disks (omega arith))
       ∙ ap (λ (m : ℕ). n.acceptors + m) (length-take-le n.coordinators (drop 7 disks) (omega (arith, length-drop 7 disks)))
 
-  first_kept : (n : Counts) (disks : List D) → length disks ≡ 12 → n.acceptors ≤ 7 → length (take (7 - n.acceptors) (drop n.acceptors disks)) ≡ 7 - n.acceptors
-  first_kept n disks twelve a = length-take-le (7 - n.acceptors) (drop n.acceptors disks) (omega (arith, length-drop n.acceptors disks))
+  first_unlent : (n : Counts) (disks : List D) → length disks ≡ 12 → n.acceptors ≤ 7 → length (take (7 - n.acceptors) (drop n.acceptors disks)) ≡ 7 - n.acceptors
+  first_unlent n disks twelve a = length-take-le (7 - n.acceptors) (drop n.acceptors disks) (omega (arith, length-drop n.acceptors disks))
 
-  pub length-kept : (n : Counts) (disks : List D) → length disks ≡ 12 → n.acceptors ≤ 7 → n.coordinators ≤ 5 → length (kept_of n disks) + logged n ≡ 12
-  length-kept n disks twelve a c =
+  pub length-unlent : (n : Counts) (disks : List D) → length disks ≡ 12 → n.acceptors ≤ 7 → n.coordinators ≤ 5 → length (unlent_of n disks) + logged n ≡ 12
+  length-unlent n disks twelve a c =
       let all = length-append (take (7 - n.acceptors) (drop n.acceptors disks)) (drop (7 + n.coordinators) disks) in
-      let first = first_kept n disks twelve a in
+      let first = first_unlent n disks twelve a in
       let second = length-drop (7 + n.coordinators) disks in
       omega (arith, all, first, second)
 
   -- disks that are put back as they were taken out
-  pub come_back : (n : Counts) (disks : List D) → length disks ≡ 12 → n.acceptors ≤ 7 → n.coordinators ≤ 5 → shelved n (kept_of n disks) (lent_of n disks) ≡ disks
+  pub come_back : (n : Counts) (disks : List D) → length disks ≡ 12 → n.acceptors ≤ 7 → n.coordinators ≤ 5 → shelved n (unlent_of n disks) (lent_of n disks) ≡ disks
   come_back n disks twelve a c =
       let p = take n.acceptors disks in
       let q = take (7 - n.acceptors) (drop n.acceptors disks) in
       let r = take n.coordinators (drop 7 disks) in
       let s = drop (7 + n.coordinators) disks in
       let len_p : length p ≡ n.acceptors = length-take-le n.acceptors disks (omega arith) in
-      let len_q : length q ≡ 7 - n.acceptors = first_kept n disks twelve a in
-      let parts : shelved n (kept_of n disks) (lent_of n disks) ≡ p ++ q ++ r ++ s =
+      let len_q : length q ≡ 7 - n.acceptors = first_unlent n disks twelve a in
+      let parts : shelved n (unlent_of n disks) (lent_of n disks) ≡ p ++ q ++ r ++ s =
       ap (λ (z : List D). z ++ take (7 - n.acceptors) (q ++ s) ++ drop n.acceptors (p ++ r) ++ drop (7 - n.acceptors) (q ++ s)) (take_at p r n.acceptors len_p)
       ∙ ap (λ (z : List D). p ++ z ++ drop n.acceptors (p ++ r) ++ drop (7 - n.acceptors) (q ++ s)) (take_at q s (7 - n.acceptors) len_q)
       ∙ ap (λ (z : List D). p ++ q ++ z ++ drop (7 - n.acceptors) (q ++ s)) (drop_at p r n.acceptors len_p)
@@ -99,24 +99,24 @@ module _ {D : Type 0} where
       parts ∙ append_assoc (p ++ q) r s ∙ ap (λ (z : List D). (p ++ q) ++ z) last ∙ append_assoc p q (drop 7 disks) ∙ ap (λ (z : List D). p ++ z) middle ∙ take-append-drop n.acceptors disks
 
   -- what was put back in four steps
-  pub put_together : (n : Counts) (before kept lent : List D) (x y : ℕ) → before ≡ [] → length lent ≤ n.acceptors + x → length kept ≤ (7 - n.acceptors) + y
-      → (((before ++ take n.acceptors lent) ++ take (7 - n.acceptors) kept) ++ take x (drop n.acceptors lent)) ++ take y (drop (7 - n.acceptors) kept) ≡ shelved n kept lent
-  put_together n before kept lent x y none lx ly =
-      ap (λ (b : List D). (((b ++ take n.acceptors lent) ++ take (7 - n.acceptors) kept) ++ take x (drop n.acceptors lent)) ++ take y (drop (7 - n.acceptors) kept)) none
-      ∙ ap (λ (r : List D). ((take n.acceptors lent ++ take (7 - n.acceptors) kept) ++ r) ++ take y (drop (7 - n.acceptors) kept)) (take_all x (drop n.acceptors lent) (omega (arith, length-drop n.acceptors lent)))
-      ∙ ap (λ (r : List D). ((take n.acceptors lent ++ take (7 - n.acceptors) kept) ++ drop n.acceptors lent) ++ r) (take_all y (drop (7 - n.acceptors) kept) (omega (arith, length-drop (7 - n.acceptors) kept)))
+  pub put_together : (n : Counts) (before unlent lent : List D) (x y : ℕ) → before ≡ [] → length lent ≤ n.acceptors + x → length unlent ≤ (7 - n.acceptors) + y
+      → (((before ++ take n.acceptors lent) ++ take (7 - n.acceptors) unlent) ++ take x (drop n.acceptors lent)) ++ take y (drop (7 - n.acceptors) unlent) ≡ shelved n unlent lent
+  put_together n before unlent lent x y none lx ly =
+      ap (λ (b : List D). (((b ++ take n.acceptors lent) ++ take (7 - n.acceptors) unlent) ++ take x (drop n.acceptors lent)) ++ take y (drop (7 - n.acceptors) unlent)) none
+      ∙ ap (λ (r : List D). ((take n.acceptors lent ++ take (7 - n.acceptors) unlent) ++ r) ++ take y (drop (7 - n.acceptors) unlent)) (take_all x (drop n.acceptors lent) (omega (arith, length-drop n.acceptors lent)))
+      ∙ ap (λ (r : List D). ((take n.acceptors lent ++ take (7 - n.acceptors) unlent) ++ drop n.acceptors lent) ++ r) (take_all y (drop (7 - n.acceptors) unlent) (omega (arith, length-drop (7 - n.acceptors) unlent)))
 
-  pub length-shelved : (n : Counts) (kept lent : List D) → length kept + logged n ≡ 12 → length lent ≡ logged n → length (shelved n kept lent) ≡ 12
-  length-shelved n kept lent whole many =
+  pub length-shelved : (n : Counts) (unlent lent : List D) → length unlent + logged n ≡ 12 → length lent ≡ logged n → length (shelved n unlent lent) ≡ 12
+  length-shelved n unlent lent whole many =
       let p = take n.acceptors lent in
-      let q = take (7 - n.acceptors) kept in
+      let q = take (7 - n.acceptors) unlent in
       let r = drop n.acceptors lent in
-      let s = drop (7 - n.acceptors) kept in
+      let s = drop (7 - n.acceptors) unlent in
       let first = length-append (p ++ q ++ r) s in
       let second = length-append (p ++ q) r in
       let third = length-append p q in
       let one : length p + length r ≡ length lent = sym (length-append p r) ∙ ap length (take-append-drop n.acceptors lent) in
-      let two : length q + length s ≡ length kept = sym (length-append q s) ∙ ap length (take-append-drop (7 - n.acceptors) kept) in
+      let two : length q + length s ≡ length unlent = sym (length-append q s) ∙ ap length (take-append-drop (7 - n.acceptors) unlent) in
       omega (arith, first, second, third, one, two)
 
   -- ---- by their places
@@ -135,57 +135,57 @@ module _ {D : Type 0} where
       (cases_lt k n.acceptors)
 
   -- the four parts of all disks
-  module _ (n : Counts) (kept lent : List D) (a : n.acceptors ≤ 7) (c : n.coordinators ≤ 5) (whole : length kept + logged n ≡ 12) (many : length lent ≡ logged n) where
+  module _ (n : Counts) (unlent lent : List D) (a : n.acceptors ≤ 7) (c : n.coordinators ≤ 5) (whole : length unlent + logged n ≡ 12) (many : length lent ≡ logged n) where
     len_first : length (take n.acceptors lent) ≡ n.acceptors
     len_first = length-take-le n.acceptors lent (omega arith)
 
-    len_second : length (take (7 - n.acceptors) kept) ≡ 7 - n.acceptors
-    len_second = length-take-le (7 - n.acceptors) kept (omega arith)
+    len_second : length (take (7 - n.acceptors) unlent) ≡ 7 - n.acceptors
+    len_second = length-take-le (7 - n.acceptors) unlent (omega arith)
 
-    len_two : length (take n.acceptors lent ++ take (7 - n.acceptors) kept) ≡ 7
-    len_two = omega (arith, length-append (take n.acceptors lent) (take (7 - n.acceptors) kept), len_first, len_second)
+    len_two : length (take n.acceptors lent ++ take (7 - n.acceptors) unlent) ≡ 7
+    len_two = omega (arith, length-append (take n.acceptors lent) (take (7 - n.acceptors) unlent), len_first, len_second)
 
-    len_three : length (take n.acceptors lent ++ take (7 - n.acceptors) kept ++ drop n.acceptors lent) ≡ 7 + n.coordinators
-    len_three = omega (arith, length-append (take n.acceptors lent ++ take (7 - n.acceptors) kept) (drop n.acceptors lent), length-drop n.acceptors lent, len_two)
+    len_three : length (take n.acceptors lent ++ take (7 - n.acceptors) unlent ++ drop n.acceptors lent) ≡ 7 + n.coordinators
+    len_three = omega (arith, length-append (take n.acceptors lent ++ take (7 - n.acceptors) unlent) (drop n.acceptors lent), length-drop n.acceptors lent, len_two)
 
-    first_part : (i : ℕ) → i < n.acceptors → slice_get (shelved n kept lent) i ≡ slice_get lent i
+    first_part : (i : ℕ) → i < n.acceptors → slice_get (shelved n unlent lent) i ≡ slice_get lent i
     first_part i lt =
-        get-append_left (take n.acceptors lent ++ take (7 - n.acceptors) kept ++ drop n.acceptors lent) (drop (7 - n.acceptors) kept) i (omega (arith, len_three))
-        ∙ get-append_left (take n.acceptors lent ++ take (7 - n.acceptors) kept) (drop n.acceptors lent) i (omega (arith, len_two))
-        ∙ get-append_left (take n.acceptors lent) (take (7 - n.acceptors) kept) i (omega (arith, len_first))
+        get-append_left (take n.acceptors lent ++ take (7 - n.acceptors) unlent ++ drop n.acceptors lent) (drop (7 - n.acceptors) unlent) i (omega (arith, len_three))
+        ∙ get-append_left (take n.acceptors lent ++ take (7 - n.acceptors) unlent) (drop n.acceptors lent) i (omega (arith, len_two))
+        ∙ get-append_left (take n.acceptors lent) (take (7 - n.acceptors) unlent) i (omega (arith, len_first))
         ∙ get-take n.acceptors lent i lt
 
-    second_part : (i : ℕ) → n.acceptors + i < 7 → slice_get (shelved n kept lent) (n.acceptors + i) ≡ slice_get kept i
+    second_part : (i : ℕ) → n.acceptors + i < 7 → slice_get (shelved n unlent lent) (n.acceptors + i) ≡ slice_get unlent i
     second_part i lt =
-        get-append_left (take n.acceptors lent ++ take (7 - n.acceptors) kept ++ drop n.acceptors lent) (drop (7 - n.acceptors) kept) (n.acceptors + i) (omega (arith, len_three))
-        ∙ get-append_left (take n.acceptors lent ++ take (7 - n.acceptors) kept) (drop n.acceptors lent) (n.acceptors + i) (omega (arith, len_two))
-        ∙ get-append_right (take n.acceptors lent) (take (7 - n.acceptors) kept) n.acceptors i len_first
-        ∙ get-take (7 - n.acceptors) kept i (omega arith)
+        get-append_left (take n.acceptors lent ++ take (7 - n.acceptors) unlent ++ drop n.acceptors lent) (drop (7 - n.acceptors) unlent) (n.acceptors + i) (omega (arith, len_three))
+        ∙ get-append_left (take n.acceptors lent ++ take (7 - n.acceptors) unlent) (drop n.acceptors lent) (n.acceptors + i) (omega (arith, len_two))
+        ∙ get-append_right (take n.acceptors lent) (take (7 - n.acceptors) unlent) n.acceptors i len_first
+        ∙ get-take (7 - n.acceptors) unlent i (omega arith)
 
-    third_part : (i : ℕ) → i < n.coordinators → slice_get (shelved n kept lent) (7 + i) ≡ slice_get lent (n.acceptors + i)
+    third_part : (i : ℕ) → i < n.coordinators → slice_get (shelved n unlent lent) (7 + i) ≡ slice_get lent (n.acceptors + i)
     third_part i lt =
-        get-append_left (take n.acceptors lent ++ take (7 - n.acceptors) kept ++ drop n.acceptors lent) (drop (7 - n.acceptors) kept) (7 + i) (omega (arith, len_three))
-        ∙ get-append_right (take n.acceptors lent ++ take (7 - n.acceptors) kept) (drop n.acceptors lent) 7 i len_two
+        get-append_left (take n.acceptors lent ++ take (7 - n.acceptors) unlent ++ drop n.acceptors lent) (drop (7 - n.acceptors) unlent) (7 + i) (omega (arith, len_three))
+        ∙ get-append_right (take n.acceptors lent ++ take (7 - n.acceptors) unlent) (drop n.acceptors lent) 7 i len_two
         ∙ get-drop n.acceptors lent i
 
-    last_part : (i : ℕ) → slice_get (shelved n kept lent) (7 + n.coordinators + i) ≡ slice_get kept ((7 - n.acceptors) + i)
+    last_part : (i : ℕ) → slice_get (shelved n unlent lent) (7 + n.coordinators + i) ≡ slice_get unlent ((7 - n.acceptors) + i)
     last_part i =
-        get-append_right (take n.acceptors lent ++ take (7 - n.acceptors) kept ++ drop n.acceptors lent) (drop (7 - n.acceptors) kept) (7 + n.coordinators) i len_three
-        ∙ get-drop (7 - n.acceptors) kept i
+        get-append_right (take n.acceptors lent ++ take (7 - n.acceptors) unlent ++ drop n.acceptors lent) (drop (7 - n.acceptors) unlent) (7 + n.coordinators) i len_three
+        ∙ get-drop (7 - n.acceptors) unlent i
 
-    pub shelved_at : (k : ℕ) → k < logged n → slice_get (shelved n kept lent) (place_at n k) ≡ slice_get lent k
+    pub shelved_at : (k : ℕ) → k < logged n → slice_get (shelved n unlent lent) (place_at n k) ≡ slice_get lent k
     shelved_at k within = ⊎_elim
-        (λ lt. ap (slice_get (shelved n kept lent)) (place_below n k lt) ∙ first_part k lt)
-        (λ le. ap (slice_get (shelved n kept lent)) (place_above n k le) ∙ third_part (k - n.acceptors) (omega arith)
+        (λ lt. ap (slice_get (shelved n unlent lent)) (place_below n k lt) ∙ first_part k lt)
+        (λ le. ap (slice_get (shelved n unlent lent)) (place_above n k le) ∙ third_part (k - n.acceptors) (omega arith)
         ∙ ap (slice_get lent) (let e : n.acceptors + (k - n.acceptors) ≡ k = omega arith in e))
         (cases_lt k n.acceptors)
 
-  pub others_stay : (n : Counts) (disks lent : List D) → n.acceptors ≤ 7 → n.coordinators ≤ 5 → length disks ≡ 12 → length lent ≡ logged n → KeepsOthers n disks (shelved n (kept_of n disks) lent)
+  pub others_stay : (n : Counts) (disks lent : List D) → n.acceptors ≤ 7 → n.coordinators ≤ 5 → length disks ≡ 12 → length lent ≡ logged n → KeepsOthers n disks (shelved n (unlent_of n disks) lent)
   others_stay n disks lent a c twelve many i other =
-      let whole = length-kept n disks twelve a c in
+      let whole = length-unlent n disks twelve a c in
       let q = take (7 - n.acceptors) (drop n.acceptors disks) in
       let s = drop (7 + n.coordinators) disks in
-      let len_q : length q ≡ 7 - n.acceptors = first_kept n disks twelve a in
+      let len_q : length q ≡ 7 - n.acceptors = first_unlent n disks twelve a in
       ⊎_elim
       (λ lt. absurd (other i (omega arith) (sym (place_below n i lt))))
       (λ le. ⊎_elim

@@ -10,9 +10,9 @@ use Rattle.gp_vlog.specs.Logs.{LogState}
 use Rattle.gp_shelf.specs.declared.making.LendFault.{LendFault}
 use Rattle.gp_shelf.specs.declared.making.LendFault.TheVariants.{Disk, NoMemory}
 use Rattle.gp_shelf.specs.Places.{logged, place_at}
-use Rattle.gp_shelf.specs.Lists.{lent_of, kept_of, shelved, disk_in}
+use Rattle.gp_shelf.specs.Lists.{lent_of, unlent_of, shelved, disk_in}
 use Rattle.gp_shelf.specs.Making.{IsMade, StaysFirst, SomeRose, HasCause, ComesBack, Counted}
-use Rattle.gp_shelf.proofs.Segments.{come_back, lent_at, shelved_at, length-kept, length-lent}
+use Rattle.gp_shelf.proofs.Segments.{come_back, lent_at, shelved_at, length-unlent, length-lent}
 
 pub AllZip-append : {A B : Type 0} (R : A → B → Type 0) (xs us : List A) (ys vs : List B) → AllZip R xs ys → AllZip R us vs → AllZip R (xs ++ us) (ys ++ vs)
 AllZip-append R [] us [] vs p q = q
@@ -39,28 +39,28 @@ module _ {D : Type 0} where
   AllZip-drop R (suc n) (x ∷ xs) [] p = absurd p
   AllZip-drop R (suc n) (x ∷ xs) (y ∷ ys) p = AllZip-drop R n xs ys p.1
 
-  zip_shelved : (R : D → D → Type 0) → ((d : D) → R d d) → (n : Counts) (kept xs ys : List D) → AllZip R xs ys → AllZip R (shelved n kept xs) (shelved n kept ys)
-  zip_shelved R same n kept xs ys p =
-      AllZip-append R (take n.acceptors xs ++ take (7 - n.acceptors) kept ++ drop n.acceptors xs) (drop (7 - n.acceptors) kept) (take n.acceptors ys ++ take (7 - n.acceptors) kept ++ drop n.acceptors ys) (drop (7 - n.acceptors) kept)
-      (AllZip-append R (take n.acceptors xs ++ take (7 - n.acceptors) kept) (drop n.acceptors xs) (take n.acceptors ys ++ take (7 - n.acceptors) kept) (drop n.acceptors ys)
-      (AllZip-append R (take n.acceptors xs) (take (7 - n.acceptors) kept) (take n.acceptors ys) (take (7 - n.acceptors) kept)
+  zip_shelved : (R : D → D → Type 0) → ((d : D) → R d d) → (n : Counts) (unlent xs ys : List D) → AllZip R xs ys → AllZip R (shelved n unlent xs) (shelved n unlent ys)
+  zip_shelved R same n unlent xs ys p =
+      AllZip-append R (take n.acceptors xs ++ take (7 - n.acceptors) unlent ++ drop n.acceptors xs) (drop (7 - n.acceptors) unlent) (take n.acceptors ys ++ take (7 - n.acceptors) unlent ++ drop n.acceptors ys) (drop (7 - n.acceptors) unlent)
+      (AllZip-append R (take n.acceptors xs ++ take (7 - n.acceptors) unlent) (drop n.acceptors xs) (take n.acceptors ys ++ take (7 - n.acceptors) unlent) (drop n.acceptors ys)
+      (AllZip-append R (take n.acceptors xs) (take (7 - n.acceptors) unlent) (take n.acceptors ys) (take (7 - n.acceptors) unlent)
       (AllZip-take R n.acceptors xs ys p)
-      (AllZip-same R same (take (7 - n.acceptors) kept)))
+      (AllZip-same R same (take (7 - n.acceptors) unlent)))
       (AllZip-drop R n.acceptors xs ys p))
-      (AllZip-same R same (drop (7 - n.acceptors) kept))
+      (AllZip-same R same (drop (7 - n.acceptors) unlent))
 
   -- what holds of the disks of nodes holds of all, if it holds of what stays
   pub zip_all : (R : D → D → Type 0) → ((d : D) → R d d) → (n : Counts) (disks back : List D) → n.acceptors ≤ 7 → n.coordinators ≤ 5 → length disks ≡ 12
-      → AllZip R (lent_of n disks) back → AllZip R disks (shelved n (kept_of n disks) back)
+      → AllZip R (lent_of n disks) back → AllZip R disks (shelved n (unlent_of n disks) back)
   zip_all R same n disks back a c twelve p =
-      subst (λ (xs : List D). AllZip R xs (shelved n (kept_of n disks) back)) (come_back n disks twelve a c)
-      (zip_shelved R same n (kept_of n disks) (lent_of n disks) back p)
+      subst (λ (xs : List D). AllZip R xs (shelved n (unlent_of n disks) back)) (come_back n disks twelve a c)
+      (zip_shelved R same n (unlent_of n disks) (lent_of n disks) back p)
 
   -- ---- the counts of faults
 
   module _ (faults : D → ℕ) where
     rose_there : (n : Counts) (disks back : List D) → n.acceptors ≤ 7 → n.coordinators ≤ 5 → length disks ≡ 12 → length back ≡ logged n
-        → SomeRose faults (lent_of n disks) back → SomeRose faults disks (shelved n (kept_of n disks) back)
+        → SomeRose faults (lent_of n disks) back → SomeRose faults disks (shelved n (unlent_of n disks) back)
     rose_there n disks back a c twelve many r =
         let within : r.place < logged n = omega (arith, slice_get_within back r.place r.is r.after, many) in
         record {
@@ -68,12 +68,12 @@ module _ {D : Type 0} where
           was = r.was;
           is = r.is;
           before = sym (lent_at n disks r.place twelve a within) ∙ r.before;
-          after = shelved_at n (kept_of n disks) back a c (length-kept n disks twelve a c) many r.place within ∙ r.after;
+          after = shelved_at n (unlent_of n disks) back a c (length-unlent n disks twelve a c) many r.place within ∙ r.after;
           rose = r.rose;
         }
 
     pub fell_there : (n : Counts) (disks back : List D) (why : LendFault) → n.acceptors ≤ 7 → n.coordinators ≤ 5 → length disks ≡ 12
-        → ComesBack faults (lent_of n disks) back why → ComesBack faults disks (shelved n (kept_of n disks) back) why
+        → ComesBack faults (lent_of n disks) back why → ComesBack faults disks (shelved n (unlent_of n disks) back) why
     fell_there n disks back Disk a c twelve p =
         let many : length back ≡ logged n = AllZip-long (λ was is. faults was ≤ faults is) (lent_of n disks) back p.0 ∙ length-lent n disks twelve a c in
         (zip_all (λ was is. faults was ≤ faults is) (λ d. omega arith) n disks back a c twelve p.0, rose_there n disks back a c twelve many p.1)

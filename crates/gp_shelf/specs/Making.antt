@@ -1,4 +1,4 @@
--- What comes of disks on which new logs are made.
+-- What happens to disks on which new logs are made.
 use Rattle.std.specs.Prelude.{◌≡◌, ◌≤◌, ℕ, true, false, List, [], ◌∷◌, ◌++◌, slice_get, Option, Some}
 use Rattle.std.specs.List.{AllZip}
 use Rattle.gp_edge.specs.Faults.{Rose}
@@ -18,7 +18,7 @@ pub record IsMade {D : Type 0} (content : D → Option (List ℕ)) (image : D �
   pub shown : IsReady content image log
   pub steady : faults log.disk ≡ faults disk
 
--- the first disk became a log, which stands behind the others
+-- the first disk became a log, which follows the others
 pub record MakesFirst {D : Type 0} (Made : D → LogState D → Type 0) (old new : List D) (before after : List (LogState D)) : Type 0 where
   pub disk : D
   pub log : LogState D
@@ -26,13 +26,13 @@ pub record MakesFirst {D : Type 0} (Made : D → LogState D → Type 0) (old new
   pub added : after ≡ before ++ log ∷ []
   pub made : Made disk log
 
--- why no log was made: a refusal for the bytes of the disk does not come
+-- why no log was made: it is never refused for the bytes of the disk
 abbrev pub lend_fault_of : OpenFault → LendFault
 lend_fault_of (opening.NotLog at) = Disk
 lend_fault_of opening.Disk = Disk
 lend_fault_of opening.NoMemory = NoMemory
 
--- a count of faults has risen where the disk failed, and stays where memory ran out
+-- a count of faults has increased if the disk failed, and is unchanged if memory ran out
 abbrev pub Counted : ℕ → ℕ → LendFault → Type 0
 Counted before now Disk = Rose before now
 Counted before now NoMemory = now ≡ before
@@ -47,7 +47,7 @@ pub record StaysFirst {D : Type 0} (faults : D → ℕ) (old new : List D) (why 
   pub never_falls : faults was ≤ faults is
   pub counted : Counted (faults was) (faults is) why
 
--- the count of some disk has risen
+-- the count of some disk has increased
 pub record SomeRose {D : Type 0} (faults : D → ℕ) (old new : List D) : Type 0 where
   pub place : ℕ
   pub was : D
@@ -56,11 +56,11 @@ pub record SomeRose {D : Type 0} (faults : D → ℕ) (old new : List D) : Type 
   pub after : slice_get new place ≡ Some is
   pub rose : Rose (faults was) (faults is)
 
--- the disks are as many as before, and no count has fallen
+-- the disks are as many as before, and no count has decreased
 abbrev pub NoneFell : {D : Type 0} → (D → ℕ) → List D → List D → Type 0
 NoneFell faults = AllZip (λ was is. faults was ≤ faults is)
 
--- a disk failed only where the count of some disk has risen, and where memory ran out all counts stay
+-- `Disk` comes only if the count of some disk has increased, and after `NoMemory` all counts are unchanged
 abbrev pub HasCause : {D : Type 0} → (D → ℕ) → List D → List D → LendFault → Type 0
 HasCause faults old new Disk = SomeRose faults old new
 HasCause faults old new NoMemory = AllZip (λ was is. faults is ≡ faults was) old new

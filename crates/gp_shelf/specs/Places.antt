@@ -1,4 +1,4 @@
--- Which of the disks is that of which node.
+-- Which disk belongs to which node.
 use Rattle.std.specs.Prelude.{◌≢◌, ℕ, ◌+◌, ◌-◌, ◌<◌, nat_lt, cond}
 use Rattle.gp_round.specs.Counts.{Counts}
 

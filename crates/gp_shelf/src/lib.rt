@@ -1,4 +1,5 @@
-//! The disks of a program, of which those of a run's nodes become logs and come back.
+//! The disks of a program. Those of the nodes of a run become logs, and all disks come back in
+//! order.
 #![tactic(auto)]
 
 pub mod laws;

@@ -19,7 +19,8 @@ pub enum LendFault {
     NoMemory,
 }
 
-// Makes a new log on the first disk, and puts it behind the others. If it is refused, the disk is the first again.
+// Makes a new log on the first disk, and appends it to the logs. If that is refused, the disk is
+// the first again.
 fn make_first<D: Disk>(
     alloc: Global,
     limit: u32,
@@ -60,7 +61,8 @@ fn fault_of(why: OpenFault) -> LendFault
     }
 }
 
-/// Makes a new log on each of the disks, in their order. If it is refused, the disks come back in order.
+/// Makes a new log on each of the disks, in their order. If it is refused, the disks come back in
+/// order.
 pub(crate) fn make<D: Disk>(
     alloc: Global,
     limit: u32,

@@ -6,7 +6,7 @@ use gp_vlog::Log;
 use std::alloc::Global;
 use std::test::Fail;
 
-/// Twelve disks, of which disk i holds the byte i. These calls of one of them fail.
+/// Twelve disks; disk i holds the byte i. These calls of one of them fail.
 pub fn disks_with(alloc: Global, number: u8, failing: &[u64]) -> Result<Vec<MemDisk>, Fail>
     ensures { IfOk result (λ disks. length disks.items ≡ 12) }
 {
@@ -22,7 +22,7 @@ pub fn disks_with(alloc: Global, number: u8, failing: &[u64]) -> Result<Vec<MemD
     Ok(disks)
 }
 
-/// What a disk is found to be.
+/// What a disk holds.
 #[derive(Clone, Copy, Debug, PartialEq, Eq)]
 pub enum Holds {
     /// It holds the byte of its place.
@@ -33,7 +33,7 @@ pub enum Holds {
     Other,
 }
 
-// What these bytes are at a place.
+// What the disk at a place holds, by its bytes.
 fn found(place: usize, bytes: &[u8]) -> Holds {
     match bytes {
         [byte] if usize::from(*byte) == place => Holds::Own,
@@ -55,7 +55,8 @@ pub fn hold(disks: &[MemDisk], table: &[Holds]) -> bool {
     true
 }
 
-/// Makes a log of the least limit, 64, and so many bytes more on the disk of each log.
+/// Makes a log on the disk of each log. The first has the least limit, 64, and each further one a
+/// limit greater by one.
 pub fn remade<D: Disk>(alloc: Global, logs: Vec<Log<D>>) -> Result<Vec<Log<D>>, Fail> {
     let mut left = logs;
     let mut made = Vec::new(alloc);

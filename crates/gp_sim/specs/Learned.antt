@@ -1,4 +1,4 @@
--- What a simulated run brings.
+-- What holds of a simulated run.
 use Rattle.std.specs.Prelude.{◌≤◌, ◌*◌, ℕ, length}
 use Rattle.gp_run.specs.Legal.{Legal}
 use Rattle.gp_run.specs.TopCount.{top_count}
@@ -6,7 +6,7 @@ use Rattle.gp_random.specs.Fitting.{HasEnded}
 use Rattle.gp_driver.specs.Settled.{Settles}
 use Rattle.gp_sim.specs.Simulated.{sim_config, all_drawn, drawn}
 
--- the workload went on to its end, in a legal run of at most nine events for each command, and settling it brings each command to both learners
+-- the workload was executed to its end, in a legal run of at most nine events for each command, and settling it brings each command to both learners
 pub record Simulates (seed commands : ℕ) : Type 0 where
   pub ended : HasEnded (all_drawn seed commands).0
   pub legal : Legal sim_config (drawn seed commands)

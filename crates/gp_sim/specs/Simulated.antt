@@ -1,4 +1,4 @@
--- The run of a workload, which is settled.
+-- The settled run of a workload.
 use Rattle.std.specs.Prelude.{ℕ, zero, suc, ◌*◌, List, [], ◌∷◌, length, Option, Some, None}
 use Rattle.gp_round.specs.Counts.{Counts}
 use Rattle.gp_round.specs.Configs.{counts}
@@ -18,21 +18,21 @@ sim_config = counts 3 3 2
 abbrev pub Progress : Type 0
 Progress = Plan × List Entry
 
--- the event happens, if there is one
+-- the event is executed, if there is one
 abbrev pub happened : Option Event × Plan → List Entry → Progress
 happened (None, p) es = (p, es)
 happened (Some event, p) es = (p, entry_after sim_config es event ∷ es)
 
--- the next event of the workload happens, by the number of messages that were sent; after the last one nothing does
+-- the next event of the workload is executed, given the number of messages that were sent; after the last event nothing happens
 abbrev pub one_more : Progress → Progress
 one_more s = happened (next (length (messages s.1)) s.0) s.1
 
--- after at most n events
+-- the progress after at most n events
 abbrev pub after : ℕ → Plan → Progress
 after zero p = (p, [])
 after (suc n) p = one_more (after n p)
 
--- after all events of the workload of a seed: there are at most nine for each command
+-- the progress after all events of the workload of a seed: there are at most nine for each command
 unfoldable pub all_drawn : ℕ → ℕ → Progress
 all_drawn seed commands = after (suc (9 * commands)) (plan_of seed commands)
 
@@ -40,6 +40,6 @@ all_drawn seed commands = after (suc (9 * commands)) (plan_of seed commands)
 unfoldable pub drawn : ℕ → ℕ → List Entry
 drawn seed commands = (all_drawn seed commands).1
 
--- the same, settled
+-- the settled run
 unfoldable pub simulated : ℕ → ℕ → List Entry
 simulated seed commands = settle sim_config (drawn seed commands)

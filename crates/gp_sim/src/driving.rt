@@ -14,7 +14,7 @@ use gp_world::World;
 use std::alloc::Global;
 use std::sync::Wait;
 
-/// The most commands that are driven.
+/// The greatest number of commands that are driven.
 pub const MOST_DRIVEN: u32 = 64;
 
 // The key `k`.
@@ -45,8 +45,9 @@ fn in_range(config: &Config)
     let _counts = (config.acceptors(), config.coordinators(), config.learners());
 }
 
-/// The run in which the commands `put k 1` to `put k N` are driven, one after another, to all learners of
-/// a configuration of three coordinators, of which the last does nothing. At most `MOST_DRIVEN` are.
+/// The world after the commands `put k 1` to `put k N` were driven, one after another, to all its
+/// learners. The configuration has three coordinators, and the last of them does nothing. N is
+/// `commands`, which is at most `MOST_DRIVEN`.
 pub fn drive<W: Wait>(
     rt: &W,
     alloc: Global,

@@ -1,5 +1,5 @@
-//! Runs that no script gives: commands that are driven to all learners, and workloads that are made from a
-//! seed and settled.
+//! Runs that no script describes: commands that are driven to all learners, and workloads that are
+//! made from a seed and settled.
 #![tactic(auto)]
 
 mod driving;

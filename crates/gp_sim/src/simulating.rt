@@ -24,7 +24,7 @@ fn sim_config() -> Config
     }
 }
 
-// The events of a workload of a seed happen.
+// Executes the events of the workload of a seed.
 fn draw(alloc: Global, seed: u64, commands: u32) -> Result<World, NoMemory>
     requires some { 1 ≤ commands }
     requires few { commands ≤ 256 }
@@ -39,11 +39,12 @@ fn draw(alloc: Global, seed: u64, commands: u32) -> Result<World, NoMemory>
     Ok(world)
 }
 
-/// The run of the workload of a seed, with 1 to `gp_random::MOST_COMMANDS` commands, after which it is
-/// settled: both learners then hold every command.
+/// The world after the workload of a seed, with 1 to `gp_random::MOST_COMMANDS` commands, was
+/// executed and settled. Both learners then hold every command.
 ///
-/// Three acceptors, three coordinators and two learners take part. The events of the workload happen one
-/// by one; then coordinator 0 leads single rounds until all that was offered is learned.
+/// Three acceptors, three coordinators and two learners take part. The events of the workload are
+/// executed one after another. Then coordinator 0 leads single rounds until every offered command
+/// is learned.
 pub fn simulate<W: Wait>(rt: &W, alloc: Global, seed: u64, commands: u32) -> Result<World, NoMemory>
     requires some { 1 ≤ commands }
     requires few { commands ≤ 256 }

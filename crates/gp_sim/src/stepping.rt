@@ -9,7 +9,7 @@ use gp_driver::StageFault;
 use gp_msg::Event;
 use gp_world::{StepRefused, World};
 
-/// Why a driver of a world ended.
+/// Why a driver of a world ended early: memory ran out.
 pub(crate) fn out_of_memory(fault: StageFault) -> NoMemory
     requires { fault ≡ StageFault.NoMemory }
 {
@@ -19,7 +19,7 @@ pub(crate) fn out_of_memory(fault: StageFault) -> NoMemory
     }
 }
 
-// Why an event that fits did not happen.
+// Why an event that fits was refused: memory ran out.
 fn unhappened(refused: StepRefused) -> NoMemory
     requires { refused ≡ StepRefused.NoMemory }
 {
@@ -29,7 +29,7 @@ fn unhappened(refused: StepRefused) -> NoMemory
     }
 }
 
-/// An event that fits happens.
+/// Executes an event that fits.
 pub(crate) fn happen(world: &mut World, event: Event) -> Result<(), NoMemory>
     requires few { length world.old.records < 2 ^ 31 }
     requires fits { fits world.old.config (entries_of world.old) event ≡ true }

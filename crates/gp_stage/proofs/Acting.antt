@@ -5,12 +5,13 @@ use Rattle.gp_msg.specs.declared.node.Node.{Node}
 use Rattle.gp_msg.specs.declared.record.Record.{Record}
 use Rattle.gp_wire.specs.Lists.{Has}
 use Rattle.gp_wire.specs.Known.{WireState, HoldsAll, records}
-use Rattle.gp_wire.specs.Messages.{messages_in}
+use Rattle.gp_msg.specs.Records.{messages_in}
 use Rattle.gp_work.specs.declared.moves.Move.{Move}
 use Rattle.gp_work.specs.declared.moves.Move.TheVariants.{Offer, Begin, Take}
 use Rattle.gp_work.specs.declared.faults.StepFault.{StepFault}
 use Rattle.gp_work.specs.Moves.{event_of, Fits, HasRoom}
-use Rattle.gp_rules.specs.Own.{own, same_node}
+use Rattle.gp_rules.specs.Own.{own}
+use Rattle.gp_msg.specs.Nodes.{same_node}
 use Rattle.gp_rules.specs.declared.rules.PaxosRules.{PaxosRules}
 use Rattle.gp_cell.specs.Cells.{CellState, PostsOne}
 use Rattle.gp_cell.specs.Passing.{GoesOn, posts_in}

@@ -6,11 +6,11 @@ use Rattle.gp_msg.specs.declared.message.MsgKind.{MsgKind}
 use Rattle.gp_msg.specs.Messages.{message_of}
 use Rattle.gp_msg.specs.Reads.{kind_of}
 use Rattle.gp_run.specs.Legal.{Legal}
-use Rattle.gp_run.specs.Runs.{entries_in}
+use Rattle.gp_run.specs.Runs.{newest_first}
 use Rattle.gp_run.specs.TopCount.{top_of_messages}
 use Rattle.gp_wire.specs.Lists.{Each, Has}
 use Rattle.gp_wire.specs.Known.{WireState, HoldsAll, records}
-use Rattle.gp_wire.specs.Messages.{messages_in}
+use Rattle.gp_msg.specs.Records.{messages_in}
 use Rattle.gp_rules.specs.declared.rules.PaxosRules.{PaxosRules}
 use Rattle.gp_cell.specs.Cells.{CellState, IsSameBut}
 use Rattle.gp_node.specs.Endings.{AreAllCells}
@@ -69,5 +69,5 @@ module _ {D : Type 0} (wire : WireState PaxosRules) (config : Counts) (old lent 
 
 -- the run of what is kept is legal
 pub legal_kept : {D : Type 0} (wire : WireState PaxosRules) (config : Counts) (cells : List (CellState D)) (holder : ℕ) (kinds : List MsgKind) (sent top : ℕ) → IsKept wire config cells holder kinds sent top
-    → Legal config (entries_in (seen_by (slice_get cells holder)))
-legal_kept wire config cells holder kinds sent top k = subst (λ rs. Legal config (entries_in rs)) (sym (list_of_lead wire config cells holder k.held)) k.held.legal
+    → Legal config (newest_first (seen_by (slice_get cells holder)))
+legal_kept wire config cells holder kinds sent top k = subst (λ rs. Legal config (newest_first rs)) (sym (list_of_lead wire config cells holder k.held)) k.held.legal

@@ -7,17 +7,18 @@ use Rattle.gp_msg.specs.declared.message.MsgKind.{MsgKind}
 use Rattle.gp_msg.specs.Messages.{message_of}
 use Rattle.gp_msg.specs.Reads.{kind_of}
 use Rattle.gp_run.specs.Messages.{messages}
-use Rattle.gp_run.specs.Runs.{entries_in}
+use Rattle.gp_run.specs.Runs.{newest_first}
 use Rattle.gp_run.specs.TopCount.{top_of_messages}
 use Rattle.gp_run.proofs.Telling.{messages-entries}
 use Rattle.gp_wire.specs.Lists.{Each, Has}
 use Rattle.gp_wire.specs.Known.{WireState, HoldsAll, records}
-use Rattle.gp_wire.specs.Messages.{messages_in}
+use Rattle.gp_msg.specs.Records.{messages_in}
 use Rattle.gp_rules.specs.declared.rules.PaxosRules.{PaxosRules}
 use Rattle.gp_cell.specs.Cells.{CellState, IsSameBut}
 use Rattle.gp_node.specs.Endings.{AreAllCells}
 use Rattle.gp_stage.specs.Held.{AreAllNodes, AreCellsOf, AreUp, seen_by}
-use Rattle.gp_stage.specs.Gathered.{AreBehind, AreGathered, AreSameBut, HasLooked, IsBehind, IsPlaced, rest_of}
+use Rattle.gp_stage.specs.Gathered.{AreBehind, AreGathered, AreSameBut, HasLooked, IsPlaced, rest_of}
+use Rattle.gp_rules.specs.Own.{IsBehind}
 use Rattle.gp_stage.specs.Kept.{AreHeld, IsKept}
 use Rattle.gp_stage.specs.Tops.{AreTrue, top_of_cells}
 use Rattle.gp_stage.proofs.Places.{same_at, within, set_here, set_other, image_at}
@@ -110,8 +111,8 @@ module _ {D : Type 0} (wire : WireState PaxosRules) (config : Counts) (old mid :
       pub kept_now : (kinds : List MsgKind) (sent cells_top top : ℕ) → kinds ≡ map kind_of (messages_in (records looked.pass)) → sent ≡ top_of_messages (map message_of (messages_in (records looked.pass)))
           → cells_top ≡ top_of_cells (slice_set mid 0 looked) → AreTrue (slice_set mid 0 looked) → top ≡ max sent cells_top → IsKept wire config (slice_set mid 0 looked) 0 kinds sent top
       kept_now kinds sent cells_top top k s t cores m =
-          let w : sent ≡ top_of_messages (messages (entries_in (records held_now.lead.pass))) =
-          s ∙ ap top_of_messages (sym (messages-entries (records looked.pass))) ∙ ap (λ (c : CellState D). top_of_messages (messages (entries_in (records c.pass)))) (sym lead_is) in
+          let w : sent ≡ top_of_messages (messages (newest_first (records held_now.lead.pass))) =
+          s ∙ ap top_of_messages (sym (messages-entries (records looked.pass))) ∙ ap (λ (c : CellState D). top_of_messages (messages (newest_first (records c.pass)))) (sym lead_is) in
           is_kept wire config (slice_set mid 0 looked) 0 held_now kinds sent top (k ∙ ap (λ (c : CellState D). map kind_of (messages_in (records c.pass))) (sym lead_is)) w
           (m ∙ top_of_all wire config (slice_set mid 0 looked) 0 held_now sent cells_top w t cores)
 

@@ -8,12 +8,12 @@ use Rattle.gp_msg.specs.declared.message.MsgKind.{MsgKind}
 use Rattle.gp_msg.specs.Messages.{Stamped, message_of, entry_of}
 use Rattle.gp_msg.specs.Reads.{kind_of}
 use Rattle.gp_run.specs.Messages.{messages}
-use Rattle.gp_run.specs.Runs.{entries_in}
+use Rattle.gp_run.specs.Runs.{newest_first}
 use Rattle.gp_run.specs.TopCount.{rounds_of, greatest_count, top_of_messages}
 use Rattle.gp_run.proofs.Telling.{messages-entries}
 use Rattle.gp_world.proofs.Showing.{tops-append}
-use Rattle.gp_wire.specs.Messages.{messages_in}
-use Rattle.gp_rules.specs.Owning.{same_tells}
+use Rattle.gp_msg.specs.Records.{messages_in}
+use Rattle.gp_rules.specs.SameNodes.{same_tells}
 use Rattle.gp_rules.specs.Still.{entries_append}
 use Rattle.gp_rules.specs.declared.roles.Core.{Core}
 use Rattle.gp_rules.specs.Cores.{acts, core_at, part_in}
@@ -33,16 +33,16 @@ first_behind (m ∷ ms) out zero e = absurd (omega (arith, e))
 first_behind (m ∷ ms) out (suc k) e = first_behind ms out k (omega (arith, e))
 
 -- the core of the sender is what its last event makes
-core_of_last : (config : Counts) (before : List Record) (x : Record) → core_at config x.node (entries_in (before ++ x ∷ [])) ≡ (acts x.node (core_at config x.node (entries_in before)) (messages (entries_in before)) x.event).0
+core_of_last : (config : Counts) (before : List Record) (x : Record) → core_at config x.node (newest_first (before ++ x ∷ [])) ≡ (acts x.node (core_at config x.node (newest_first before)) (messages (newest_first before)) x.event).0
 core_of_last config before x = ap (core_at config x.node) (entries_append before (x ∷ [])) ∙ elim (same_tells x.node x.node) [
-  | inl t ↦ ap (λ b. cond b (acts x.node (core_at config x.node (entries_in before)) (messages (entries_in before)) x.event).0 (core_at config x.node (entries_in before))) t.0
+  | inl t ↦ ap (λ b. cond b (acts x.node (core_at config x.node (newest_first before)) (messages (newest_first before)) x.event).0 (core_at config x.node (newest_first before))) t.0
   | inr t ↦ absurd (t.1 refl)
 ]
 
-module _ (config : Counts) (before list : List Record) (x : Record) (kinds : List MsgKind) (top : ℕ) (list_is : list ≡ before ++ x ∷ []) (lawful : IsLawful config (entries_in before) (entry_of x))
-    (kinds_are : kinds ≡ map kind_of (messages_in before)) (top_is : top ≡ top_of_messages (messages (entries_in before))) where
+module _ (config : Counts) (before list : List Record) (x : Record) (kinds : List MsgKind) (top : ℕ) (list_is : list ≡ before ++ x ∷ []) (lawful : IsLawful config (newest_first before) (entry_of x))
+    (kinds_are : kinds ≡ map kind_of (messages_in before)) (top_is : top ≡ top_of_messages (messages (newest_first before))) where
   step_is : Core
-  step_is = (acts x.node (core_at config x.node (entries_in before)) (messages (entries_in before)) x.event).0
+  step_is = (acts x.node (core_at config x.node (newest_first before)) (messages (newest_first before)) x.event).0
 
   kinds_length : length kinds ≡ length (messages_in before)
   kinds_length = ap length kinds_are ∙ length-map (messages_in before) kind_of
@@ -51,11 +51,11 @@ module _ (config : Counts) (before list : List Record) (x : Record) (kinds : Lis
   pub next_kind : option_map kind_of (slice_get (messages_in list) (length kinds)) ≡ option_map kind_of (slice_get x.out 0)
   next_kind = ap (option_map kind_of) (ap (λ l. slice_get (messages_in l) (length kinds)) list_is ∙ ap (λ l. slice_get l (length kinds)) (sent_more before x) ∙ first_behind (messages_in before) x.out (length kinds) kinds_length)
 
-  all_sent : messages (entries_in list) ≡ messages (entries_in before) ++ map message_of x.out
+  all_sent : messages (newest_first list) ≡ messages (newest_first before) ++ map message_of x.out
   all_sent = messages-entries list ∙ ap (map message_of) (ap messages_in list_is ∙ sent_more before x) ∙ map-append message_of (messages_in before) x.out ∙ ap (λ l. l ++ map message_of x.out) (sym (messages-entries before))
 
-  all_tops : top_of_messages (messages (entries_in list)) ≡ max top (top_of_messages (map message_of x.out))
-  all_tops = ap top_of_messages all_sent ∙ tops-append (messages (entries_in before)) (map message_of x.out) ∙ ap (λ t. max t (top_of_messages (map message_of x.out))) (sym top_is)
+  all_tops : top_of_messages (messages (newest_first list)) ≡ max top (top_of_messages (map message_of x.out))
+  all_tops = ap top_of_messages all_sent ∙ tops-append (messages (newest_first before)) (map message_of x.out) ∙ ap (λ t. max t (top_of_messages (map message_of x.out))) (sym top_is)
 
   all_kinds : map kind_of (messages_in list) ≡ kinds ++ map kind_of x.out
   all_kinds = ap (map kind_of) (ap messages_in list_is ∙ sent_more before x) ∙ map-append kind_of (messages_in before) x.out ∙ ap (λ l. l ++ map kind_of x.out) (sym kinds_are)
@@ -68,7 +68,7 @@ module _ (config : Counts) (before list : List Record) (x : Record) (kinds : Lis
   pub none_kinds : option_map kind_of (slice_get x.out 0) ≡ None → kinds ≡ map kind_of (messages_in list)
   none_kinds e = sym (all_kinds ∙ ap (λ o. kinds ++ map kind_of o) (none_out x.out e) ∙ append-nil kinds)
 
-  pub none_tops : option_map kind_of (slice_get x.out 0) ≡ None → top ≡ top_of_messages (messages (entries_in list))
+  pub none_tops : option_map kind_of (slice_get x.out 0) ≡ None → top ≡ top_of_messages (messages (newest_first list))
   none_tops e = sym (all_tops ∙ ap (λ o. max top (top_of_messages (map message_of o))) (none_out x.out e) ∙ omega arith)
 
   -- one message was sent
@@ -78,7 +78,7 @@ module _ (config : Counts) (before list : List Record) (x : Record) (kinds : Lis
   one_out (m ∷ n ∷ out) kind l e = absurd (omega (arith, l))
 
   few_out : length x.out ≤ 1
-  few_out = let a = sym (length-map x.out message_of) ∙ ap length lawful.own_messages in let b = at_most_one (acts x.node (core_at config x.node (entries_in before)) (messages (entries_in before)) x.event).1 in omega (arith, a, b)
+  few_out = let a = sym (length-map x.out message_of) ∙ ap length lawful.own_messages in let b = at_most_one (acts x.node (core_at config x.node (newest_first before)) (messages (newest_first before)) x.event).1 in omega (arith, a, b)
     where
       at_most_one : (o : Option Stamped) → length (option_to_list o) ≤ 1
       at_most_one None = omega arith
@@ -89,22 +89,22 @@ module _ (config : Counts) (before list : List Record) (x : Record) (kinds : Lis
 
   sent_top : (m : Msg) → x.out ≡ m ∷ [] → greatest_count (rounds_of (message_of m)) ≡ top_in (part_in step_is)
   unfolding step_is
-  sent_top m e = tells (acts x.node (core_at config x.node (entries_in before)) (messages (entries_in before)) x.event).1 (sym (ap (map message_of) e) ∙ lawful.own_messages)
-      (acts_tops x.node (core_at config x.node (entries_in before)) (messages (entries_in before)) x.event (core_role config x.node (entries_in before)))
+  sent_top m e = tells (acts x.node (core_at config x.node (newest_first before)) (messages (newest_first before)) x.event).1 (sym (ap (map message_of) e) ∙ lawful.own_messages)
+      (acts_tops x.node (core_at config x.node (newest_first before)) (messages (newest_first before)) x.event (core_role config x.node (newest_first before)))
     where
-      tells : (o : Option Stamped) → message_of m ∷ [] ≡ option_to_list o → Tops o (top_in (part_in (acts x.node (core_at config x.node (entries_in before)) (messages (entries_in before)) x.event).0))
-          → greatest_count (rounds_of (message_of m)) ≡ top_in (part_in (acts x.node (core_at config x.node (entries_in before)) (messages (entries_in before)) x.event).0)
+      tells : (o : Option Stamped) → message_of m ∷ [] ≡ option_to_list o → Tops o (top_in (part_in (acts x.node (core_at config x.node (newest_first before)) (messages (newest_first before)) x.event).0))
+          → greatest_count (rounds_of (message_of m)) ≡ top_in (part_in (acts x.node (core_at config x.node (newest_first before)) (messages (newest_first before)) x.event).0)
       tells None e t = absurd cc
       tells (Some s) e t = let same : message_of m ≡ s = cc in ap (λ y. greatest_count (rounds_of y)) same ∙ t
 
-  pub one_tops : (kind : MsgKind) (core : Core) → option_map kind_of (slice_get x.out 0) ≡ Some kind → core ≡ core_at config x.node (entries_in list) → max top (top_in (part_in core)) ≡ top_of_messages (messages (entries_in list))
+  pub one_tops : (kind : MsgKind) (core : Core) → option_map kind_of (slice_get x.out 0) ≡ Some kind → core ≡ core_at config x.node (newest_first list) → max top (top_in (part_in core)) ≡ top_of_messages (messages (newest_first list))
   unfolding step_is
   one_tops kind core e is =
       let o = one_out x.out kind few_out e in
       let a = ap (λ l. top_of_messages (map message_of l)) o.1 in
       let b = tops-append (message_of o.0 ∷ []) [] in
       let s = sent_top o.0 o.1 in
-      let c : top_in (part_in core) ≡ top_in (part_in (acts x.node (core_at config x.node (entries_in before)) (messages (entries_in before)) x.event).0) =
-      ap (λ k. top_in (part_in k)) (is ∙ ap (λ l. core_at config x.node (entries_in l)) list_is ∙ core_of_last config before x) in
+      let c : top_in (part_in core) ≡ top_in (part_in (acts x.node (core_at config x.node (newest_first before)) (messages (newest_first before)) x.event).0) =
+      ap (λ k. top_in (part_in k)) (is ∙ ap (λ l. core_at config x.node (newest_first l)) list_is ∙ core_of_last config before x) in
       let t = all_tops in
       let g : top_of_messages (message_of o.0 ∷ []) ≡ greatest_count (rounds_of (message_of o.0)) = ap greatest_count (append-nil (rounds_of (message_of o.0))) in omega (arith, a, s, c, t, g)

@@ -8,7 +8,7 @@ use Rattle.gp_msg.specs.declared.node.Node.TheVariants as node
 use Rattle.gp_msg.specs.declared.durable.Durable.{Durable}
 use Rattle.gp_msg.specs.Messages.{EpochPart, part_of}
 use Rattle.gp_vlog.specs.Logs.{LogState, last}
-use Rattle.gp_run.specs.Runs.{entries_in}
+use Rattle.gp_run.specs.Runs.{newest_first}
 use Rattle.gp_wire.specs.Known.{records}
 use Rattle.gp_rules.specs.Cores.{opening, core_at, part_in}
 use Rattle.gp_cell.specs.Cells.{CellState, Keeps, last_or, last_entry}
@@ -57,8 +57,8 @@ module _ {D : Type 0} where
   top_append [] c = omega arith
   top_append (x ∷ xs) c = let h = top_append xs c in omega (arith, h)
 
-  true_more : (xs : List (CellState D)) (c : CellState D) → AreTrue xs → c.core ≡ core_at c.config c.node (entries_in (records c.pass)) → AreTrue (xs ++ c ∷ [])
-  true_more [] c h core zero x e = subst (λ (y : CellState D). y.core ≡ core_at y.config y.node (entries_in (records y.pass))) (same_value c x e) core
+  true_more : (xs : List (CellState D)) (c : CellState D) → AreTrue xs → c.core ≡ core_at c.config c.node (newest_first (records c.pass)) → AreTrue (xs ++ c ∷ [])
+  true_more [] c h core zero x e = subst (λ (y : CellState D). y.core ≡ core_at y.config y.node (newest_first (records y.pass))) (same_value c x e) core
   true_more [] c h core (suc i) x e = cc
   true_more (y ∷ xs) c h core zero x e = h 0 x e
   true_more (y ∷ xs) c h core (suc i) x e = true_more xs c (λ j z a. h (suc j) z a) core i x e
@@ -73,5 +73,5 @@ module _ {D : Type 0} where
       let more : take (i + 1) cells ≡ take i cells ++ x ∷ [] = take_more cells i x l ∙ ap (λ y. take i cells ++ y ∷ []) (sym is) in
       let t = top_append (take i cells) x in let m = ap top_of_cells more in omega (arith, s, o, e, t, m)
 
-  pub trues_more : (cells : List (CellState D)) (i : ℕ) (x : CellState D) → i < length cells → x ≡ get_or cells i x → AreTrue (take i cells) → x.core ≡ core_at x.config x.node (entries_in (records x.pass)) → AreTrue (take (i + 1) cells)
+  pub trues_more : (cells : List (CellState D)) (i : ℕ) (x : CellState D) → i < length cells → x ≡ get_or cells i x → AreTrue (take i cells) → x.core ≡ core_at x.config x.node (newest_first (records x.pass)) → AreTrue (take (i + 1) cells)
   trues_more cells i x l is h core = subst AreTrue (sym (take_more cells i x l ∙ ap (λ y. take i cells ++ y ∷ []) (sym is))) (true_more (take i cells) x h core)

@@ -9,7 +9,7 @@ use Rattle.gp_msg.specs.declared.node.Node.{Node}
 use Rattle.gp_msg.specs.declared.node.Node.TheVariants as node
 use Rattle.gp_msg.specs.Messages.{Entry}
 use Rattle.gp_msg.specs.Nodes.{is_present}
-use Rattle.gp_run.specs.Runs.{entries_in}
+use Rattle.gp_run.specs.Runs.{newest_first}
 use Rattle.gp_run.specs.States.{coordinator_at}
 use Rattle.gp_run.specs.TopCount.{rounds_below, greatest_count, top_of_coordinators}
 use Rattle.gp_wire.specs.Known.{WireState, records}
@@ -56,38 +56,38 @@ module _ {D : Type 0} where
   up_to_cells (x ∷ cells) (suc i) c e = let h = up_to_cells cells i c e in omega (arith, h)
 
 module _ {D : Type 0} (wire : WireState PaxosRules) (config : Counts) (cells : List (CellState D)) (holder : ℕ) (h : AreHeld wire config cells holder)
-    (cores : (i : ℕ) (c : CellState D) → slice_get cells i ≡ Some c → c.core ≡ core_at c.config c.node (entries_in (records c.pass))) where
+    (cores : (i : ℕ) (c : CellState D) → slice_get cells i ≡ Some c → c.core ≡ core_at c.config c.node (newest_first (records c.pass))) where
   run : List Entry
-  run = entries_in (records h.lead.pass)
+  run = newest_first (records h.lead.pass)
 
   -- the core of a cell is that of the whole run
-  core_here : (i : ℕ) (c : CellState D) → slice_get cells i ≡ Some c → c.core ≡ core_at config c.node (entries_in (records h.lead.pass))
+  core_here : (i : ℕ) (c : CellState D) → slice_get cells i ≡ Some c → c.core ≡ core_at config c.node (newest_first (records h.lead.pass))
   core_here i c e = let b = h.behind i c e in
       cores i c e
-      ∙ ap (λ k. core_at k c.node (entries_in (records c.pass))) ((h.placed i c e).config ∙ sym h.config_is)
-      ∙ sym (ap (λ l. core_at config c.node (entries_in l)) b.split ∙ ap (core_at config c.node) (entries_append (records c.pass) b.more)
-      ∙ core_still config c.node (entries_in b.more) (entries_in (records c.pass)) (nothing_own c.node b.more b.others))
+      ∙ ap (λ k. core_at k c.node (newest_first (records c.pass))) ((h.placed i c e).config ∙ sym h.config_is)
+      ∙ sym (ap (λ l. core_at config c.node (newest_first l)) b.split ∙ ap (core_at config c.node) (entries_append (records c.pass) b.more)
+      ∙ core_still config c.node (newest_first b.more) (newest_first (records c.pass)) (nothing_own c.node b.more b.others))
 
-  part_here : (k i : ℕ) (c : CellState D) → slice_get cells i ≡ Some c → c.node ≡ node.Coordinator k → part_of_cell c ≡ greatest_count ((coordinator_at config k (entries_in (records h.lead.pass))).state.round ∷ [])
+  part_here : (k i : ℕ) (c : CellState D) → slice_get cells i ≡ Some c → c.node ≡ node.Coordinator k → part_of_cell c ≡ greatest_count ((coordinator_at config k (newest_first (records h.lead.pass))).state.round ∷ [])
   part_here k i c e is = (λ j. coordinator_top (is j) (top_in (part_in (core_here i c e j))))
-      ∙ ap (λ m. top_in (part_in (core_at config m (entries_in (records h.lead.pass))))) is
-      ∙ ap (λ core. top_in (part_in core)) (core_is config (node.Coordinator k) (entries_in (records h.lead.pass)) h.legal)
+      ∙ ap (λ m. top_in (part_in (core_at config m (newest_first (records h.lead.pass))))) is
+      ∙ ap (λ core. top_in (part_in core)) (core_is config (node.Coordinator k) (newest_first (records h.lead.pass)) h.legal)
       ∙ omega arith
 
-  at_most : (i : ℕ) (c : CellState D) (n : Node) → slice_get cells i ≡ Some c → c.node ≡ n → is_present config n ≡ true → coordinator_top n (top_in (part_in c.core)) ≤ top_of_coordinators config (entries_in (records h.lead.pass))
+  at_most : (i : ℕ) (c : CellState D) (n : Node) → slice_get cells i ≡ Some c → c.node ≡ n → is_present config n ≡ true → coordinator_top n (top_in (part_in c.core)) ≤ top_of_coordinators config (newest_first (records h.lead.pass))
   at_most i c (node.Proposer p) e is there = omega arith
   at_most i c (node.Coordinator k) e is there =
       let a = sym (ap (λ m. coordinator_top m (top_in (part_in c.core))) is) ∙ part_here k i c e is in
-      let b = up_to_rounds config.coordinators (λ c. (coordinator_at config c (entries_in (records h.lead.pass))).state.round ∷ []) k (ltb-true k config.coordinators there) in omega (arith, a, b)
+      let b = up_to_rounds config.coordinators (λ c. (coordinator_at config c (newest_first (records h.lead.pass))).state.round ∷ []) k (ltb-true k config.coordinators there) in omega (arith, a, b)
   at_most i c (node.Acceptor p) e is there = omega arith
   at_most i c (node.Learner p) e is there = omega arith
 
-  at_least : (k : ℕ) → k < config.coordinators → greatest_count ((coordinator_at config k (entries_in (records h.lead.pass))).state.round ∷ []) ≤ top_of_cells cells
+  at_least : (k : ℕ) → k < config.coordinators → greatest_count ((coordinator_at config k (newest_first (records h.lead.pass))).state.round ∷ []) ≤ top_of_cells cells
   at_least k l =
       let there = (h.nodes (node.Coordinator k)).0 (lt-ltb k config.coordinators l) in let c = h.cells_are.have (node.Coordinator k) there in
       let a = part_here k c.0 c.1 c.2 c.3 in let b = up_to_cells cells c.0 c.1 c.2 in omega (arith, a, b)
 
-  pub leaders_top : top_of_cells cells ≡ top_of_coordinators config (entries_in (records h.lead.pass))
+  pub leaders_top : top_of_cells cells ≡ top_of_coordinators config (newest_first (records h.lead.pass))
   leaders_top =
-      let a = cells_up_to cells (top_of_coordinators config (entries_in (records h.lead.pass))) (λ i c e. at_most i c c.node e refl ((h.nodes c.node).1 (h.cells_are.known i c e))) in
-      let b = rounds_up_to config.coordinators (λ c. (coordinator_at config c (entries_in (records h.lead.pass))).state.round ∷ []) (top_of_cells cells) at_least in omega (arith, a, b)
+      let a = cells_up_to cells (top_of_coordinators config (newest_first (records h.lead.pass))) (λ i c e. at_most i c c.node e refl ((h.nodes c.node).1 (h.cells_are.known i c e))) in
+      let b = rounds_up_to config.coordinators (λ c. (coordinator_at config c (newest_first (records h.lead.pass))).state.round ∷ []) (top_of_cells cells) at_least in omega (arith, a, b)

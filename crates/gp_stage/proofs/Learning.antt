@@ -3,11 +3,11 @@ use Rattle.std.proofs.Common.{◌≡◌, ℕ, zero, suc, max, List, [], ◌∷�
 use Rattle.gp_msg.specs.declared.message.MsgKind.{MsgKind}
 use Rattle.gp_msg.specs.Reads.{kind_of}
 use Rattle.gp_run.specs.Messages.{messages}
-use Rattle.gp_run.specs.Runs.{entries_in}
+use Rattle.gp_run.specs.Runs.{newest_first}
 use Rattle.gp_run.specs.TopCount.{top_count, top_of_messages}
 use Rattle.gp_wire.specs.Lists.{Has}
 use Rattle.gp_wire.specs.Known.{WireState, PassState, HoldsAll, records}
-use Rattle.gp_wire.specs.Messages.{messages_in}
+use Rattle.gp_msg.specs.Records.{messages_in}
 use Rattle.gp_wire.specs.Passes.{HadTurn, nothing}
 use Rattle.gp_rules.specs.declared.rules.PaxosRules.{PaxosRules}
 use Rattle.gp_rules.specs.Cores.{core_at, part_in}
@@ -64,12 +64,12 @@ module _ {D : Type 0} (wire : WireState PaxosRules) (cells : List (CellState D))
     list_looked = list_here ∙ list_same ∙ sym (ap seen_by x_is)
 
     -- the greatest count of all
-    pub top_looked : (sent top all : ℕ) → sent ≡ top_of_messages (messages (entries_in (seen_by (slice_get (slice_set cells at y) at)))) → top ≡ top_of_cells (slice_set cells at y) → AreTrue (slice_set cells at y) → all ≡ max sent top
-        → all ≡ top_count wire.rules.config (entries_in (seen_by (slice_get (slice_set cells at y) at)))
+    pub top_looked : (sent top all : ℕ) → sent ≡ top_of_messages (messages (newest_first (seen_by (slice_get (slice_set cells at y) at)))) → top ≡ top_of_cells (slice_set cells at y) → AreTrue (slice_set cells at y) → all ≡ max sent top
+        → all ≡ top_count wire.rules.config (newest_first (seen_by (slice_get (slice_set cells at y) at)))
     top_looked sent top all s t cores a =
         let l = list_of_lead wire wire.rules.config (slice_set cells at y) at held_looked in
-        a ∙ top_of_all wire wire.rules.config (slice_set cells at y) at held_looked sent top (s ∙ ap (λ rs. top_of_messages (messages (entries_in rs))) l) t cores
-        ∙ ap (λ rs. top_count wire.rules.config (entries_in rs)) (sym l)
+        a ∙ top_of_all wire wire.rules.config (slice_set cells at y) at held_looked sent top (s ∙ ap (λ rs. top_of_messages (messages (newest_first rs))) l) t cores
+        ∙ ap (λ rs. top_count wire.rules.config (newest_first rs)) (sym l)
 
     module _ (kinds : List MsgKind) (sent : ℕ) (k : KnewBefore wire.rules.config cells at kinds sent) (o : Option MsgKind) (answer : o ≡ option_map kind_of (slice_get (messages_in (records y.pass)) (length kinds))) where
       list_is : records y.pass ≡ k.before ++ k.item ∷ []
@@ -81,8 +81,8 @@ module _ {D : Type 0} (wire : WireState PaxosRules) (cells : List (CellState D))
       pub kinds_none : o ≡ None → kinds ≡ map kind_of (messages_in (seen_by (slice_get (slice_set cells at y) at)))
       kinds_none e = none_kinds wire.rules.config k.before (records y.pass) k.item kinds sent list_is k.lawful k.kinds_are k.top_is (sym told ∙ e) ∙ ap (λ rs. map kind_of (messages_in rs)) (sym list_here)
 
-      pub sent_none : o ≡ None → sent ≡ top_of_messages (messages (entries_in (seen_by (slice_get (slice_set cells at y) at))))
-      sent_none e = none_tops wire.rules.config k.before (records y.pass) k.item kinds sent list_is k.lawful k.kinds_are k.top_is (sym told ∙ e) ∙ ap (λ rs. top_of_messages (messages (entries_in rs))) (sym list_here)
+      pub sent_none : o ≡ None → sent ≡ top_of_messages (messages (newest_first (seen_by (slice_get (slice_set cells at y) at))))
+      sent_none e = none_tops wire.rules.config k.before (records y.pass) k.item kinds sent list_is k.lawful k.kinds_are k.top_is (sym told ∙ e) ∙ ap (λ rs. top_of_messages (messages (newest_first rs))) (sym list_here)
 
       pub kinds_some : (kind : MsgKind) → o ≡ Some kind → kinds ++ kind ∷ [] ≡ map kind_of (messages_in (seen_by (slice_get (slice_set cells at y) at)))
       kinds_some kind e = one_kinds wire.rules.config k.before (records y.pass) k.item kinds sent list_is k.lawful k.kinds_are k.top_is kind (sym told ∙ e) ∙ ap (λ rs. map kind_of (messages_in rs)) (sym list_here)
@@ -94,9 +94,9 @@ module _ {D : Type 0} (wire : WireState PaxosRules) (cells : List (CellState D))
       y_config : y.config ≡ wire.rules.config
       y_config = but.0 ∙ (h.placed at x x_is).config
 
-      pub sent_some : (kind : MsgKind) → o ≡ Some kind → (z : CellState D) → slice_get (slice_set cells at y) at ≡ Some z → z.core ≡ core_at z.config z.node (entries_in (records z.pass))
-          → max sent (top_in (part_in z.core)) ≡ top_of_messages (messages (entries_in (seen_by (slice_get (slice_set cells at y) at))))
+      pub sent_some : (kind : MsgKind) → o ≡ Some kind → (z : CellState D) → slice_get (slice_set cells at y) at ≡ Some z → z.core ≡ core_at z.config z.node (newest_first (records z.pass))
+          → max sent (top_in (part_in z.core)) ≡ top_of_messages (messages (newest_first (seen_by (slice_get (slice_set cells at y) at))))
       sent_some kind e z z_is core =
           one_tops wire.rules.config k.before (records y.pass) k.item kinds sent list_is k.lawful k.kinds_are k.top_is kind z.core (sym told ∙ e)
-          (core ∙ ap (λ (c : CellState D). core_at c.config c.node (entries_in (records c.pass))) (same_at (slice_set cells at y) at z y z_is here) ∙ (λ i. core_at (y_config i) (sym y_node i) (entries_in (records y.pass))))
-          ∙ ap (λ rs. top_of_messages (messages (entries_in rs))) (sym list_here)
+          (core ∙ ap (λ (c : CellState D). core_at c.config c.node (newest_first (records c.pass))) (same_at (slice_set cells at y) at z y z_is here) ∙ (λ i. core_at (y_config i) (sym y_node i) (newest_first (records y.pass))))
+          ∙ ap (λ rs. top_of_messages (messages (newest_first rs))) (sym list_here)

@@ -14,14 +14,14 @@ use Rattle.gp_wire.specs.Told.{all_of}
 use Rattle.gp_wire.specs.Known.{WireState, PassState, records, record_of, old_of}
 use Rattle.gp_wire.specs.Passes.{met, spent}
 use Rattle.gp_wire.proofs.Words.{has_left, has_right}
-use Rattle.gp_rules.specs.Own.{own}
-use Rattle.gp_rules.specs.Owning.{own_append, own_foreign}
+use Rattle.gp_rules.specs.Own.{own, IsBehind}
+use Rattle.gp_rules.proofs.OwnRecords.{own_append, own_foreign}
 use Rattle.gp_rules.specs.declared.rules.PaxosRules.{PaxosRules}
 use Rattle.gp_cell.specs.Cells.{CellState, OwnLawful}
 use Rattle.gp_cell.specs.Working.{IsAt}
 use Rattle.gp_cell.proofs.Lawfully.{lawful_more}
 use Rattle.gp_stage.specs.Held.{with_pass}
-use Rattle.gp_stage.specs.Gathered.{HasMet, IsBehind, IsPlaced, IsGathered, AreGathered, AreSameBut, rest_of}
+use Rattle.gp_stage.specs.Gathered.{HasMet, IsPlaced, IsGathered, AreGathered, AreSameBut, rest_of}
 use Rattle.gp_stage.proofs.Places.{same_at, same_list, image_at}
 
 -- what a list that begins with what a pass has seen has of a node that the pass holds was lawful, if it was in that pass's list

@@ -12,7 +12,7 @@ use Rattle.gp_msg.specs.declared.event.Event.{Event}
 use Rattle.gp_msg.specs.Messages.{Entry, entry_of}
 use Rattle.gp_run.specs.Legal.{Legal, Follows}
 use Rattle.gp_msg.specs.Nodes.{node_of}
-use Rattle.gp_run.specs.Runs.{entries_in, entry_after}
+use Rattle.gp_run.specs.Runs.{newest_first, entry_after}
 use Rattle.gp_wire.specs.declared.view.Post.{Post}
 use Rattle.gp_wire.specs.Lists.{Has}
 use Rattle.gp_wire.specs.Rule.{Begins}
@@ -20,8 +20,8 @@ use Rattle.gp_wire.specs.Told.{longer}
 use Rattle.gp_wire.specs.Known.{WireState, PassState, HoldsAll, records, record_of, old_of}
 use Rattle.gp_wire.specs.Passes.{met, spent}
 use Rattle.gp_wire.proofs.Words.{has_right}
-use Rattle.gp_rules.specs.Own.{own}
-use Rattle.gp_rules.specs.Owning.{same_tells}
+use Rattle.gp_rules.specs.Own.{own, IsBehind}
+use Rattle.gp_rules.specs.SameNodes.{same_tells}
 use Rattle.gp_rules.specs.Still.{entries_append}
 use Rattle.gp_rules.specs.declared.rules.PaxosRules.{PaxosRules}
 use Rattle.gp_rules.specs.Lawful.{IsLawful}
@@ -29,7 +29,7 @@ use Rattle.gp_rules.proofs.Runs.{lawful_follows}
 use Rattle.gp_cell.specs.Cells.{CellState, PostsOne, IsHeldBy}
 use Rattle.gp_cell.specs.Passing.{GoesOn}
 use Rattle.gp_stage.specs.Held.{with_pass, AreCellsOf}
-use Rattle.gp_stage.specs.Gathered.{HasMet, IsBehind, IsPlaced, AreSameBut, rest_of}
+use Rattle.gp_stage.specs.Gathered.{HasMet, IsPlaced, AreSameBut, rest_of}
 use Rattle.gp_stage.specs.Kept.{AreHeld}
 use Rattle.gp_stage.proofs.Places.{same_at, same_list, image_at}
 use Rattle.gp_stage.proofs.Meeting.{placed_met, placed_spent, meeting_keeps_rest, behind_itself, behind_more, own_behind}
@@ -107,7 +107,7 @@ module _ {D : Type 0} (wire : WireState PaxosRules) (config : Counts) (old new :
     lead_is = m.here;
     holds = λ n there. has_right n m.one.pass.holds m.two.pass.holds (subst (λ (x : CellState D). Has n x.pass.holds) lead_one (h.holds n there));
     behind = each (λ c. IsBehind c.node (records c.pass) (records (met m.one.pass m.two.pass))) (behind_itself m.one.node (records (met m.one.pass m.two.pass))) (behind_met holder m.two m.two_is) behind_met;
-    legal = subst (λ l. Legal config (entries_in l)) (sym whole_met) h.legal;
+    legal = subst (λ l. Legal config (newest_first l)) (sym whole_met) h.legal;
   }
 
 pub whole_led : {D : Type 0} (wire : WireState PaxosRules) (config : Counts) (old new : List (CellState D)) (holder at : ℕ) (h : AreHeld wire config old holder) (m : HasMet old new at holder) (apart : at ≢ holder)
@@ -147,19 +147,19 @@ module _ (config : Counts) (n : Node) (p q : PassState) (e : Event) (x : PostsOn
   pub one_more : records q ≡ records p ++ x.item ∷ []
   one_more = x.grown ∙ ap (λ r. r ++ x.item ∷ []) ahead_is
 
-  pub lawful_now : IsLawful config (entries_in (records p)) (entry_of x.item)
-  lawful_now = subst (λ rs. IsLawful config (entries_in rs) (entry_of x.item)) ahead_is x.lawful
+  pub lawful_now : IsLawful config (newest_first (records p)) (entry_of x.item)
+  lawful_now = subst (λ rs. IsLawful config (newest_first rs) (entry_of x.item)) ahead_is x.lawful
 
-  pub entries_more : entries_in (records q) ≡ entry_of x.item ∷ entries_in (records p)
-  entries_more = ap entries_in one_more ∙ entries_append (records p) (x.item ∷ [])
+  pub entries_more : newest_first (records q) ≡ entry_of x.item ∷ newest_first (records p)
+  entries_more = ap newest_first one_more ∙ entries_append (records p) (x.item ∷ [])
 
-  pub follows_more : Legal config (entries_in (records p)) → Follows config (entries_in (records p)) (entry_of x.item)
-  follows_more legal = lawful_follows config (entries_in (records p)) (entry_of x.item) legal lawful_now
+  pub follows_more : Legal config (newest_first (records p)) → Follows config (newest_first (records p)) (entry_of x.item)
+  follows_more legal = lawful_follows config (newest_first (records p)) (entry_of x.item) legal lawful_now
 
-  pub entry_more : Legal config (entries_in (records p)) → entries_in (records q) ≡ entry_after config (entries_in (records p)) e ∷ entries_in (records p)
-  entry_more legal = let f = follows_more legal in entries_more ∙ ap (λ y. y ∷ entries_in (records p)) (same_entry (entry_of x.item) f ∙ ap (entry_after config (entries_in (records p))) x.event_is)
+  pub entry_more : Legal config (newest_first (records p)) → newest_first (records q) ≡ entry_after config (newest_first (records p)) e ∷ newest_first (records p)
+  entry_more legal = let f = follows_more legal in entries_more ∙ ap (λ y. y ∷ newest_first (records p)) (same_entry (entry_of x.item) f ∙ ap (entry_after config (newest_first (records p))) x.event_is)
     where
-      same_entry : (y : Entry) → Follows config (entries_in (records p)) y → y ≡ entry_after config (entries_in (records p)) y.event
+      same_entry : (y : Entry) → Follows config (newest_first (records p)) y → y ≡ entry_after config (newest_first (records p)) y.event
       same_entry y f = λ i. record { node = f.own_node i; event = y.event; sent = f.own_messages i }
 
   pub item_node : node_of e ≡ n → x.item.node ≡ n
@@ -191,7 +191,7 @@ module _ {D : Type 0} (wire : WireState PaxosRules) (config : Counts) (cells new
       (λ is. subst P (same_at new at after c here (subst (λ j. slice_get new j ≡ Some c) is e)) one)
       (λ n. rest i c n (sym (others i n) ∙ e))
 
-  held_again : Legal config (entries_in (records after.pass)) → ((i : ℕ) (c : CellState D) → i ≢ at → slice_get cells i ≡ Some c → IsBehind c.node (records c.pass) (records after.pass)) → AreHeld wire config new at
+  held_again : Legal config (newest_first (records after.pass)) → ((i : ℕ) (c : CellState D) → i ≢ at → slice_get cells i ≡ Some c → IsBehind c.node (records c.pass) (records after.pass)) → AreHeld wire config new at
   held_again legal all_behind = record {
     config_is = h.config_is;
     nodes = h.nodes;
@@ -205,12 +205,12 @@ module _ {D : Type 0} (wire : WireState PaxosRules) (config : Counts) (cells new
   }
 
   pub held_refused : records after.pass ≡ records h.lead.pass → AreHeld wire config new at
-  held_refused same = held_again (subst (λ l. Legal config (entries_in l)) (sym same) h.legal) (λ i c n e. subst (IsBehind c.node (records c.pass)) (sym same) (h.behind i c e))
+  held_refused same = held_again (subst (λ l. Legal config (newest_first l)) (sym same) h.legal) (λ i c n e. subst (IsBehind c.node (records c.pass)) (sym same) (h.behind i c e))
 
   pub held_posted : (e : Event) → node_of e ≡ h.lead.node → PostsOne config h.lead.node (records h.lead.pass) (records after.pass) e → length after.pass.seen ≡ length h.lead.pass.seen + 1 → AreHeld wire config new at
   held_posted e is x l = held_again legal mine
     where
-      legal : Legal config (entries_in (records after.pass))
+      legal : Legal config (newest_first (records after.pass))
       legal = subst (Legal config) (sym (entries_more config h.lead.node h.lead.pass after.pass e x l)) (h.legal, follows_more config h.lead.node h.lead.pass after.pass e x l h.legal)
 
       mine : (i : ℕ) (c : CellState D) → i ≢ at → slice_get cells i ≡ Some c → IsBehind c.node (records c.pass) (records after.pass)

@@ -13,7 +13,7 @@ use Rattle.gp_work.specs.declared.moves.Move.{Move}
 use Rattle.gp_work.specs.declared.faults.StepFault.{StepFault}
 use Rattle.gp_work.specs.declared.faults.StepFault.TheVariants as step
 use Rattle.gp_rules.specs.Own.{own, own_events, event_in}
-use Rattle.gp_rules.specs.Owning.{own_append}
+use Rattle.gp_rules.proofs.OwnRecords.{own_append}
 use Rattle.gp_rules.specs.declared.rules.PaxosRules.{PaxosRules}
 use Rattle.gp_cell.specs.Cells.{CellState}
 use Rattle.gp_cell.specs.Refusals.{faults_of, limit_of}

@@ -14,13 +14,13 @@ use Rattle.gp_msg.specs.Reads.{kind_of}
 use Rattle.gp_run.specs.Messages.{messages}
 use Rattle.gp_msg.specs.Nodes.{is_present, node_of, fits_among}
 use Rattle.gp_run.specs.Legal.{fits}
-use Rattle.gp_run.specs.Runs.{entries_in, entry_after}
+use Rattle.gp_run.specs.Runs.{newest_first, entry_after}
 use Rattle.gp_run.specs.TopCount.{top_count, top_of_messages}
 use Rattle.gp_run.proofs.Fitting.{node_there}
 use Rattle.gp_run.proofs.Telling.{as_many_messages}
 use Rattle.gp_driver.specs.Stages.{HasCause}
 use Rattle.gp_wire.specs.Known.{WireState, records}
-use Rattle.gp_wire.specs.Messages.{messages_in}
+use Rattle.gp_msg.specs.Records.{messages_in}
 use Rattle.gp_work.specs.declared.moves.Move.{Move}
 use Rattle.gp_work.specs.declared.moves.Move.TheVariants.{Offer, Begin, Take}
 use Rattle.gp_work.specs.declared.faults.StepFault.{StepFault}
@@ -54,9 +54,9 @@ move_fits config have (node.Learner l) (Take k) e f = tt
 pub held_there : {D : Type 0} (wire : WireState PaxosRules) (config : Counts) (cells : List (CellState D)) (holder : ℕ) → AreHeld wire config cells holder → AreHeld wire wire.rules.config cells holder
 held_there wire config cells holder h = subst (λ k. AreHeld wire k cells holder) h.config_is h
 
-module _ {D : Type 0} (wire : WireState PaxosRules) (config : Counts) (cells : List (CellState D)) (holder : ℕ) (h : AreHeld wire config cells holder) (event : Event) (fits_now : fits config (entries_in (seen_by (slice_get cells holder))) event ≡ true) where
+module _ {D : Type 0} (wire : WireState PaxosRules) (config : Counts) (cells : List (CellState D)) (holder : ℕ) (h : AreHeld wire config cells holder) (event : Event) (fits_now : fits config (newest_first (seen_by (slice_get cells holder))) event ≡ true) where
   there : is_present config (node_of event) ≡ true
-  there = node_there config (length (messages (entries_in (seen_by (slice_get cells holder))))) event fits_now
+  there = node_there config (length (messages (newest_first (seen_by (slice_get cells holder))))) event fits_now
 
   pub has_cell : HasCell (node_of event) cells
   has_cell = h.cells_are.have (node_of event) ((h.nodes (node_of event)).0 there)
@@ -67,11 +67,11 @@ module _ {D : Type 0} (wire : WireState PaxosRules) (config : Counts) (cells : L
         cell = c;
         cell_is = c_is;
         up = up at c c_is;
-        fit = subst (λ k. Fits k c.node mv) h.config_is (move_fits config (length (messages (entries_in (seen_by (slice_get cells holder))))) c.node mv (same ∙ node_is ∙ ap node_of (sym own))
-            (subst (λ e. fits config (entries_in (seen_by (slice_get cells holder))) e ≡ true) (sym own) fits_now));
+        fit = subst (λ k. Fits k c.node mv) h.config_is (move_fits config (length (messages (newest_first (seen_by (slice_get cells holder))))) c.node mv (same ∙ node_is ∙ ap node_of (sym own))
+            (subst (λ e. fits config (newest_first (seen_by (slice_get cells holder))) e ≡ true) (sym own) fits_now));
         present = subst (λ k. is_present k c.node ≡ true) h.config_is (subst (λ m. is_present config m ≡ true) (sym (same ∙ node_is)) there);
-        fits_now = subst (λ k. fits k (entries_in (seen_by (slice_get cells holder))) (event_of c.node mv) ≡ true) h.config_is
-            (subst (λ e. fits config (entries_in (seen_by (slice_get cells holder))) e ≡ true) (sym own) fits_now);
+        fits_now = subst (λ k. fits k (newest_first (seen_by (slice_get cells holder))) (event_of c.node mv) ≡ true) h.config_is
+            (subst (λ e. fits config (newest_first (seen_by (slice_get cells holder))) e ≡ true) (sym own) fits_now);
       }
 
 -- ---- what the move made
@@ -83,11 +83,11 @@ module _ {D : Type 0} (faults : D → ℕ) (wire : WireState PaxosRules) (old ne
       (λ other. let b = mapped_at rest_of old i (rest_of c) (sym (p.others i other) ∙ map_at rest_of new i c e) in sym (ap (λ (r : _). r.4) b.2) ∙ up i b.0 b.1)
 
   pub list_posted : (n : ℕ) (p : HasPlayed faults wire old new holder at mv (Ok n)) (event : Event) → event_of p.before.node mv ≡ event
-      → entries_in (seen_by (slice_get new at)) ≡ entry_after wire.rules.config (entries_in (seen_by (slice_get old holder))) event ∷ entries_in (seen_by (slice_get old holder))
-  list_posted n p event is = ap (λ o. entries_in (seen_by o)) p.after_is ∙ p.entry ∙ ap (λ e. entry_after wire.rules.config (entries_in (seen_by (slice_get old holder))) e ∷ entries_in (seen_by (slice_get old holder))) is
+      → newest_first (seen_by (slice_get new at)) ≡ entry_after wire.rules.config (newest_first (seen_by (slice_get old holder))) event ∷ newest_first (seen_by (slice_get old holder))
+  list_posted n p event is = ap (λ o. newest_first (seen_by o)) p.after_is ∙ p.entry ∙ ap (λ e. entry_after wire.rules.config (newest_first (seen_by (slice_get old holder))) e ∷ newest_first (seen_by (slice_get old holder))) is
 
-  pub count_posted : (n : ℕ) → HasPlayed faults wire old new holder at mv (Ok n) → n ≡ length (messages (entries_in (seen_by (slice_get new at))))
-  count_posted n p = p.count ∙ sym (as_many_messages (records p.after.pass)) ∙ ap (λ o. length (messages (entries_in (seen_by o)))) (sym p.after_is)
+  pub count_posted : (n : ℕ) → HasPlayed faults wire old new holder at mv (Ok n) → n ≡ length (messages (newest_first (seen_by (slice_get new at))))
+  count_posted n p = p.count ∙ sym (as_many_messages (records p.after.pass)) ∙ ap (λ o. length (messages (newest_first (seen_by o)))) (sym p.after_is)
 
   pub list_refused : (f : StepFault) → HasPlayed faults wire old new holder at mv (Err f) → seen_by (slice_get new at) ≡ seen_by (slice_get old holder)
   list_refused f p = ap seen_by p.after_is ∙ p.nothing
@@ -110,8 +110,8 @@ module _ {D : Type 0} (faults : D → ℕ) (wire : WireState PaxosRules) (old ne
     kept_refused f p = record {
       held = subst (λ c. AreHeld wire c new at) (sym k.held.config_is) p.held;
       kinds_are = k.kinds_are ∙ ap (λ rs. map kind_of (messages_in rs)) (sym (list_refused f p));
-      sent_is = k.sent_is ∙ ap (λ rs. top_of_messages (messages (entries_in rs))) (sym (list_refused f p));
-      top_is = k.top_is ∙ ap (λ rs. top_count config (entries_in rs)) (sym (list_refused f p));
+      sent_is = k.sent_is ∙ ap (λ rs. top_of_messages (messages (newest_first rs))) (sym (list_refused f p));
+      top_is = k.top_is ∙ ap (λ rs. top_count config (newest_first rs)) (sym (list_refused f p));
     }
 
   -- ---- the count of faults
@@ -151,13 +151,13 @@ module _ {D : Type 0} (faults : D → ℕ) (wire : WireState PaxosRules) (old ne
 -- ---- once the kinds and the counts are known again
 
 pub kept_again : {D : Type 0} (wire : WireState PaxosRules) (config : Counts) (cells : List (CellState D)) (at : ℕ) (kinds : List MsgKind) (sent top : ℕ) → config ≡ wire.rules.config → AreHeld wire wire.rules.config cells at
-    → kinds ≡ map kind_of (messages_in (seen_by (slice_get cells at))) → sent ≡ top_of_messages (messages (entries_in (seen_by (slice_get cells at)))) → top ≡ top_count wire.rules.config (entries_in (seen_by (slice_get cells at)))
+    → kinds ≡ map kind_of (messages_in (seen_by (slice_get cells at))) → sent ≡ top_of_messages (messages (newest_first (seen_by (slice_get cells at)))) → top ≡ top_count wire.rules.config (newest_first (seen_by (slice_get cells at)))
     → IsKept wire config cells at kinds sent top
 kept_again wire config cells at kinds sent top is held k s t = record {
   held = subst (λ c. AreHeld wire c cells at) (sym is) held;
   kinds_are = k;
   sent_is = s;
-  top_is = t ∙ ap (λ c. top_count c (entries_in (seen_by (slice_get cells at)))) (sym is);
+  top_is = t ∙ ap (λ c. top_count c (newest_first (seen_by (slice_get cells at)))) (sym is);
 }
 
 -- nothing but passes changes

@@ -12,11 +12,11 @@ use Rattle.gp_msg.specs.Messages.{message_of, entry_of}
 use Rattle.gp_run.specs.Messages.{messages}
 use Rattle.gp_msg.specs.Nodes.{is_present, node_of}
 use Rattle.gp_run.specs.Legal.{fits}
-use Rattle.gp_run.specs.Runs.{entries_in, entry_after}
+use Rattle.gp_run.specs.Runs.{newest_first, entry_after}
 use Rattle.gp_run.proofs.Choices.{right_true}
 use Rattle.gp_run.proofs.Telling.{messages-entries}
 use Rattle.gp_wire.specs.Known.{WireState, records}
-use Rattle.gp_wire.specs.Messages.{messages_in}
+use Rattle.gp_msg.specs.Records.{messages_in}
 use Rattle.gp_work.specs.declared.moves.Move.{Move}
 use Rattle.gp_work.specs.declared.moves.Move.TheVariants.{Offer, Begin, Take}
 use Rattle.gp_work.specs.declared.faults.StepFault.{StepFault}
@@ -50,17 +50,17 @@ node_of_move config (node.Learner l) (Begin r) f = absurd f
 node_of_move config (node.Learner l) (Take k) f = refl
 
 -- a message that an event takes was sent
-not_beyond : (config : Counts) (n : Node) (rs : List Record) (mv : Move) → fits config (entries_in rs) (event_of n mv) ≡ true → IsBeyond (length (messages_in rs)) mv → ⊥
+not_beyond : (config : Counts) (n : Node) (rs : List Record) (mv : Move) → fits config (newest_first rs) (event_of n mv) ≡ true → IsBeyond (length (messages_in rs)) mv → ⊥
 not_beyond config n rs (Offer d) f b = b
 not_beyond config n rs (Begin r) f b = b
 not_beyond config n rs (Take k) f b =
-    let l : k < length (messages (entries_in rs)) = ltb-true k (length (messages (entries_in rs))) (right_true (is_present config n) (nat_lt k (length (messages (entries_in rs)))) f) in
+    let l : k < length (messages (newest_first rs)) = ltb-true k (length (messages (newest_first rs))) (right_true (is_present config n) (nat_lt k (length (messages (newest_first rs)))) f) in
     let s = ap length (messages-entries rs) in let m = length-map (messages_in rs) message_of in omega (arith, l, b)
 
 module _ {D : Type 0} (faults : D → ℕ) (wire : WireState PaxosRules) (old mid new : List (CellState D)) (holder at : ℕ) (mv : Move) (h : AreHeld wire wire.rules.config mid at)
     (whole : records h.lead.pass ≡ seen_by (slice_get old holder)) (same : AreSameBut old mid) (before : CellState D) (before_is : slice_get old at ≡ Some before)
     (after : CellState D) (here : slice_get new at ≡ Some after) (others : (i : ℕ) → i ≢ at → slice_get new i ≡ slice_get mid i) (long : length new ≡ length old)
-    (fit : Fits wire.rules.config h.lead.node mv) (fits_now : fits wire.rules.config (entries_in (seen_by (slice_get old holder))) (event_of before.node mv) ≡ true)
+    (fit : Fits wire.rules.config h.lead.node mv) (fits_now : fits wire.rules.config (newest_first (seen_by (slice_get old holder))) (event_of before.node mv) ≡ true)
     (config_is : after.config ≡ h.lead.config) (node_is : after.node ≡ h.lead.node) (g : GoesOn h.lead.pass after.pass) (limit_is : limit_of after.log ≡ limit_of h.lead.log) where
   list : List Record
   list = seen_by (slice_get old holder)
@@ -96,12 +96,12 @@ module _ {D : Type 0} (faults : D → ℕ) (wire : WireState PaxosRules) (old mi
     length_is = long;
     others = rest_others;
     entry = entry_more wire.rules.config h.lead.node h.lead.pass after.pass (event_of h.lead.node mv) one l h.legal
-        ∙ (λ i. entry_after wire.rules.config (entries_in (whole i)) (event_of (lead_node i) mv) ∷ entries_in (whole i));
+        ∙ (λ i. entry_after wire.rules.config (newest_first (whole i)) (event_of (lead_node i) mv) ∷ newest_first (whole i));
     posted = record {
       item = one.item;
       list_is = one_more wire.rules.config h.lead.node h.lead.pass after.pass (event_of h.lead.node mv) one l ∙ ap (λ rs. rs ++ one.item ∷ []) whole;
       node_is = item_node wire.rules.config h.lead.node h.lead.pass after.pass (event_of h.lead.node mv) one l (node_of_move wire.rules.config h.lead.node mv fit) ∙ sym node_is;
-      lawful = subst (λ rs. IsLawful wire.rules.config (entries_in rs) (entry_of one.item)) whole (lawful_now wire.rules.config h.lead.node h.lead.pass after.pass (event_of h.lead.node mv) one l);
+      lawful = subst (λ rs. IsLawful wire.rules.config (newest_first rs) (entry_of one.item)) whole (lawful_now wire.rules.config h.lead.node h.lead.pass after.pass (event_of h.lead.node mv) one l);
     };
     count = count;
     up = up;
@@ -139,7 +139,7 @@ module _ {D : Type 0} (faults : D → ℕ) (wire : WireState PaxosRules) (old mi
       still = nothing_more h.lead.pass after.pass g l
 
       cause : (f : StepFault) → StepCause h.lead after mv f → PlayCause after mv f
-      cause Waiting w = not_beyond wire.rules.config before.node (records after.pass) mv (subst (λ rs. fits wire.rules.config (entries_in rs) (event_of before.node mv) ≡ true) (sym (still ∙ whole)) fits_now) w.0
+      cause Waiting w = not_beyond wire.rules.config before.node (records after.pass) mv (subst (λ rs. fits wire.rules.config (newest_first rs) (event_of before.node mv) ≡ true) (sym (still ∙ whole)) fits_now) w.0
       cause NoMemory w = tt
       cause Disk w = tt
       cause (Full size need) w = w.1

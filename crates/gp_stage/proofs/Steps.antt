@@ -9,12 +9,12 @@ use Rattle.gp_msg.specs.declared.event.Event.{Event}
 use Rattle.gp_msg.specs.declared.record.Record.{Record}
 use Rattle.gp_msg.specs.Reads.{kind_of}
 use Rattle.gp_run.specs.Messages.{messages}
-use Rattle.gp_run.specs.Runs.{entries_in, entry_after}
+use Rattle.gp_run.specs.Runs.{newest_first, entry_after}
 use Rattle.gp_run.specs.TopCount.{top_count, top_of_messages}
 use Rattle.gp_driver.specs.Stages.{AllBut, HasCause, NodesGo, FailsByNode}
 use Rattle.gp_driver.specs.declared.stage.StageFault.{StageFault}
 use Rattle.gp_wire.specs.Known.{WireState}
-use Rattle.gp_wire.specs.Messages.{messages_in}
+use Rattle.gp_msg.specs.Records.{messages_in}
 use Rattle.gp_work.specs.declared.moves.Move.{Move}
 use Rattle.gp_work.specs.declared.faults.StepFault.{StepFault}
 use Rattle.gp_work.specs.declared.faults.StepFault.TheVariants.{Full}
@@ -69,7 +69,7 @@ module _ {D : Type 0} (faults : D → ℕ) (wire : WireState PaxosRules) (config
       kept_back = lent_back kept last len (let s = same_length again kept same in let b = ap length back in let l = p.length_is in omega (arith, s, b, l, long))
 
       pub told_kept : (kinds : List MsgKind) (sent top : ℕ) → config ≡ wire.rules.config → AreHeld wire wire.rules.config kept at → kinds ≡ map kind_of (messages_in (seen_by (slice_get kept at)))
-          → sent ≡ top_of_messages (messages (entries_in (seen_by (slice_get kept at)))) → top ≡ top_count wire.rules.config (entries_in (seen_by (slice_get kept at))) → IsKept wire config (take len (kept ++ last)) at kinds sent top
+          → sent ≡ top_of_messages (messages (newest_first (seen_by (slice_get kept at)))) → top ≡ top_count wire.rules.config (newest_first (seen_by (slice_get kept at))) → IsKept wire config (take len (kept ++ last)) at kinds sent top
       told_kept kinds sent top is held k s t = subst (λ l. IsKept wire config l at kinds sent top) (sym kept_back) (kept_again wire config kept at kinds sent top is held k s t)
 
       pub told_up : AreUp items → AreUp (take len (kept ++ last))
@@ -85,9 +85,9 @@ module _ {D : Type 0} (faults : D → ℕ) (wire : WireState PaxosRules) (config
         list_now = ap (λ l. seen_by (slice_get l at)) kept_back ∙ list ∙ ap (λ l. seen_by (slice_get l at)) back
 
         pub told_entry : (event : Event) (x : CellState D) → slice_get items at ≡ Some x → event_of x.node mv ≡ event → config ≡ wire.rules.config
-            → entries_in (seen_by (slice_get (take len (kept ++ last)) at)) ≡ entry_after config (entries_in (seen_by (slice_get items holder))) event ∷ entries_in (seen_by (slice_get items holder))
-        told_entry event x x_is e is = ap entries_in list_now ∙ list_posted faults wire items played holder at mv n p event (event_before (Ok n) p event x x_is e)
-            ∙ ap (λ k. entry_after k (entries_in (seen_by (slice_get items holder))) event ∷ entries_in (seen_by (slice_get items holder))) (sym is)
+            → newest_first (seen_by (slice_get (take len (kept ++ last)) at)) ≡ entry_after config (newest_first (seen_by (slice_get items holder))) event ∷ newest_first (seen_by (slice_get items holder))
+        told_entry event x x_is e is = ap newest_first list_now ∙ list_posted faults wire items played holder at mv n p event (event_before (Ok n) p event x x_is e)
+            ∙ ap (λ k. entry_after k (newest_first (seen_by (slice_get items holder))) event ∷ newest_first (seen_by (slice_get items holder))) (sym is)
 
         -- the other nodes have the events that they had
         pub told_nodes : (x : CellState D) → slice_get items at ≡ Some x → (node : Node) → x.node ≡ node
@@ -97,8 +97,8 @@ module _ {D : Type 0} (faults : D → ℕ) (wire : WireState PaxosRules) (config
             (subst (NodesGo (AllBut node) (map (stage_node faults (seen_by (slice_get items holder))) items)) (sym (nodes_same faults (seen_by (slice_get played at)) again kept same ∙ ap (map (stage_node faults (seen_by (slice_get played at)))) back))
             (posted_goes faults wire items played holder at mv n p node (ap (λ (c : CellState D). c.node) (same_at items at p.before x p.before_is x_is) ∙ is)))
 
-        pub told_count : n ≡ length (messages (entries_in (seen_by (slice_get (take len (kept ++ last)) at))))
-        told_count = count_posted faults wire items played holder at mv n p ∙ ap (λ rs. length (messages (entries_in rs))) (sym list_now)
+        pub told_count : n ≡ length (messages (newest_first (seen_by (slice_get (take len (kept ++ last)) at))))
+        told_count = count_posted faults wire items played holder at mv n p ∙ ap (λ rs. length (messages (newest_first rs))) (sym list_now)
 
   -- ---- a step that was refused
 

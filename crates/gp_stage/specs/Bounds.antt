@@ -8,7 +8,7 @@ use Rattle.gp_run.specs.Legal.{Legal}
 use Rattle.gp_run.specs.TopCount.{top_count}
 use Rattle.gp_driver.specs.Settling.{checkpoints, settle}
 
--- the run is legal, and what settling asks of its rounds and its length holds
+-- the run is legal, and its rounds and its length are within the bounds that settling requires
 pub record CanSettle (config : Counts) (es : List Entry) : Type 0 where
   pub range : AreInRange config.acceptors config.coordinators config.learners
   pub legal : Legal config es

@@ -1,4 +1,4 @@
--- A code of cells of which the pass of one holds all nodes.
+-- A code of cells, one of whose passes holds all nodes.
 use Rattle.std.specs.Prelude.{ℕ, List, refl}
 use Rattle.std.specs.Coded.{Coded, code_by, coded×, coded_ℕ, coded_list}
 use Rattle.atomic_table.specs.Seated.{TableId, table_id_coded}

@@ -1,5 +1,5 @@
--- Cells of which the first meets one after another.
-use Rattle.std.specs.Prelude.{◌≡◌, ◌≢◌, ◌<◌, ◌≤◌, ℕ, List, [], ◌++◌, map, slice_get, Option, Some}
+-- The first of some cells meets the others, one after another.
+use Rattle.std.specs.Prelude.{◌≡◌, ◌≢◌, ◌<◌, ◌≤◌, ℕ, List, map, slice_get, Option, Some}
 use Rattle.gp_round.specs.Counts.{Counts}
 use Rattle.gp_msg.specs.declared.node.Node.{Node}
 use Rattle.gp_msg.specs.declared.record.Record.{Record}
@@ -10,7 +10,7 @@ use Rattle.gp_wire.specs.Lists.{Has}
 use Rattle.gp_wire.specs.Rule.{Begins}
 use Rattle.gp_wire.specs.Known.{WireState, PassState, records, old_of}
 use Rattle.gp_wire.specs.Passes.{met, spent}
-use Rattle.gp_rules.specs.Own.{own}
+use Rattle.gp_rules.specs.Own.{own, IsBehind}
 use Rattle.gp_rules.specs.declared.rules.PaxosRules.{PaxosRules}
 use Rattle.gp_cell.specs.Cells.{CellState, OwnLawful}
 use Rattle.gp_stage.specs.Held.{with_pass}
@@ -27,38 +27,32 @@ pub record HasMet {D : Type 0} (old new : List (CellState D)) (at other : ℕ) :
   pub first : Begins (met one.pass two.pass).seen (old_of one.pass)
   pub second : Begins (met one.pass two.pass).seen (old_of two.pass)
 
--- the cell is at this wire
+-- the cell belongs to this wire
 pub record IsPlaced {D : Type 0} (wire : WireState PaxosRules) (c : CellState D) : Type 0 where
   pub own : c.pass.wire ≡ wire.id
   pub all : c.pass.all ≡ wire.nodes
   pub config : c.config ≡ wire.rules.config
   pub node : c.pass.node ≡ c.node
 
--- a list begins with another one, and what follows is not of the node
-pub record IsBehind (n : Node) (start list : List Record) : Type 0 where
-  pub more : List Record
-  pub split : list ≡ start ++ more
-  pub others : own n more ≡ []
-
--- the pass of the first cell holds the node of this one, and its list begins with what this one has seen; each record of the node was lawful
+-- the pass of the first cell holds the node of this one; its list begins with what this one has seen, with no more records of the node; each record of the node was lawful
 pub record IsGathered {D : Type 0} (config : Counts) (first c : CellState D) : Type 0 where
   pub holds : Has c.node first.pass.holds
   pub behind : IsBehind c.node (records c.pass) (records first.pass)
   pub lawful : OwnLawful config c.node (records first.pass)
 
--- all of a cell but its pass
+-- everything in a cell except its pass
 abbrev pub rest_of : {D : Type 0} → CellState D → Counts × Node × Core × Option (LogState D) × Option Move
 rest_of c = (c.config, c.node, c.core, c.log, c.down)
 
--- nothing of the cells but their passes has changed
+-- nothing in the cells has changed except their passes
 abbrev pub AreSameBut : {D : Type 0} → List (CellState D) → List (CellState D) → Type 0
 AreSameBut old new = map rest_of new ≡ map rest_of old
 
--- the same pass, which has perhaps had more turns
+-- the same pass, perhaps after more turns
 abbrev pub HasLooked : PassState → PassState → Type 0
 HasLooked p q = q ≡ record { node = p.node; wire = p.wire; all = p.all; holds = p.holds; seen = p.seen; turn = q.turn }
 
--- a list begins with what each of the cells has seen, and what follows is not of the cell's node
+-- for each of the cells, the list begins with what the cell has seen, and what follows is not of the cell's node
 abbrev pub AreBehind : {D : Type 0} → List (CellState D) → List Record → Type 0
 AreBehind {D} cells list = (i : ℕ) (c : CellState D) → slice_get cells i ≡ Some c → IsBehind c.node (records c.pass) list
 

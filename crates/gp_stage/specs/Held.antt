@@ -1,4 +1,4 @@
--- The cells of a wire where the pass of one of them holds all nodes.
+-- The cells of a wire, one of whose passes holds all nodes.
 use Rattle.std.specs.Prelude.{◌≡◌, ◌-◌, ◌+◌, ◌^◌, ℕ, true, if◌then◌else◌, nat_lt, List, [], ◌∷◌, map, slice_get, Option, Some, None}
 use Rattle.atomic_table.specs.Seated.{TableId}
 use Rattle.gp_round.specs.Counts.{Counts}
@@ -6,7 +6,7 @@ use Rattle.gp_msg.specs.declared.node.Node.{Node}
 use Rattle.gp_msg.specs.declared.event.Event.{Event}
 use Rattle.gp_msg.specs.declared.record.Record.{Record}
 use Rattle.gp_msg.specs.Nodes.{is_present}
-use Rattle.gp_run.specs.Runs.{entries_in}
+use Rattle.gp_run.specs.Runs.{newest_first}
 use Rattle.gp_wire.specs.Lists.{Has}
 use Rattle.gp_wire.specs.Known.{WireState, PassState, records}
 use Rattle.gp_rules.specs.Own.{own_events}
@@ -42,7 +42,7 @@ with_pass c p = cell_of c.config c.node c.core c.log p c.down
 abbrev pub AreUp : {D : Type 0} → List (CellState D) → Type 0
 AreUp {D} cells = (i : ℕ) (c : CellState D) → slice_get cells i ≡ Some c → c.down ≡ None
 
--- each cell is at this wire, and is up
+-- each cell belongs to this wire and is up
 abbrev pub AreReady : {D : Type 0} → WireState PaxosRules → List (CellState D) → Type 0
 AreReady {D} wire cells = (i : ℕ) (c : CellState D) → slice_get cells i ≡ Some c → IsAt c wire × (c.down ≡ None)
 
@@ -60,7 +60,7 @@ pub record AreCellsOf {D : Type 0} (nodes : List Node) (cells : List (CellState 
   pub known : (i : ℕ) (c : CellState D) → slice_get cells i ≡ Some c → Has c.node nodes
   pub single : (i j : ℕ) (c d : CellState D) → slice_get cells i ≡ Some c → slice_get cells j ≡ Some d → c.node ≡ d.node → i ≡ j
 
--- how often the disks of the cells failed
+-- how often the disks of the cells failed in total
 abbrev pub disk_faults : {D : Type 0} → (D → ℕ) → List (CellState D) → ℕ
 disk_faults faults [] = 0
 disk_faults faults (c ∷ cs) = faults_of faults c.log + disk_faults faults cs
@@ -69,11 +69,11 @@ disk_faults faults (c ∷ cs) = faults_of faults c.log + disk_faults faults cs
 abbrev pub stage_node : {D : Type 0} → (D → ℕ) → List Record → CellState D → StageNode
 stage_node faults list c = record { node = c.node; faults = faults_of faults c.log; limit = limit_of c.log; events = own_events c.node list }
 
--- a count that stays at its last value
+-- a count that ends at 2^64 - 1
 abbrev pub capped : ℕ → ℕ
 capped n = if nat_lt n (2 ^ 64 - 1) then n else 2 ^ 64 - 1
 
--- at one of the cells, once its pass has seen the whole list, these numbers are too great for the event
+-- at one of the cells, with a pass that has seen the whole list, these numbers are too great for the event
 pub record IsTooGreatIn {D : Type 0} (h : HeldCells D) (event : Event) (size need : ℕ) : Type 0 where
   pub place : ℕ
   pub cell : CellState D
@@ -82,11 +82,11 @@ pub record IsTooGreatIn {D : Type 0} (h : HeldCells D) (event : Event) (size nee
   pub whole : records pass ≡ whole_list h
   pub great : IsTooGreat (with_pass cell pass) event size need
 
--- the cells as a stage: each cell is one of its nodes, in their order, it is ready if all cells are up, and it counts how often a disk failed or a log was full
+-- the cells as a stage: its nodes are those of the cells, in their order; it is ready if all cells are up; it counts how often a disk failed or a log was full
 abbrev pub stage_of : {D : Type 0} → (D → ℕ) → HeldCells D → StageState
 stage_of faults h = record {
   config = h.config;
-  run = entries_in (whole_list h);
+  run = newest_first (whole_list h);
   nodes = map (stage_node faults (whole_list h)) h.cells;
   faults = capped (disk_faults faults h.cells + h.fulls);
   is_ready = AreUp h.cells;

@@ -3,17 +3,17 @@ use Rattle.std.specs.Prelude.{◌≡◌, ℕ, max, List, [], ◌∷◌, slice_ge
 use Rattle.gp_msg.specs.declared.node.Node.{Node}
 use Rattle.gp_msg.specs.declared.node.Node.TheVariants.{Proposer, Coordinator, Acceptor, Learner}
 use Rattle.gp_msg.specs.Messages.{Part, Acceptors, Coordinators, EpochPart}
-use Rattle.gp_run.specs.Runs.{entries_in}
+use Rattle.gp_run.specs.Runs.{newest_first}
 use Rattle.gp_wire.specs.Known.{records}
 use Rattle.gp_rules.specs.Cores.{core_at, part_in}
 use Rattle.gp_cell.specs.Cells.{CellState}
 
--- the greatest count of a round in a durable part, but for its vote
+-- the greatest count of the rounds in a durable part
 abbrev pub top_of_part : Part → ℕ
 top_of_part (Acceptors r q v) = max r.count q.count
 top_of_part (Coordinators r) = r.count
 
--- and 0 if there is no part
+-- the same, and 0 if there is no part
 abbrev pub top_in : Option EpochPart → ℕ
 top_in None = 0
 top_in (Some p) = top_of_part p.part
@@ -30,6 +30,6 @@ abbrev pub top_of_cells : {D : Type 0} → List (CellState D) → ℕ
 top_of_cells [] = 0
 top_of_cells (c ∷ cs) = max (coordinator_top c.node (top_in (part_in c.core))) (top_of_cells cs)
 
--- the state of each cell is that which its node's own records make
+-- the state of each cell is the one that its node's own records make
 abbrev pub AreTrue : {D : Type 0} → List (CellState D) → Type 0
-AreTrue {D} cells = (i : ℕ) (c : CellState D) → slice_get cells i ≡ Some c → c.core ≡ core_at c.config c.node (entries_in (records c.pass))
+AreTrue {D} cells = (i : ℕ) (c : CellState D) → slice_get cells i ≡ Some c → c.core ≡ core_at c.config c.node (newest_first (records c.pass))

@@ -2,7 +2,7 @@
 ghost use Rattle.std.specs.Prelude.{◌≡◌, List, map, IfOk, IfErr};
 ghost use Rattle.gp_msg.specs.declared.record.Record.{Record};
 ghost use Rattle.gp_run.specs.Legal.{Legal};
-ghost use Rattle.gp_run.specs.Runs.{entries_in};
+ghost use Rattle.gp_run.specs.Runs.{newest_first};
 ghost use Rattle.gp_wire.specs.Ends.{Closed};
 ghost use Rattle.gp_rules.specs.Lawful.{paxos_legal};
 ghost use Rattle.gp_cell.specs.Cells.{pass_of};
@@ -24,11 +24,13 @@ use std::alloc::Global;
 use std::marker::Model;
 use std::sync::Wait;
 
-/// A wire and its cells as a stage. The pass of one of them holds all nodes, so its list is the whole list of the wire, and
-/// no step waits for a message. Before a step the cell that makes it takes over all nodes.
+/// A wire and its cells as a stage. The pass of one cell holds all nodes. So its list is the whole
+/// list of the wire, and no step waits for a message. Before a step, the cell that makes it takes
+/// over all nodes.
 ///
-/// The stage is ready while all its cells are up. A step that fails by its disk or at a full log leaves its cell down.
-/// A contract sees the configuration, the wire with its nodes, the cells, and how often a log was full.
+/// The stage is ready if all its cells are up. A step that fails may leave its cell down. A
+/// contract sees the configuration, the wire with its nodes, the cells, and how often a log was
+/// full.
 #[derive(Drop)]
 pub struct CellStage<'a, D: Disk, G: Gate> {
     pub(crate) wire: Wire<PaxosRules>,
@@ -58,7 +60,8 @@ impl<'a, D: Disk, G: Gate> Model for CellStage<'a, D, G> {
     ghost invariant = { λ s. IsKept s.wire s.config s.cells.items s.holder s.kinds.items s.sent_top s.top };
 }
 
-/// Memory ran out, and no stage was made. The wire and the cells come back; their passes may have met.
+/// Memory ran out, and no stage was made. The wire and the cells are returned. The passes of the
+/// cells may already have met.
 #[derive(Drop)]
 pub struct Unstaged<D: Disk> {
     pub wire: Wire<PaxosRules>,
@@ -66,9 +69,13 @@ pub struct Unstaged<D: Disk> {
 }
 
 impl<'a, D: Disk, G: Gate> CellStage<'a, D, G> {
-    /// The stage over the cells of all nodes of a wire, which are those of the configuration. The first cell meets all others
-    /// and looks at every message once. The list of the wire is then a legal run, which begins with what each cell had seen, and
-    /// what follows is of other nodes.
+    /// Makes a stage of the cells of all nodes of a wire, which are the nodes of the configuration.
+    /// The first cell meets all others and looks at the messages. The list of the wire is then a
+    /// legal run. For each cell, it begins with what that cell had seen, and what follows is of
+    /// other nodes.
+    ///
+    /// If memory runs out, the wire is returned unchanged. The cells are returned too, and only
+    /// their passes may have changed.
     pub fn new<W: Wait>(
         alloc: Global,
         rt: &W,
@@ -85,7 +92,7 @@ impl<'a, D: Disk, G: Gate> CellStage<'a, D, G> {
             × (s.nodes ≡ wire.nodes) × (s.fulls ≡ 0)) }
         ensures cells { IfOk result (λ s. AreSameBut cells.items s.cells) }
         ensures up { IfOk result (λ s. AreUp s.cells) }
-        ensures legal { IfOk result (λ s. Legal config (entries_in (whole_list s))) }
+        ensures legal { IfOk result (λ s. Legal config (newest_first (whole_list s))) }
         ensures lists { IfOk result (λ s. AreBehind cells.items (whole_list s)) }
         ensures back { IfErr result (λ u. (u.wire ≡ wire)
             × AreSameBut cells.items u.cells.items × AreAllCells wire u.cells.items) }
@@ -112,8 +119,8 @@ impl<'a, D: Disk, G: Gate> CellStage<'a, D, G> {
         })
     }
 
-    /// The wire and the cells, in their order. They can end the wire, and the list that this gives is the run of the stage. It
-    /// takes no memory.
+    /// The wire and the cells, in their order. If the passes of these cells close the wire, the
+    /// list that this gives is the run of the stage.
     pub fn into_parts(self) -> (Wire<PaxosRules>, Vec<Cell<D>>)
         ensures wire { (result.0.id ≡ self.entry.wire) × (result.0.nodes ≡ self.entry.nodes)
             × (result.0.rules.config ≡ self.entry.config) }

@@ -11,7 +11,7 @@ use gp_edge::Disk;
 use gp_msg::{Event, Node};
 use gp_work::{Move, Process};
 
-/// The node of an event that is no fall, and the move that it makes.
+/// The node of an event that is not a crash, and the move that the node makes.
 pub(crate) fn move_of(event: Event) -> (Node, Move)
     requires { is_fall event ≡ false }
     ensures event { event_of result.0 result.1 ≡ event }

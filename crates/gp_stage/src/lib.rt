@@ -1,4 +1,4 @@
-//! The cells of a wire as a stage, so that a driver can settle what their threads left.
+//! The cells of a wire as a stage, so that a driver can settle the run that their threads made.
 #![tactic(auto)]
 
 mod cells;

@@ -4,7 +4,7 @@ ghost use Rattle.gp_msg.specs.Messages.{message_of};
 ghost use Rattle.gp_msg.specs.Reads.{kind_of};
 ghost use Rattle.gp_run.specs.TopCount.{top_of_messages};
 ghost use Rattle.gp_wire.specs.Lists.{Each, Has};
-ghost use Rattle.gp_wire.specs.Messages.{messages_in};
+ghost use Rattle.gp_msg.specs.Records.{messages_in};
 ghost use Rattle.gp_wire.specs.Known.{records, HoldsAll};
 ghost use Rattle.gp_cell.specs.Cells.{IsSameBut};
 ghost use Rattle.gp_stage.specs.Gathered.{HasLooked};
@@ -19,7 +19,7 @@ use gp_wire::Wire;
 use std::alloc::Global;
 use std::sync::Wait;
 
-/// What the messages of a list are.
+/// The kinds of the messages of a list, and the greatest count of a round in them.
 #[derive(Drop)]
 pub(crate) struct Seen {
     /// Their kinds, in their order.
@@ -28,7 +28,8 @@ pub(crate) struct Seen {
     pub top: u32,
 }
 
-/// Looks at every message, once, by a cell whose pass holds all nodes.
+/// A cell whose pass holds all nodes looks at every message. Only its pass changes. If memory runs
+/// out, some of the messages may not have been looked at.
 pub(crate) fn look_at_all<D: Disk, W: Wait>(
     alloc: Global,
     rt: &W,

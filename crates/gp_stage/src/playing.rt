@@ -2,9 +2,9 @@
 ghost use Rattle.std.specs.Prelude.{◌≡◌, ◌<◌, ◌^◌, length, map, slice_get, vec_len, vec_capacity};
 ghost use Rattle.gp_msg.specs.Reads.{kind_of};
 ghost use Rattle.gp_run.specs.Messages.{messages};
-ghost use Rattle.gp_run.specs.Runs.{entries_in};
+ghost use Rattle.gp_run.specs.Runs.{newest_first};
 ghost use Rattle.gp_run.specs.TopCount.{top_count, top_of_messages};
-ghost use Rattle.gp_wire.specs.Messages.{messages_in};
+ghost use Rattle.gp_msg.specs.Records.{messages_in};
 ghost use Rattle.gp_stage.specs.Held.{AreUp, seen_by, stage_of};
 ghost use Rattle.gp_stage.specs.Gathered.{AreSameBut};
 ghost use Rattle.gp_stage.specs.Kept.{AreHeld};
@@ -56,7 +56,7 @@ fn play_at<D: Disk, W: Wait, G: Gate>(
     cells[at].step(rt, wire, mv, gate, 0)
 }
 
-// The fault of a stage.
+// The fault of a stage, given the fault of a cell's step.
 fn fault_of(fault: StepFault) -> StageFault
     ensures { result ≡ stage_fault fault }
 {
@@ -67,8 +67,9 @@ fn fault_of(fault: StepFault) -> StageFault
     }
 }
 
-// Keeps up what is known of the messages, of which a step of the cell at this place sent the last one or none: their kinds,
-// and the greatest count of a round in them. It answers that count, and the greatest one in a message or a node.
+// Brings what is known of the messages up to date after a step of the cell at this place, which
+// sent one message or none: their kinds, and the greatest count of a round in them. Returns that
+// count, and the greatest count in a message or a node.
 fn keep_up<D: Disk, W: Wait>(
     rt: &W,
     wire: &Wire<PaxosRules>,
@@ -86,8 +87,8 @@ fn keep_up<D: Disk, W: Wait>(
     ensures same { AreSameBut cells.old cells.new }
     ensures list { seen_by (slice_get cells.new at) ≡ seen_by (slice_get cells.old at) }
     ensures kinds { kinds.new.items ≡ map kind_of (messages_in (seen_by (slice_get cells.new at))) }
-    ensures sent { result.0 ≡ top_of_messages (messages (entries_in (seen_by (slice_get cells.new at)))) }
-    ensures top { result.1 ≡ top_count wire.now.rules.config (entries_in (seen_by (slice_get cells.new at))) }
+    ensures sent { result.0 ≡ top_of_messages (messages (newest_first (seen_by (slice_get cells.new at)))) }
+    ensures top { result.1 ≡ top_count wire.now.rules.config (newest_first (seen_by (slice_get cells.new at))) }
 {
     let mut sent = sent_top;
     if let Some(kind) = cells[at].kind_of(rt, wire, kinds.len() as u64) {
@@ -97,8 +98,10 @@ fn keep_up<D: Disk, W: Wait>(
     (sent, sent.max(top_of_cells(cells)))
 }
 
-/// It is ready while all its cells are up. Its count of faults is that of the disks and of the answers `Full`, and what is
-/// too great for an event are the numbers with which the step of that event's cell answers `Full`.
+/// The stage is ready if all its cells are up. It counts the faults of its disks and the results
+/// `Full` of its steps. Numbers are too great for an event if the log of its node has no room for
+/// the entry of the event: they are the size of a log without entries, and the bytes that the entry
+/// needs.
 impl<'a, D: Disk, G: Gate> Stage for CellStage<'a, D, G> {
     ghost state = { stage_of D.faults };
 
@@ -118,7 +121,7 @@ impl<'a, D: Disk, G: Gate> Stage for CellStage<'a, D, G> {
         self.kinds.get(k as usize).copied()
     }
 
-    // the memory for one more kind is taken first
+    // memory for one more kind is reserved first
     fn step<W: Wait>(&mut self, rt: &W, event: Event) -> Result<u64, StageFault> {
         if self.kinds.reserve(1).is_err() {
             drop(event);

@@ -1,6 +1,6 @@
 //! Settling the run of cells.
 ghost use Rattle.std.specs.Prelude.{IsTrue, OnOk};
-ghost use Rattle.gp_run.specs.Runs.{entries_in};
+ghost use Rattle.gp_run.specs.Runs.{newest_first};
 ghost use Rattle.gp_driver.specs.Settling.{settle};
 ghost use Rattle.gp_driver.specs.Stages.{HasDriven, IsProposer, NodesGo, FailsByNode};
 ghost use Rattle.gp_driver.specs.Settled.{Settles};
@@ -12,16 +12,18 @@ use gp_driver::{StageFault, settle};
 use gp_edge::{Disk, Gate};
 use std::sync::Wait;
 
-/// A run is settled if the greatest count of a round in it and the number of its messages are together at most this.
+/// `settle_cells` settles a run only if the greatest count of a round in it and the number of its
+/// messages add up to at most this.
 pub const MOST_ROUNDS: u64 = 999_999;
 
-/// A run is settled if the bound of the number of entries of the settled run is at most this.
+/// `settle_cells` settles a run only if its bound for the number of entries of the settled run is
+/// at most this.
 pub const MOST_ENTRIES: u64 = 2_147_483_648;
 
 impl<'a, D: Disk, G: Gate> CellStage<'a, D, G> {
-    // Whether the run is within the bounds of settling. It takes no memory.
+    // Whether the run is within the bounds of settling.
     fn can_settle(&self) -> bool
-        ensures { IsTrue result → CanSettle self.now.config (entries_in (whole_list self.now)) }
+        ensures { IsTrue result → CanSettle self.now.config (newest_first (whole_list self.now)) }
     {
         let _counts = (
             self.config.acceptors(),
@@ -37,24 +39,28 @@ impl<'a, D: Disk, G: Gate> CellStage<'a, D, G> {
     }
 }
 
-/// Settles the run of cells that are all up: every learner then holds every command that was offered. The answer is the
-/// number of events that this took, and the first fault of a step ends it.
+/// Settles the run of cells that are all up: every learner then holds every offered command.
+/// Returns the number of events that this took. The first fault of a step ends it.
 ///
-/// Out of memory is also the answer if the run has too many rounds and messages for `MOST_ROUNDS`, or if the settled run might
-/// be longer than `MOST_ENTRIES`.
+/// `NoMemory` is returned if memory runs out. It is also returned if the run has too many rounds
+/// and messages for `MOST_ROUNDS`, or if the settled run might be longer than `MOST_ENTRIES`.
 ///
-/// Whatever the answer is, the cells keep their order, the count of faults of each disk has not fallen, and no proposer has
-/// an event in it.
+/// `Disk` and `Full` are returned only if the stage's count of faults has risen or is 2^64 - 1.
+/// `Disk` is a fault of the disk of one of the cells. The numbers of `Full` are too great for an
+/// event, not a crash, that fits the run as it is then.
+///
+/// Whatever the result is, the cells keep their order, the count of faults of each disk does not
+/// decrease, and no proposer makes an event.
 pub fn settle_cells<D: Disk, G: Gate, W: Wait>(
     rt: &W,
     stage: &mut CellStage<'_, D, G>,
 ) -> Result<u64, StageFault>
     requires { AreUp stage.old.cells }
     ensures driven { HasDriven (stage_of D.faults stage.old) (stage_of D.faults stage.new)
-        (settle stage.old.config (entries_in (whole_list stage.old))) result }
+        (settle stage.old.config (newest_first (whole_list stage.old))) result }
     ensures nodes { NodesGo IsProposer (stage_of D.faults stage.old).nodes (stage_of D.faults stage.new).nodes }
     ensures failed { FailsByNode (stage_of D.faults stage.old).nodes (stage_of D.faults stage.new).nodes result }
-    ensures brings { OnOk result (Settles stage.old.config (entries_in (whole_list stage.old))) }
+    ensures brings { OnOk result (Settles stage.old.config (newest_first (whole_list stage.old))) }
 {
     if !stage.can_settle() {
         return Err(StageFault::NoMemory);

@@ -2,7 +2,7 @@
 ghost use Rattle.std.specs.Prelude.{◌≡◌, None};
 ghost use Rattle.gp_msg.specs.Messages.{message_of, part_of};
 ghost use Rattle.gp_run.specs.TopCount.{rounds_of, greatest_count};
-ghost use Rattle.gp_run.specs.Runs.{entries_in};
+ghost use Rattle.gp_run.specs.Runs.{newest_first};
 ghost use Rattle.gp_wire.specs.Known.{records};
 ghost use Rattle.gp_rules.specs.Cores.{core_at, part_in};
 ghost use Rattle.gp_stage.specs.Held.{AreUp};
@@ -25,7 +25,7 @@ pub(crate) fn top_of_message(m: &Msg) -> u32
     }
 }
 
-// The greatest count of a round in a durable part, but for its vote.
+// The greatest count of the rounds in a durable part.
 fn top_of_part(part: &Durable) -> u32
     ensures { result ≡ top_of_part (part_of part.now).part }
 {
@@ -35,10 +35,11 @@ fn top_of_part(part: &Durable) -> u32
     }
 }
 
-/// The greatest count of a round in the durable part of a cell that is up, but for its vote.
+/// The greatest count of the rounds in the durable part of a cell that is up, and 0 if it has no
+/// such part.
 pub(crate) fn top_of_cell<D: Disk>(cell: &Cell<D>) -> u32
     ensures top { cell.now.down ≡ None → result ≡ top_in (part_in cell.now.core) }
-    ensures core { cell.now.core ≡ core_at cell.now.config cell.now.node (entries_in (records cell.now.pass)) }
+    ensures core { cell.now.core ≡ core_at cell.now.config cell.now.node (newest_first (records cell.now.pass)) }
 {
     let _down = cell.is_down();
     match cell.durable() {
@@ -50,7 +51,7 @@ pub(crate) fn top_of_cell<D: Disk>(cell: &Cell<D>) -> u32
 // The count of the round of a coordinator that is up, and 0 for any other node.
 fn top_of_coordinator<D: Disk>(cell: &Cell<D>) -> u32
     ensures top { cell.now.down ≡ None → result ≡ coordinator_top cell.now.node (top_in (part_in cell.now.core)) }
-    ensures core { cell.now.core ≡ core_at cell.now.config cell.now.node (entries_in (records cell.now.pass)) }
+    ensures core { cell.now.core ≡ core_at cell.now.config cell.now.node (newest_first (records cell.now.pass)) }
 {
     let top = top_of_cell(cell);
     match cell.node() {
@@ -59,7 +60,7 @@ fn top_of_coordinator<D: Disk>(cell: &Cell<D>) -> u32
     }
 }
 
-/// The greatest count of the rounds of coordinators among cells that are up.
+/// The greatest count of a coordinator's round among cells that are all up, and 0 if there is none.
 pub(crate) fn top_of_cells<D: Disk>(cells: &[Cell<D>]) -> u32
     ensures top { AreUp cells.now → result ≡ top_of_cells cells.now }
     ensures cores { AreTrue cells.now }

@@ -46,7 +46,8 @@ pub struct Scene {
     pub cells: Vec<Cell<MemDisk>>,
 }
 
-/// What is odd about the disks: the limit of the logs, and the node whose disk fails at one call.
+/// What is special about the disks: the limit of the logs, and the node whose disk fails at one
+/// call.
 #[derive(Clone, Copy)]
 pub struct Disks {
     pub limit: u32,

@@ -1,4 +1,4 @@
--- What an operation changes and reads: it reads one key, and changes one key at most.
+-- What an operation changes and reads: it reads one key, and changes at most one key.
 use Rattle.std.proofs.Common.{◌≡◌, ℕ, ◌+◌, ◌%◌, ◌^◌, Bool, true, false, cond, List, [], Option, Some, None, refl, sym, ap, ◌∙◌, arith}
 use Rattle.std.specs.Prelude.{unwrap_or}
 use Rattle.std.specs.FinMap.{insert, get-insert, get-remove, same_map, slice_cmp-IsAntisymmetric, nat_cmp-IsAntisymmetric}
@@ -15,7 +15,7 @@ use Rattle.gp_store.specs.declared.op.Op.TheVariants.{Put, Add, Get, Del, Cas, C
 use Rattle.gp_store.specs.Pairs.{Pairs, value_at, count_at}
 use Rattle.gp_store.specs.Effects.{effect, reply, is_value, put_found, shown, done_if_there}
 
--- pairs with one value at each key are equal
+-- pairs with the same value at each key are equal
 pub same_pairs : (a b : Pairs) → ((key : List ℕ) → value_at a key ≡ value_at b key) → a ≡ b
 same_pairs = same_map key_cmp_total (slice_cmp-IsAntisymmetric nat_cmp-IsAntisymmetric)
 
@@ -42,7 +42,7 @@ target (Cas key old new) = key
 target (Copy from into) = into
 target Checkpoint = []
 
--- what is at the target behind the operation, of what was at the source and at the target
+-- what is at the target after the operation, given what was at the source and at the target
 abbrev pub written : Op → Option ℕ → Option ℕ → Option ℕ
 written (Put key value) read kept = Some value
 written (Add key value) read kept = Some ((unwrap_or kept 0 + value) % 2 ^ 64)
@@ -52,7 +52,7 @@ written (Cas key old new) read kept = cond (is_value read old) (Some new) kept
 written (Copy from into) read kept = option_or read kept
 written Checkpoint read kept = kept
 
--- what it replies, of what was at the source
+-- what it replies, given what was at the source
 abbrev pub answered : Op → Option ℕ → Reply
 answered (Put key value) read = Done
 answered (Add key value) read = Done
@@ -82,7 +82,7 @@ turned a b e = (eq_by_cmp_equiv key_cmp_total).symm b a ∙ e
 put_value : (pairs : Pairs) (key : List ℕ) (value : ℕ) (q : List ℕ) → value_at (insert pairs key value) q ≡ cond (same_key q key) (Some value) (value_at pairs q)
 put_value pairs key value q = get-insert key_cmp_total pairs key value q
 
--- what is kept at an equal key is the same
+-- the value at an equal key is the same
 kept_value : (pairs : Pairs) (q key : List ℕ) (b : Bool) → same_key q key ≡ b → value_at pairs q ≡ cond b (value_at pairs key) (value_at pairs q)
 kept_value pairs q key true e = ap (value_at pairs) (tied_keys q key e)
 kept_value pairs q key false e = refl
@@ -95,7 +95,7 @@ copy_value : (pairs : Pairs) (into : List ℕ) (q : List ℕ) (read : Option ℕ
 copy_value pairs into q None = kept_value pairs q into (same_key q into) refl
 copy_value pairs into q (Some found) = put_value pairs into found q
 
--- what is at each key behind an operation
+-- what is at each key after an operation
 pub value_behind : (pairs : Pairs) (op : Op) (q : List ℕ) → value_at (effect pairs op) q ≡ cond (same_key q (target op)) (written op (value_at pairs (source op)) (value_at pairs (target op))) (value_at pairs q)
 value_behind pairs (Put key value) q = put_value pairs key value q
 value_behind pairs (Add key value) q = put_value pairs key ((count_at pairs key + value) % 2 ^ 64) q
@@ -109,7 +109,7 @@ value_behind pairs Checkpoint q = kept_value pairs q [] (same_key q []) refl
 pub untouched : (pairs : Pairs) (op : Op) (q : List ℕ) → same_key q (target op) ≡ false → value_at (effect pairs op) q ≡ value_at pairs q
 untouched pairs op q e = value_behind pairs op q ∙ ap (λ (b : Bool). cond b (written op (value_at pairs (source op)) (value_at pairs (target op))) (value_at pairs q)) e
 
--- and so a reply stays what it is where another key is changed
+-- so a reply stays the same if another key is changed
 pub reply_untouched : (pairs : Pairs) (a b : Op) → same_key (source b) (target a) ≡ false → reply (effect pairs a) b ≡ reply pairs b
 reply_untouched pairs a b e = reply_by_source (effect pairs a) b ∙ ap (answered b) (untouched pairs a (source b) e) ∙ sym (reply_by_source pairs b)
 

@@ -1,4 +1,4 @@
--- Operations whose footprints do not clash commute, and so do commands that do not conflict.
+-- Operations whose footprints do not conflict commute, and so do commands that do not conflict.
 use Rattle.std.proofs.Common.{◌≡◌, ◌≢◌, ℕ, Bool, true, false, not, ◌&&◌, ◌||◌, List, Option, Some, None, refl, sym, ap, ◌∙◌, arith}
 use Rattle.std.specs.Prelude.{Contains}
 use Rattle.std.specs.Cmp.{eq_by_cmp_equiv}
@@ -21,7 +21,7 @@ use Rattle.gp_store.specs.Effects.{effect, reply, effect_if_some, reply_if_some,
 use Rattle.gp_store.specs.DraftEquality.{op_drafted, copy_read, copy_written}
 use Rattle.gp_store.specs.Changes.{same_key, tied_keys, turned, source, target, reply_untouched, AreApart, apart_commute, sums_commute}
 
--- no touch of the first clashes with one of the second
+-- some touch of the first conflicts with one of the second
 abbrev pub do_clash : List Touch → List Touch → Bool
 do_clash first second = list_any (λ t. list_any (touches_clash t) second) first
 
@@ -37,7 +37,7 @@ first_fails : (a b : Bool) → (a && b) ≡ false → b ≡ true → a ≡ false
 first_fails false b e h = refl
 first_fails true b e h = absurd cc
 
--- touches of operations that do not clash are of two keys, if their accesses clash
+-- if operations do not conflict, touches of them whose accesses conflict are of different keys
 far : (first second : List Touch) (t u : Touch) → do_clash first second ≡ false → Contains first t → Contains second u → is_clash t.access u.access ≡ true → same_key t.key u.key ≡ false
 far first second t u apart here there clash =
     let row = fails (λ (t : Touch). list_any (touches_clash t) second) first t here apart in
@@ -45,7 +45,7 @@ far first second t u apart here there clash =
 
 -- ---- what operations touch
 
--- how it works on its target
+-- the access of an operation to its target
 abbrev pub access_of : Op → Access
 access_of (Put key value) = access.Write
 access_of (Add key value) = access.Add
@@ -73,7 +73,7 @@ differ a b e same =
     let equal : same_key a a ≡ true = (eq_by_cmp_equiv key_cmp_total).refl a in
     absurd (let e = sym equal ∙ ap (same_key a) same ∙ e in cc)
 
--- a copy that does not clash with an operation reads another key than that changes
+-- a copy that does not conflict with an operation reads another key than the operation changes
 copy_source_far : (from into : List ℕ) (b : Op) (s : Bool) → same_key from into ≡ s → changes b ≡ true → do_clash (op_foot (Copy from into)) (op_foot b) ≡ false → same_key into (target b) ≡ false → same_key from (target b) ≡ false
 copy_source_far from into b true e writes apart targets = ap (λ (k : List ℕ). same_key k (target b)) (tied_keys from into e) ∙ targets
 copy_source_far from into b false e writes apart targets =
@@ -104,7 +104,7 @@ still pairs (Cas key old new) e = absurd cc
 still pairs (Copy from into) e = absurd cc
 still pairs Checkpoint e = refl
 
--- what is only read is not changed by an operation that does not clash
+-- the reply of an operation that changes nothing is the same after an operation that does not conflict with it
 still_reply : (pairs : Pairs) (a b : Op) → changes a ≡ true → changes b ≡ false → do_clash (op_foot b) (op_foot a) ≡ false → reply (effect pairs a) b ≡ reply pairs b
 still_reply pairs a (Put key value) x y apart = absurd cc
 still_reply pairs a (Add key value) x y apart = absurd cc
@@ -144,7 +144,7 @@ swap_sums pairs k v j w true e = record {
   reply = refl;
 }
 
--- accesses of operations that change their targets clash, but for two sums
+-- accesses of operations that change their targets conflict, except those of two additions
 swap_no_clash : (pairs : Pairs) (a b : Op) → changes a ≡ true → changes b ≡ true → is_clash (access_of a) (access_of b) ≡ false → Swap pairs a b
 swap_no_clash pairs (Add k v) (Add j w) x y e = swap_sums pairs k v j w (same_key k j) refl
 swap_no_clash pairs a b x y e = absurd cc
@@ -156,7 +156,7 @@ swap_by pairs a b true true true ex ey ec apart back =
     swap_changes pairs a b ex ey apart back (far (op_foot a) (op_foot b) (touch (target a) (access_of a)) (touch (target b) (access_of b)) apart (target_touched a ex) (target_touched b ey) ec)
 swap_by pairs a b true true false ex ey ec apart back = swap_no_clash pairs a b ex ey ec
 
--- operations whose footprints do not clash commute
+-- operations whose footprints do not conflict commute
 pub operations_commute : (pairs : Pairs) (a b : Op) → do_clash (op_foot a) (op_foot b) ≡ false → do_clash (op_foot b) (op_foot a) ≡ false → Swap pairs a b
 operations_commute pairs a b apart back = swap_by pairs a b (changes a) (changes b) (is_clash (access_of a) (access_of b)) refl refl refl apart back
 
@@ -179,7 +179,7 @@ feet_apart c d a b ea eb apart none =
     let second = op_drafted d.draft b eb in
     sym (λ i. do_clash (first i).foot (second i).foot) ∙ no_clash c d apart none
 
--- as of operations, where there may be none
+-- the same for operations that may be missing
 swap_options : (pairs : Pairs) (a b : Option Op) → ((x y : Op) → a ≡ Some x → b ≡ Some y → Swap pairs x y) → (effect_if_some (effect_if_some pairs a) b ≡ effect_if_some (effect_if_some pairs b) a) × (reply_if_some (effect_if_some pairs a) b ≡ reply_if_some pairs b)
 swap_options pairs None None h = (refl, refl)
 swap_options pairs None (Some y) h = (refl, refl)

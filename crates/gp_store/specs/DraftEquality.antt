@@ -22,7 +22,7 @@ tied Equal e = refl
 tied Less e = absurd cc
 tied Greater e = absurd cc
 
--- a command of the draft
+-- a command with the draft
 abbrev command_with : DraftView → CommandView
 command_with draft = record { id = record { proposer = 0; number = 0 }; draft = draft }
 
@@ -36,14 +36,14 @@ if_same : (b : Bool) (op other : Op) → cond b (Some op) None ≡ Some other �
 if_same true op other e = (refl, cc)
 if_same false op other e = absurd cc
 
--- a draft's operation is spelled by its body, and has it as its draft
+-- if a draft has an operation, its body spells the operation, and it is the draft of the operation
 pub drafted : (d : DraftView) (o : Option Op) (op : Op) → if_drafted d o ≡ Some op → (o ≡ Some op) × (d ≡ draft_for op)
 drafted d None op e = absurd cc
 drafted d (Some x) op e =
     let found = if_same (same_draft d (draft_for x)) x op e in
     (ap (λ (x : Op). Some x) found.1, drafts_equal d (draft_for x) found.0 ∙ ap draft_for found.1)
 
--- a draft is that of its operation
+-- a draft that has an operation is the draft of the operation
 pub op_drafted : (d : DraftView) (op : Op) → op_of d ≡ Some op → d ≡ draft_for op
 unfolding op_of
 op_drafted d op e = (drafted d (op_spelled (tokens_of d.body)) op e).1

@@ -1,4 +1,4 @@
--- What an operation does to the store and what it replies, and the same of a command.
+-- What an operation does to the store and what it replies, and the same for a command.
 use Rattle.std.specs.Prelude.{ℕ, ◌+◌, ◌%◌, ◌^◌, ◌==◌, Bool, false, if◌then◌else◌, List, Option, Some, None}
 use Rattle.std.specs.FinMap.{empty, insert, remove}
 use Rattle.gp_command.specs.declared.command.Command.{Command}
@@ -15,12 +15,12 @@ abbrev pub is_value : Option ℕ → ℕ → Bool
 is_value None value = false
 is_value (Some found) value = found == value
 
--- with the value at the key, if there is a value
+-- the pairs with the value at the key, if there is a value
 abbrev pub put_found : Pairs → List ℕ → Option ℕ → Pairs
 put_found pairs key None = pairs
 put_found pairs key (Some found) = insert pairs key found
 
--- the pairs behind an operation
+-- the pairs after an operation
 abbrev pub effect : Pairs → Op → Pairs
 effect pairs (Put key value) = insert pairs key value
 effect pairs (Add key value) = insert pairs key ((count_at pairs key + value) % 2 ^ 64)
@@ -35,7 +35,7 @@ abbrev pub shown : Option ℕ → Reply
 shown None = Absent
 shown (Some found) = Value found
 
--- done where the key was there
+-- done if the key was there
 abbrev pub done_if_there : Option ℕ → Reply
 done_if_there None = Absent
 done_if_there (Some found) = Done
@@ -50,17 +50,17 @@ reply pairs (Cas key old new) = if is_value (value_at pairs key) old then Yes el
 reply pairs (Copy from into) = done_if_there (value_at pairs from)
 reply pairs Checkpoint = Done
 
--- an operation's effect; where there is none, nothing changes
+-- the effect of an operation; if there is none, nothing changes
 abbrev pub effect_if_some : Pairs → Option Op → Pairs
 effect_if_some pairs None = pairs
 effect_if_some pairs (Some op) = effect pairs op
 
--- an operation's reply; where there is none, as of an absent key
+-- the reply of an operation; if there is none, the reply of an absent key
 abbrev pub reply_if_some : Pairs → Option Op → Reply
 reply_if_some pairs None = Absent
 reply_if_some pairs (Some op) = reply pairs op
 
--- the pairs behind a command
+-- the pairs after a command
 abbrev pub after_command : Pairs → Command → Pairs
 after_command pairs command = effect_if_some pairs (op_of command.draft)
 

@@ -1,4 +1,4 @@
--- A form without where its tokens lie in memory.
+-- A form without the place of its tokens in memory.
 use Rattle.gp_store.specs.declared.form.OpForm as code
 use Rattle.gp_store.specs.declared.form.OpForm.TheVariants as form
 use Rattle.gp_store.specs.Forms.{OpForm, PutForm, AddForm, GetForm, DelForm, CasForm, CopyForm, CheckpointForm}

@@ -9,7 +9,7 @@ use Rattle.gp_store.specs.declared.op.Op.TheVariants.{Put, Add, Get, Del, Cas, C
 use Rattle.gp_store.specs.declared.form.OpFault.{OpFault}
 use Rattle.gp_store.specs.declared.form.OpFault.TheVariants.{BadKey, BadNumber}
 
--- an operation's name, and the tokens that stand for its keys and values
+-- an operation's name, and the tokens of its keys and values
 pub data OpForm : Type 0 where
   PutForm : List ℕ → List ℕ → OpForm
   AddForm : List ℕ → List ℕ → OpForm
@@ -52,7 +52,7 @@ op_form _ = None
 unfoldable pub key_of : List ℕ → Result (List ℕ) OpFault
 key_of token = if is_key token then Ok token else Err BadKey
 
--- a fault where there is no number
+-- a fault if there is no number
 abbrev pub number_or_fault : Option ℕ → Result ℕ OpFault
 number_or_fault (Some n) = Ok n
 number_or_fault None = Err BadNumber
@@ -61,7 +61,7 @@ number_or_fault None = Err BadNumber
 unfoldable pub value_of : List ℕ → Result ℕ OpFault
 value_of token = number_or_fault (number_of token)
 
--- the tokens from left to right, and the first fault decides
+-- the tokens are read from left to right, and the first fault is the result
 unfoldable pub op_of_form : OpForm → Result Op OpFault
 op_of_form (PutForm key value) = do
   k ← key_of key

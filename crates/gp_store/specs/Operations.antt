@@ -11,7 +11,7 @@ use Rattle.gp_words.specs.Spacing.{joined}
 use Rattle.gp_store.specs.declared.op.Op.{Op}
 use Rattle.gp_store.specs.declared.op.Op.TheVariants.{Put, Add, Get, Del, Cas, Copy, Checkpoint}
 
--- its keys are keys, and its values are below 2^64
+-- its keys are valid, and its values are below 2^64
 abbrev pub IsOp : Op → Type 0
 IsOp (Put key value) = IsTrue (is_key key) × (value < 2 ^ 64)
 IsOp (Add key value) = IsTrue (is_key key) × (value < 2 ^ 64)
@@ -35,16 +35,16 @@ op_words Checkpoint = codes "checkpoint" ∷ []
 abbrev pub op_text : Op → List ℕ
 op_text op = joined (op_words op)
 
--- it is ordered before or behind every other command
+-- it is ordered before or after every other command
 abbrev pub is_checkpoint : Op → Bool
 is_checkpoint Checkpoint = true
 is_checkpoint op = false
 
--- the key is worked on so
+-- the key with this access
 abbrev pub touch : List ℕ → Access → Touch
 touch key access = record { key = key; access = access }
 
--- the first key is read and the second written; one key alone is written
+-- the first key is read and the second one is written; if they are equal, the key is only written
 abbrev pub copy_foot : Ordering → List ℕ → List ℕ → List Touch
 copy_foot Less from into = touch from access.Read ∷ touch into access.Write ∷ []
 copy_foot Equal from into = touch into access.Write ∷ []

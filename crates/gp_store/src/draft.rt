@@ -14,8 +14,8 @@ use gp_command::{Draft, DraftRefused, NoMemory, Touch};
 use gp_words::split_token;
 use std::alloc::Global;
 
-/// The most tokens that an operation's spelling has.
-const MOST_TOKENS: usize = 4;
+/// The greatest number of tokens in an operation's spelling.
+pub const MOST_TOKENS: usize = 4;
 
 /// The draft of a command that does the operation.
 pub fn draft_of(alloc: Global, op: Op) -> Result<Draft, NoMemory>
@@ -30,7 +30,9 @@ pub fn draft_of(alloc: Global, op: Op) -> Result<Draft, NoMemory>
     }
 }
 
-fn checkpoint_draft(alloc: Global, text: &[u8]) -> Result<Draft, NoMemory>
+/// The draft of a checkpoint with this text, which is not too long for a body. `NoMemory` if memory
+/// runs out.
+pub fn checkpoint_draft(alloc: Global, text: &[u8]) -> Result<Draft, NoMemory>
     requires { long_body text.now ≡ None }
     ensures { IfOk result (λ draft. draft ≡ checkpoint_of text.now) }
 {
@@ -40,7 +42,9 @@ fn checkpoint_draft(alloc: Global, text: &[u8]) -> Result<Draft, NoMemory>
     }
 }
 
-fn touching_draft(alloc: Global, foot: &[Touch], text: &[u8]) -> Result<Draft, NoMemory>
+/// The draft with this footprint and this text, which `Draft::new` does not refuse. `NoMemory` if
+/// memory runs out.
+pub fn touching_draft(alloc: Global, foot: &[Touch], text: &[u8]) -> Result<Draft, NoMemory>
     requires { refusal foot.now text.now ≡ None }
     ensures { IfOk result (λ draft. draft ≡ touching foot.now text.now) }
 {
@@ -50,7 +54,7 @@ fn touching_draft(alloc: Global, foot: &[Touch], text: &[u8]) -> Result<Draft, N
     }
 }
 
-// The draft of an operation is refused for nothing else.
+// The draft is refused only if memory runs out.
 fn want_of_memory(refused: DraftRefused) -> NoMemory
     requires { refused ≡ DraftRefused.NoMemory }
 {
@@ -60,8 +64,8 @@ fn want_of_memory(refused: DraftRefused) -> NoMemory
     }
 }
 
-/// The operation whose draft it is: `None` exactly where it is the draft of no operation. It takes no
-/// memory.
+/// The operation whose draft this is, or `None` exactly if it is the draft of no operation. The
+/// call cannot run out of memory.
 pub fn op_of(draft: &Draft) -> Option<Op>
     ensures found { IfSome result (λ op. IsOp op × (draft.now ≡ draft_for op)) }
     ensures only { (op : Op) → IsOp op → draft.now ≡ draft_for op → result ≡ Some op }
@@ -98,8 +102,9 @@ fn spelled_op(text: &[u8]) -> Option<Op>
     op_of_form(form).ok()
 }
 
-// The tokens of a text, in the first places, where there are not too many for an operation.
-fn few_tokens(text: &[u8]) -> Option<([&[u8]; MOST_TOKENS], usize)>
+/// The tokens of a text in the first places, and how many there are, or `None` if there are more than four, which are too
+/// many for an operation.
+pub fn few_tokens(text: &[u8]) -> Option<([&[u8]; MOST_TOKENS], usize)>
     ensures { MatchOption result (4 < length (tokens_of text.now)) (λ found. (found.1 ≤ 4) × (texts (take found.1 found.0) ≡ tokens_of text.now)) }
 {
     let mut tokens = [text; MOST_TOKENS];

@@ -1,4 +1,4 @@
-//! Operations read from tokens.
+//! Reading operations from tokens.
 ghost use Rattle.std.specs.Prelude.{◌≡◌, option_map};
 ghost use Rattle.gp_words.specs.Tokens.{texts};
 ghost use Rattle.gp_store.specs.declared.form.OpFault.TheVariants.{BadKey};
@@ -9,7 +9,7 @@ use crate::op::Op;
 use gp_command::Key;
 use gp_words::number_of;
 
-/// An operation's name, and the tokens that stand for its keys and values.
+/// An operation's name, and the tokens of its keys and values.
 #[derive(Clone, Copy, Debug)]
 pub enum OpForm<'a> {
     /// `put K V`
@@ -31,9 +31,9 @@ pub enum OpForm<'a> {
 /// Why the tokens of a form spell no operation.
 #[derive(Clone, Copy, Debug, PartialEq, Eq)]
 pub enum OpFault {
-    /// A token that stands for a key is no key.
+    /// A token in the place of a key is not a key.
     BadKey,
-    /// A token that stands for a value is no number below 2^64, or not in its one spelling.
+    /// A token in the place of a value is not a number below 2^64, or not in its one spelling.
     BadNumber,
 }
 
@@ -45,8 +45,7 @@ impl From<gp_command::BadKey> for OpFault {
     }
 }
 
-/// The form that has this name and this number of tokens: `None` where there is none. It takes no
-/// memory.
+/// The form that has this name and this number of tokens, or `None` if there is none.
 pub fn op_form<'a>(tokens: &[&'a [u8]]) -> Option<OpForm<'a>>
     ensures { option_map form_view result ≡ op_form (texts tokens.now) }
 {
@@ -110,8 +109,8 @@ fn form_of_values<'a>(
     }
 }
 
-/// The operation of a form. Its tokens are read from left to right, and the first fault is answered.
-/// It takes no memory.
+/// The operation of a form. Its tokens are read from left to right, and the first fault is
+/// returned.
 #[tactic(auto, unfolding(crate::specs::Forms::op_of_form))]
 pub fn op_of_form(form: OpForm<'_>) -> Result<Op, OpFault>
     ensures { result ≡ op_of_form (form_view form.entry) }

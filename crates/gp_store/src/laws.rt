@@ -21,7 +21,7 @@ ghost use Rattle.gp_store.specs.Effects.{effect, reply, after_command, reply_to_
 
 use crate::op::Op;
 
-/// Every operation has right keys, and values below 2^64.
+/// Every operation has valid keys, and values below 2^64.
 pub fn every_operation_is_in_range(op: &Op)
     ensures { IsOp op.now }
 {
@@ -46,7 +46,7 @@ pub fn every_operation_is_in_range(op: &Op)
     }
 }
 
-/// The tokens of a spelling are the operation's words, and they are read again as the operation.
+/// The tokens of a spelling are the operation's words, and they are read back as the operation.
 pub fn a_spelling_is_read_again()
     ensures tokens { (op : Op) → IsOp op → tokens_of (op_text op) ≡ op_words op }
     ensures form { (op : Op) → op_form (op_words op) ≡ Some (form_for op) }
@@ -61,7 +61,7 @@ pub fn an_operation_has_one_spelling()
     ensures text { (text : List ℕ) (op : Op) → op_spelled (tokens_of text) ≡ Some op → text ≡ op_text op }
 {}
 
-/// A spelling is part of one line, of at most 62 bytes, and its words are not empty and have no spaces.
+/// A spelling has no line feed and at most 62 bytes. Its words are not empty and have no spaces.
 pub fn a_spelling_fits_in_a_line()
     ensures feedless { (op : Op) → IsOp op → Lacks is_line_feed (op_text op) }
     ensures short { (op : Op) → IsOp op → length (op_text op) ≤ 62 }
@@ -69,15 +69,15 @@ pub fn a_spelling_fits_in_a_line()
     ensures spaceless { (op : Op) → IsOp op → All (Lacks is_space) (op_words op) }
 {}
 
-/// A copy reads its first key and writes its second one. A copy of a key to itself writes it alone.
+/// A copy reads its first key and writes its second one. A copy of a key to itself only writes it.
 pub fn a_copy_touches_both_its_keys()
     ensures read { (from into : List ℕ) → from ≢ into → Contains (op_foot (Copy from into)) (touch from Read) }
     ensures written { (from into : List ℕ) → Contains (op_foot (Copy from into)) (touch into Write) }
     ensures one { (key : List ℕ) → op_foot (Copy key key) ≡ touch key Write ∷ [] }
 {}
 
-/// The draft of an operation is in the ranges of every draft, and of no other operation; and what is
-/// read from a draft is the operation whose draft it is.
+/// The draft of an operation is in the ranges of every draft, and is the draft of no other
+/// operation. If an operation is read from a draft, the draft is that of the operation.
 pub fn a_draft_is_of_one_operation()
     ensures draft { (op : Op) → IsOp op → IsDraft (draft_for op) }
     ensures again { (op : Op) → IsOp op → op_of (draft_for op) ≡ Some op }
@@ -86,21 +86,22 @@ pub fn a_draft_is_of_one_operation()
     ensures apart { (a b : Op) → IsOp a → IsOp b → draft_for a ≡ draft_for b → a ≡ b }
 {}
 
-/// An operation changes only keys that it adds to or writes, and its reply is of the values of keys that
-/// it touches.
+/// An operation changes only keys that it adds to or writes, and its reply depends only on the
+/// values of keys that it touches.
 pub fn an_operation_keeps_to_its_footprint()
     ensures changes { (pairs : Pairs) (op : Op) (key : List ℕ) → ((t : Touch) → Contains (op_foot op) t → t.access ≢ Read → t.key ≢ key) → value_at (effect pairs op) key ≡ value_at pairs key }
     ensures reads { (pairs other : Pairs) (op : Op) → ((t : Touch) → Contains (op_foot op) t → value_at pairs t.key ≡ value_at other t.key) → reply pairs op ≡ reply other op }
 {}
 
-/// A command with the draft of an operation does the operation, and every other command does nothing.
+/// A command with the draft of an operation does the operation. Every other command changes
+/// nothing, and its reply is `Absent`.
 pub fn a_command_does_its_operation()
     ensures done { (pairs : Pairs) (c : Command) (op : Op) → IsOp op → c.draft ≡ draft_for op → (after_command pairs c ≡ effect pairs op) × (reply_to_command pairs c ≡ reply pairs op) }
     ensures nothing { (pairs : Pairs) (c : Command) → ((op : Op) → IsOp op → c.draft ≢ draft_for op) → (after_command pairs c ≡ pairs) × (reply_to_command pairs c ≡ Absent) }
 {}
 
-/// Commands that do not conflict give the same pairs in both orders, and the same replies, whatever the
-/// store has.
+/// Two different commands that do not conflict give the same pairs and the same replies in both
+/// orders, whatever the store has.
 pub fn commands_without_conflict_commute()
     ensures { (pairs : Pairs) (c d : Command) → same c d ≡ false → conflict c d ≡ false → Commute store_rules pairs c d }
 {}

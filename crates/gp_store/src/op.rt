@@ -11,20 +11,20 @@ use gp_words::push_number;
 /// What a command does to the store, which has a number below 2^64 at some keys.
 #[derive(Clone, Copy, Debug, PartialEq, Eq)]
 pub enum Op {
-    /// The key has this value from then on.
+    /// The key gets this value.
     Put(Key, u64),
-    /// The number is added to the key's value, which counts as 0 where the key is absent. The sum is
-    /// taken modulo 2^64, and is not shown.
+    /// The number is added to the key's value, modulo 2^64. An absent key counts as 0. The reply
+    /// does not show the sum.
     Add(Key, u64),
-    /// The key's value is shown.
+    /// The reply shows the key's value.
     Get(Key),
-    /// The key is absent from then on.
+    /// The key is removed.
     Del(Key),
-    /// Where the key has the first value it gets the second.
+    /// If the key has the first value, it gets the second one.
     Cas(Key, u64, u64),
-    /// Where the first key is there, the second one gets its value.
+    /// If the first key is there, the second one gets its value.
     Copy(Key, Key),
-    /// Nothing is done, and every other command is ordered before it or behind it.
+    /// Nothing is done. Every other command is ordered before it or after it.
     Checkpoint,
 }
 
@@ -36,9 +36,10 @@ impl Op {
     }
 }
 
-/// Appends the spelling of an operation, as `put K V`. Where memory runs out `to` holds what it held.
+/// Appends the spelling of an operation, such as `put K V`. If memory runs out, `to` stays as it
+/// was.
 ///
-/// The tokens of what was written are read again as the operation.
+/// The tokens of what was written are read back as the operation.
 pub fn write_op(op: &Op, to: &mut Vec<u8>) -> Result<(), NoMemory>
     ensures written { OnOk result (to.new.items ≡ to.old.items ++ op_text op.now) }
     ensures unchanged { OnErr result (to.new.items ≡ to.old.items) }
@@ -52,7 +53,7 @@ pub fn write_op(op: &Op, to: &mut Vec<u8>) -> Result<(), NoMemory>
     written
 }
 
-// The same, but a part may stand there where memory runs out.
+// The same, but if memory runs out, a part of the spelling may have been appended.
 fn push_op(op: &Op, to: &mut Vec<u8>) -> Result<(), NoMemory>
     ensures written { OnOk result (to.new.items ≡ to.old.items ++ op_text op.now) }
     ensures behind { OnErr result (take (length to.old.items) to.new.items ≡ to.old.items) }

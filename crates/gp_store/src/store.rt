@@ -15,8 +15,8 @@ use std::marker::Model;
 
 /// A number below 2^64 at some keys, and none at the others.
 ///
-/// A contract sees a store as the finite map of these pairs. As a machine it is empty at first, and a
-/// command whose draft is the draft of no operation changes nothing and is answered `Absent`.
+/// A contract sees a store as the finite map of these pairs. As a machine it is empty at first. A
+/// command whose draft is the draft of no operation changes nothing, and its reply is `Absent`.
 #[derive(Drop)]
 pub struct KeyStore {
     pairs: BTreeMap<Key, u64>,
@@ -35,14 +35,14 @@ impl Model for KeyStore {
 }
 
 impl KeyStore {
-    /// The value at the key, and `None` where the key is absent. It takes no memory.
+    /// The value at the key, or `None` if the key is absent.
     pub fn get(&self, key: Key) -> Option<u64>
         ensures { result ≡ value_at self.now key }
     {
         self.pairs.get(&key).copied()
     }
 
-    /// All keys that are there with their values, in ascending order of the keys. It takes no memory.
+    /// All keys that are there, with their values, in ascending order of the keys.
     pub fn pairs(&self) -> &BTreeMap<Key, u64>
         ensures { result.now.entries ≡ entries self.now }
     {
@@ -150,7 +150,7 @@ fn shown(found: Option<u64>) -> Reply
     }
 }
 
-// Done where the key was there.
+// Done if the key was there.
 fn done_if_there(found: Option<u64>) -> Reply
     ensures { result ≡ done_if_there found }
 {

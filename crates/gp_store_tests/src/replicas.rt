@@ -1,26 +1,22 @@
 //! What replicas of the key store run of the histories that they learn, and what they reply.
-ghost use Rattle.std.specs.Prelude.{◌≡◌, ◌≢◌, ◌<◌, ◌≤◌, ℕ, IsTrue, Some, length, slice_get};
-ghost use Rattle.gp_command.specs.declared.command.Command.{Command};
-ghost use Rattle.gp_history.specs.Sequence.{history_of};
-ghost use Rattle.gp_replica.specs.Runs.{HasDistinctIds};
 
 use crate::steps::{A, B, Step, draft};
 use gp_command::{Command, CommandId, Key};
 use gp_history::Hist;
 use gp_index::History;
-use gp_replica::{Replica, Reply};
+use gp_replica::{Replica, Reply, has_distinct_ids};
 use gp_store::KeyStore;
 use std::alloc::Global;
 use std::process::Abort;
 use std::test::Fail;
 
-// A command: its proposer, the proposer's number of it, and what it does.
+// A command: its proposer, its number, and what it does.
 type Row = (u32, u32, Step);
 
 // What was run: the command's proposer and number, and the reply.
 type Run = (u32, u32, Reply);
 
-// Of two proposers. The first command is not the least, and conflicts with no other.
+// Commands of two proposers. The first command is not the least, and conflicts with no other.
 const LEARNED: [Row; 4] = [
     (1, 1, Step::Put(B, 5)),
     (0, 1, Step::Put(A, 1)),
@@ -48,7 +44,7 @@ const RAN_LATER: [Run; 5] = [
     (0, 3, Reply::Done),
 ];
 
-// What a key service does, one after another.
+// The commands of a key service, one after another.
 const SERVED: [Row; 8] = [
     (0, 1, Step::Put(A, 1)),
     (0, 2, Step::Add(A, 3)),
@@ -89,39 +85,16 @@ fn history(alloc: Global, rows: &[Row]) -> Result<History, Fail> {
     Ok(learned)
 }
 
-// Whether no command before a place has this identity.
-fn is_new(learned: &History, place: usize, id: CommandId) -> bool
-    requires { place ≤ length learned.now }
-    ensures { IsTrue result → (i : ℕ) (c : Command) → i < place → slice_get learned.now i ≡ Some c → c.id ≢ id }
-{
-    for i in 0..place {
-        if learned.at(i).id() == id {
-            return false;
-        }
-    }
-    true
-}
-
-// Whether each command has an identity of its own.
-fn has_distinct_ids(learned: &History) -> bool
-    ensures { IsTrue result → HasDistinctIds (history_of learned.now) }
-{
-    for place in 0..learned.len() {
-        if !is_new(learned, place, learned.at(place).id()) {
-            return false;
-        }
-    }
-    true
-}
-
-// Catches up, if the history is one to which a replica may be led.
+// Catches up, if the history is one with which a replica may catch up.
 fn caught_up(
     rt: &impl Abort,
     replica: &mut Replica<KeyStore>,
     learned: &History,
 ) -> Result<usize, Fail> {
     assert!(rt; replica.ran().is_prefix(learned));
-    assert!(rt; has_distinct_ids(learned));
+    if !has_distinct_ids(learned) {
+        panic!(rt; "two commands have the same identity");
+    }
     Ok(replica.catch_up(learned)?)
 }
 

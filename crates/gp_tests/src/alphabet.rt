@@ -18,7 +18,7 @@ use std::test::Fail;
 
 pub const LETTERS: [u8; 9] = *b"ABRSWVYKL";
 
-/// The command of a letter. A byte that is no letter is read as `L`.
+/// The command of a letter. A byte that is not a letter is read as `L`.
 pub fn command(alloc: Global, letter: u8) -> Result<Command, Fail> {
     let (proposer, draft) = match letter {
         b'A' => (0, touching(alloc, b"x", Access::Add)?),
@@ -45,7 +45,7 @@ pub fn touching(alloc: Global, key: &[u8], access: Access) -> Result<Draft, Fail
     Ok(draft)
 }
 
-/// The history for which the letters of a word stand in their order.
+/// The history of a word: its letters are pushed in their order.
 pub fn history<H: Hist>(alloc: Global, word: &str) -> Result<H, Fail> {
     let mut history = H::empty(alloc)?;
     for letter in word.as_bytes() {
@@ -54,7 +54,7 @@ pub fn history<H: Hist>(alloc: Global, word: &str) -> Result<H, Fail> {
     Ok(history)
 }
 
-/// The letters of a history, as they stand in its sequence.
+/// The letters of a history, in the order of its sequence.
 pub fn letters<H: Hist>(alloc: Global, history: &H) -> Result<Vec<u8>, Fail> {
     let mut letters = Vec::new(alloc);
     for place in 0..history.len() {

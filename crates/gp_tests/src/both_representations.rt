@@ -1,4 +1,4 @@
-//! The same calls on both representations, and what each of them answers.
+//! The same calls on both representations, and what each of them returns.
 use crate::alphabet::{LETTERS, command, history, letter};
 use gp_command::Command;
 use gp_history::{Hist, SeqHistory};
@@ -7,7 +7,7 @@ use std::alloc::Global;
 use std::process::Abort;
 use std::test::Fail;
 
-// What a call answered. A command is told by its letter.
+// The result of a call. A command is given by its letter.
 #[derive(Clone, Copy, Debug, PartialEq, Eq)]
 enum Seen {
     Pushed(bool),

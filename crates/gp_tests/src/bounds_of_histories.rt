@@ -10,15 +10,15 @@ use std::test::Fail;
 // Two histories, whether they are compatible, their meet and their join, worked out by hand.
 type Pair = (&'static str, &'static str, bool, &'static str, &'static str);
 
-// A command stays in the meet if all that comes before it in either history stays and comes before it in
-// both. The join is the first history with what the second has more, in its canonical order. The two are
-// compatible if each common command has the same before it in both, and no command of the one alone
-// conflicts with one of the other alone.
+// A command stays in the meet if all that comes before it in either history stays and comes before
+// it in both. The join is the first history, followed by what only the second has, in its canonical
+// order. The two are compatible if each common command has the same before it in both, and no
+// command of the one alone conflicts with one of the other alone.
 const PAIRS: [Pair; 24] = [
     // the empty history is a prefix of all
     ("", "W", true, "", "W"),
     ("W", "W", true, "W", "W"),
-    // a prefix is the meet, and the whole is the join
+    // a prefix is the meet, and the longer history is the join
     ("W", "WV", true, "W", "WV"),
     // `W` comes before `V` in the one, and the other lacks it: nothing is common
     ("WV", "V", false, "", "WV"),
@@ -52,7 +52,7 @@ const PAIRS: [Pair; 24] = [
     ("ABW", "BAV", false, "AB", "ABWV"),
     ("AWR", "AWS", true, "AW", "AWRS"),
     ("AYR", "YAS", true, "AY", "AYRS"),
-    // `A` is common; `W` and `K` stand in both orders
+    // `A` is common; `W` and `K` have both orders
     ("AWK", "AKW", false, "A", "AWK"),
 ];
 

@@ -46,7 +46,7 @@ fn stands_as<H: Hist>(alloc: Global, word: &str, want: &str) -> Result<bool, Fai
     has_letters(alloc, &history::<H>(alloc, word)?, want)
 }
 
-// Whether these letters stand in the sequence, in this order.
+// Whether the sequence has these letters, in this order.
 fn has_letters<H: Hist>(alloc: Global, history: &H, want: &str) -> Result<bool, Fail> {
     let letters = letters(alloc, history)?;
     Ok(letters.as_slice() == want.as_bytes())

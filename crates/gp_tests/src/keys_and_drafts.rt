@@ -1,4 +1,4 @@
-//! The edges of keys and drafts.
+//! The limits of keys and drafts.
 use gp_command::{Access, Draft, DraftRefused, Key, Touch};
 use std::alloc::Global;
 use std::test::Fail;

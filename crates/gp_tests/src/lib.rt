@@ -1,6 +1,6 @@
 //! Tests, as tables by subject: examples that were worked out by hand, edges of refusals, the two
-//! representations of histories against each other, and each call that can want memory, once with enough
-//! of it.
+//! representations of histories against each other, and each call that can run out of memory
+//! (`NoMemory`), once with enough of it.
 #![tactic(auto)]
 
 #[cfg(test)]

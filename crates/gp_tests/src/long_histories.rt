@@ -23,8 +23,8 @@ enum Shape {
     Mixed,
 }
 
-// By number they stand in one order, and by steps of 77 in another: 0, 77, 154, 231, 52, 129, 206, 27, 104,
-// 181, 2, 79 and so on.
+// By number they are in one order, and by steps of 77 in another: 0, 77, 154, 231, 52, 129, 206,
+// 27, 104, 181, 2, 79 and so on.
 const SCRAMBLED: u8 = 77;
 
 // Command n of a shape. The order of the commands is by proposer first, and so not that of the numbers.
@@ -82,9 +82,9 @@ fn both_orders<H: Hist>(alloc: Global, shape: Shape) -> Result<(H, H), Fail> {
 // A shape, whether both orders are one history, and how many commands the meet has if they are two.
 type Row = (Shape, bool, usize);
 
-// Of one key, command 0 comes first in both orders, and 1 after it in the one and after 77 in the other.
-// Before the first checkpoint stand 0 to 14 in the one order and the first eleven numbers in the other,
-// of which 0 and 2 are common.
+// Of one key, command 0 comes first in both orders, and 1 comes after it in the one and after 77 in
+// the other. Before the first checkpoint come 0 to 14 in the one order and the first eleven numbers
+// in the other; 0 and 2 are common.
 const ROWS: [Row; 4] = [
     (Shape::OneKey, false, 1),
     (Shape::OwnKeys, true, 256),

@@ -32,7 +32,7 @@ fn the_first_number_out_of_range_is_refused(rt: HostRuntime) {
 
 #[test]
 fn quorums_have_these_sizes(rt: HostRuntime) -> Result<(), Fail> {
-    // acceptors, the quorum of the first phase and of single and multi rounds, and the fast quorum
+    // acceptors, the quorum of phase 1 and of single and multi rounds, and the fast quorum
     for (acceptors, classic, fast) in [(3, 2, 3), (4, 3, 3), (5, 3, 4), (6, 4, 5), (7, 4, 6)] {
         let config = Config::new(acceptors, 1, 1)?;
         assert_eq!(rt; config.acceptors(), acceptors);

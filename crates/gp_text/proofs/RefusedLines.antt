@@ -7,7 +7,7 @@ use Rattle.gp_round.specs.Ranges.{AreInRange}
 use Rattle.gp_service.specs.Languages.{Language}
 use Rattle.gp_words.specs.Lines.{lines_of, text_of}
 use Rattle.gp_script.specs.declared.reason.Reason.{Reason}
-use Rattle.gp_text.specs.Reading.{Reading, Whole, Refused, Sofar, Script, nothing, behind, is_passed, holds_limit, nodes_line, after_line, follow, reading_from, reading_in}
+use Rattle.gp_text.specs.Reading.{Reading, Whole, Refused, Sofar, Script, nothing, said_so_far, is_passed, holds_limit, nodes_line, after_line, follow, reading_from, reading_in}
 use Rattle.gp_text.specs.Refusals.{size_of, IsRefusedFirst, IsRefusedBehind, BreaksFrom, BreaksAt}
 use Rattle.gp_text.proofs.SaidLegally.{nodes_in_range}
 use Rattle.gp_text.proofs.WrongLines.{wrong_line, wrong_nodes}
@@ -33,7 +33,7 @@ module _ (language : Language) where
     numbered : number ≡ n + length front
     said : Sofar
     whole : follow language c n place sofar front ≡ Whole c said
-    was : before ≡ behind c said
+    was : before ≡ said_so_far c said
     why : IsRefusedBehind language c said (place + size_of front) rest reason
 
   abbrev Follows : Counts → ℕ → ℕ → Sofar → List (List ℕ) → Reading → Type 0
@@ -41,7 +41,7 @@ module _ (language : Language) where
   Follows c n place sofar lines (Refused number reason before) = Stops c n place sofar lines number reason before
 
   -- the next line is the refused one
-  here : (c : Counts) (n place : ℕ) (sofar : Sofar) (line : List ℕ) (lines : List (List ℕ)) (reason : Reason) → IsRefusedBehind language c sofar place (line ∷ lines) reason → Stops c n place sofar (line ∷ lines) n reason (behind c sofar)
+  here : (c : Counts) (n place : ℕ) (sofar : Sofar) (line : List ℕ) (lines : List (List ℕ)) (reason : Reason) → IsRefusedBehind language c sofar place (line ∷ lines) reason → Stops c n place sofar (line ∷ lines) n reason (said_so_far c sofar)
   here c n place sofar line lines reason why = record {
     front = [];
     rest = line ∷ lines;

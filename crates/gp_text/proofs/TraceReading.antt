@@ -14,7 +14,7 @@ use Rattle.gp_msg.specs.Messages.{Stamped, Entry}
 use Rattle.gp_msg.specs.Nodes.{node_of}
 use Rattle.gp_run.specs.Messages.{messages}
 use Rattle.gp_run.specs.Legal.{Legal, sent_by, sent_at}
-use Rattle.gp_run.specs.Runs.{entry_after, run_onto, run_of, AllFit, events_of}
+use Rattle.gp_run.specs.Runs.{entry_after, run_onto, run_of, AllFit, oldest_first}
 use Rattle.gp_run.proofs.Running.{own_run, own_events_fit, events-cons}
 use Rattle.gp_words.specs.Lines.{lines_of, text_of}
 use Rattle.gp_words.proofs.LineLemmas.{line_then, line_text}
@@ -54,12 +54,12 @@ few_messages c es (event ∷ events) =
     omega (arith, r, s, t)
 
 -- the events of the run of some events are these
-events-run_onto : (c : Counts) (es : List Entry) (events : List Event) → events_of (run_onto c es events) ≡ events_of es ++ events
-events-run_onto c es [] = sym (append-nil (events_of es))
+events-run_onto : (c : Counts) (es : List Entry) (events : List Event) → oldest_first (run_onto c es events) ≡ oldest_first es ++ events
+events-run_onto c es [] = sym (append-nil (oldest_first es))
 events-run_onto c es (event ∷ events) =
     events-run_onto c (entry_after c es event ∷ es) events
     ∙ ap (λ xs. xs ++ events) (events-cons (entry_after c es event) es)
-    ∙ append_assoc (events_of es) (event ∷ []) events
+    ∙ append_assoc (oldest_first es) (event ∷ []) events
 
 run_fits : (c : Counts) (events : List Event) → Legal c (run_of c events) → AllFit c [] events
 run_fits c events legal = subst (AllFit c []) (events-run_onto c [] events) (own_events_fit c (run_of c events) legal)
@@ -151,8 +151,8 @@ module _ (language : Language) (spelled : IsLanguage language) where
       let no_offers : count_by is_offer [] + count_by is_offer es ≤ MOST_OFFERS = omega arith in
       trace_said c es range (all_said c nothing es range fit within.operations no_events no_offers) few few_offers
 
-  pub trace_read : (c : Counts) (run : List Entry) → AreInRange c.acceptors c.coordinators c.learners → Legal c run → IsWithinScript language (events_of run) → reading_in language (trace c (events_of run)) ≡ Whole c (record { events = events_of run; shown = [] })
-  trace_read c run range legal within = fitting_read c (events_of run) range (own_events_fit c run legal) within
+  pub trace_read : (c : Counts) (run : List Entry) → AreInRange c.acceptors c.coordinators c.learners → Legal c run → IsWithinScript language (oldest_first run) → reading_in language (trace c (oldest_first run)) ≡ Whole c (record { events = oldest_first run; shown = [] })
+  trace_read c run range legal within = fitting_read c (oldest_first run) range (own_events_fit c run legal) within
 
 -- ---- playing it
 
@@ -164,9 +164,9 @@ module _ {S : Type 0} (profile : Profile S) (spelled : IsLanguage profile.langua
       let a = s.agreement in
       fitting_read profile.language spelled c said.events s.range (run_fits c said.events a.legal) s.within
 
-  played_run : (c : Counts) (run : List Entry) (played : Played) → Legal c run → IsPlayedFor profile (Whole c (record { events = events_of run; shown = [] })) played → PlayedRun profile c run played
+  played_run : (c : Counts) (run : List Entry) (played : Played) → Legal c run → IsPlayedFor profile (Whole c (record { events = oldest_first run; shown = [] })) played → PlayedRun profile c run played
   played_run c run played legal p =
-      let said : Sofar = record { events = events_of run; shown = [] } in
+      let said : Sofar = record { events = oldest_first run; shown = [] } in
       let whole : Whole c said ≡ Whole played.world.config p.said = p.whole in
       let config : c ≡ played.world.config = cc in
       let same : said ≡ p.said = cc in
@@ -182,8 +182,8 @@ module _ {S : Type 0} (profile : Profile S) (spelled : IsLanguage profile.langua
   stopped_run c said (unplayed.Bad line reason records) stops = absurd cc
 
   -- a trace that is played gives its run
-  pub trace_played : (c : Counts) (run : List Entry) (result : Result Played Unplayed) → AreInRange c.acceptors c.coordinators c.learners → Legal c run → IsWithinScript profile.language (events_of run)
-      → PlaysFor profile (reading_in profile.language (trace c (events_of run))) result → MatchResult result (PlayedRun profile c run) (λ e. e ≡ unplayed.NoMemory)
+  pub trace_played : (c : Counts) (run : List Entry) (result : Result Played Unplayed) → AreInRange c.acceptors c.coordinators c.learners → Legal c run → IsWithinScript profile.language (oldest_first run)
+      → PlaysFor profile (reading_in profile.language (trace c (oldest_first run))) result → MatchResult result (PlayedRun profile c run) (λ e. e ≡ unplayed.NoMemory)
   trace_played c run (Ok played) range legal within plays = played_run c run played legal (subst (λ read. IsPlayedFor profile read played) (trace_read profile.language spelled c run range legal within) plays)
   trace_played c run (Err why) range legal within plays =
-      stopped_run c (record { events = events_of run; shown = [] }) why (subst (λ read. PlaysFor profile read (Err why)) (trace_read profile.language spelled c run range legal within) plays)
+      stopped_run c (record { events = oldest_first run; shown = [] }) why (subst (λ read. PlaysFor profile read (Err why)) (trace_read profile.language spelled c run range legal within) plays)

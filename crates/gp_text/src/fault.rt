@@ -5,7 +5,7 @@ ghost use Rattle.gp_text.specs.Playing.{fault_of};
 use gp_script::{LineFault, Reason};
 use gp_world::StepRefused;
 
-/// Why a line is not read whose event the world refuses.
+/// The fault of a line whose event the world refuses.
 pub fn fault_of(refused: StepRefused) -> LineFault
     ensures { result ≡ fault_of refused }
 {

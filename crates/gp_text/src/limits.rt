@@ -1,10 +1,10 @@
-//! How much a script may have.
+//! The limits of a script.
 
-/// The most offers of a script.
+/// The greatest number of offers in a script.
 pub const MOST_OFFERS: usize = 1_024;
 
-/// The most events of a script.
+/// The greatest number of events in a script.
 pub const MOST_EVENTS: usize = 16_384;
 
-/// The most bytes of a script.
+/// The greatest number of bytes in a script.
 pub const MOST_BYTES: usize = 1_048_576;

@@ -15,7 +15,8 @@ use gp_vlog::Log;
 use gp_words::push_number;
 use std::alloc::Global;
 
-/// Appends a round as `COUNT.MODE.LEAD`.
+/// Appends a round as `COUNT.MODE.LEAD`. If memory runs out, `to` may hold the beginning of this
+/// text.
 pub fn push_dotted(round: Round, to: &mut Vec<u8>) -> Result<(), NoMemory>
     ensures { OnOk result (to.new.items ≡ to.old.items ++ dotted_round round) }
 {
@@ -78,7 +79,7 @@ fn push_head<D: Disk>(number: u32, log: &Log<D>, to: &mut Vec<u8>) -> Result<(),
     Ok(to.push(b'\n')?)
 }
 
-fn text_of<D: Disk>(alloc: Global, number: u32, log: &Log<D>) -> Result<Vec<u8>, NoMemory>
+fn text_of_log<D: Disk>(alloc: Global, number: u32, log: &Log<D>) -> Result<Vec<u8>, NoMemory>
     ensures { IfOk result (λ text. text.items ≡ log_text number (map part_of log.now.entries) log.now.size) }
 {
     let mut text = Vec::new(alloc);
@@ -89,12 +90,12 @@ fn text_of<D: Disk>(alloc: Global, number: u32, log: &Log<D>) -> Result<Vec<u8>,
     Ok(text)
 }
 
-/// Appends the text of a log, which is called by this number: a line with the number of entries and the
-/// size in bytes, and then one line for each entry, the oldest first.
+/// Appends the text of the log with this number: a line with the number of entries and the size in
+/// bytes, and then one line for each entry, the oldest first.
 ///
-/// An acceptor's line has its epoch, its round, the round of its last vote, and the identities of that
-/// vote in canonical order. A coordinator's line has its epoch and its round. If memory runs out, `to`
-/// holds what it held.
+/// An acceptor's line has its epoch, its round, the round of its last vote, and the identities of
+/// that vote in canonical order. A coordinator's line has its epoch and its round. If memory runs
+/// out, `to` stays as it was.
 pub fn log_text<D: Disk>(
     alloc: Global,
     number: u32,
@@ -104,7 +105,7 @@ pub fn log_text<D: Disk>(
     ensures written { OnOk result (to.new.items ≡ to.old.items ++ log_text number (map part_of log.now.entries) log.now.size) }
     ensures unchanged { OnErr result (to.new.items ≡ to.old.items) }
 {
-    let text = text_of(alloc, number, log)?;
+    let text = text_of_log(alloc, number, log)?;
     to.extend_from_slice(&text)?;
     Ok(())
 }

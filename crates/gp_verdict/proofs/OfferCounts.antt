@@ -30,7 +30,7 @@ use Rattle.gp_run.specs.Messages.{messages}
 use Rattle.gp_msg.specs.Nodes.{node_of}
 use Rattle.gp_run.specs.Legal.{fits, sent_by, sent_at, Follows, Legal}
 use Rattle.gp_run.specs.Learned.{learned_at}
-use Rattle.gp_run.specs.Runs.{events_of}
+use Rattle.gp_run.specs.Runs.{oldest_first}
 use Rattle.gp_run.specs.States.{proposer_acts, proposer_at, coordinator_at, acceptor_at, learner_at}
 use Rattle.gp_run.proofs.Running.{events-cons}
 use Rattle.gp_agreement.proofs.Agreement.{agrees}
@@ -135,7 +135,7 @@ module _ (config : Counts) (es : List Entry) where
 
 -- ---- how many were offered, and their identities
 
-few_offered : (config : Counts) (es : List Entry) → Legal config es → length (offered (messages es)) ≤ count_by is_offer (events_of es)
+few_offered : (config : Counts) (es : List Entry) → Legal config es → length (offered (messages es)) ≤ count_by is_offer (oldest_first es)
 unfolding offered
 few_offered config [] legal = omega arith
 few_offered config (e ∷ es) legal =
@@ -143,7 +143,7 @@ few_offered config (e ∷ es) legal =
     let earlier = few_offered config es legal.0 in
     let sent = subst (λ (ms : List Stamped). length (offered ms) ≤ cond (is_offer e.event) 1 0) (sym f.own_messages) (sends_few config es e.event) in
     let all = ap length (offered_append (messages es) e.sent) ∙ length-append (offered (messages es)) (offered e.sent) in
-    let counted = ap (count_by is_offer) (events-cons e es) ∙ count_more is_offer (events_of es) e.event in
+    let counted = ap (count_by is_offer) (events-cons e es) ∙ count_more is_offer (oldest_first es) e.event in
     omega (arith, earlier, sent, all, counted)
 
 own_state : (p : ℕ) (es : List Entry) → ((proposer_at p es).number ≡ p) × ((proposer_at p es).offers ≤ length es)
@@ -200,7 +200,7 @@ all_known most (c ∷ cs) known =
     or_right false b e = e
 
 pub record IsHeld (config : Counts) (es : List Entry) (l : ℕ) : Type 0 where
-  pub few : length (canonical (learned_at config l es)) ≤ count_by is_offer (events_of es)
+  pub few : length (canonical (learned_at config l es)) ≤ count_by is_offer (oldest_first es)
   pub known : AreKnown (length es) (canonical (learned_at config l es))
 
 pub held : (config : Counts) (es : List Entry) → 0 < config.acceptors → Legal config es → (l : ℕ) → IsHeld config es l

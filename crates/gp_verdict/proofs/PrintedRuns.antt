@@ -8,7 +8,7 @@ use Rattle.gp_round.specs.Ranges.{AreInRange}
 use Rattle.gp_msg.specs.declared.event.Event.{Event}
 use Rattle.gp_msg.specs.Messages.{Entry}
 use Rattle.gp_run.specs.Legal.{Legal}
-use Rattle.gp_run.specs.Runs.{run_of, events_of}
+use Rattle.gp_run.specs.Runs.{run_of, oldest_first}
 use Rattle.gp_run.proofs.Running.{own_run}
 use Rattle.gp_words.specs.Lines.{is_line_feed, lines_of}
 use Rattle.gp_world.specs.State.{entries_of}
@@ -96,35 +96,35 @@ divider_first : (others : List ℕ) → lines_of (codes "--\n" ++ others) ≡ co
 unfolding lines_of
 divider_first others = refl
 
-printed_lines : (config : Counts) (run : List Entry) → lines_of (printed config run) ≡ lines_of (trace config (events_of run)) ++ codes "--\n" ∷ lines_of (report config run)
+printed_lines : (config : Counts) (run : List Entry) → lines_of (printed config run) ≡ lines_of (trace config (oldest_first run)) ++ codes "--\n" ∷ lines_of (report config run)
 printed_lines config run =
-    ap lines_of (append_assoc (trace config (events_of run)) (codes "--\n") (report config run))
-    ∙ after_fed (trace config (events_of run)) (codes "--\n" ++ report config run) (trace_fed config (events_of run))
-    ∙ ap (λ (ls : List (List ℕ)). lines_of (trace config (events_of run)) ++ ls) (divider_first (report config run))
+    ap lines_of (append_assoc (trace config (oldest_first run)) (codes "--\n") (report config run))
+    ∙ after_fed (trace config (oldest_first run)) (codes "--\n" ++ report config run) (trace_fed config (oldest_first run))
+    ∙ ap (λ (ls : List (List ℕ)). lines_of (trace config (oldest_first run)) ++ ls) (divider_first (report config run))
 
-run_printed : (config : Counts) (run : List Entry) → AreInRange config.acceptors config.coordinators config.learners → Legal config run → IsWithinScript store_language (events_of run)
-    → IsPrinted (printed config run) config (events_of run)
+run_printed : (config : Counts) (run : List Entry) → AreInRange config.acceptors config.coordinators config.learners → Legal config run → IsWithinScript store_language (oldest_first run)
+    → IsPrinted (printed config run) config (oldest_first run)
 run_printed config run range legal within = record {
   short = printed_size config run range legal within;
-  script = lines_of (trace config (events_of run));
+  script = lines_of (trace config (oldest_first run));
   divider = codes "--\n";
   reported = lines_of (report config run);
   lines = printed_lines config run;
-  says = reading_opens store_language (trace config (events_of run)) ∙ trace_read store_language store_spelled config run range legal within;
+  says = reading_opens store_language (trace config (oldest_first run)) ∙ trace_read store_language store_spelled config run range legal within;
   divides = refl;
   reports = ap (λ es. texts_of (lines_of (report config es))) (sym (own_run config run legal));
 }
 
-pub run_upheld : (config : Counts) (run : List Entry) → AreInRange config.acceptors config.coordinators config.learners → Legal config run → IsWithinScript store_language (events_of run)
-    → verdict (printed config run) ≡ Upheld config (events_of run)
-run_upheld config run range legal within = printed_upheld (printed config run) config (events_of run) (run_printed config run range legal within)
+pub run_upheld : (config : Counts) (run : List Entry) → AreInRange config.acceptors config.coordinators config.learners → Legal config run → IsWithinScript store_language (oldest_first run)
+    → verdict (printed config run) ≡ Upheld config (oldest_first run)
+run_upheld config run range legal within = printed_upheld (printed config run) config (oldest_first run) (run_printed config run range legal within)
 
-audited_run : (config : Counts) (run : List Entry) (audited : Audited) → Legal config run → IsAudited (Upheld config (events_of run)) audited → IsAuditedRun config run audited
+audited_run : (config : Counts) (run : List Entry) (audited : Audited) → Legal config run → IsAudited (Upheld config (oldest_first run)) audited → IsAuditedRun config run audited
 audited_run config run audited legal a =
     let u = a.upheld in
-    let ruled : Upheld config (events_of run) ≡ Upheld audited.world.config u.events = u.ruled in
+    let ruled : Upheld config (oldest_first run) ≡ Upheld audited.world.config u.events = u.ruled in
     let config_is : config ≡ audited.world.config = cc in
-    let events_are : events_of run ≡ u.events = cc in
+    let events_are : oldest_first run ≡ u.events = cc in
     let run_is : entries_of audited.world ≡ run = u.run ∙ ap (λ c. run_of c u.events) (sym config_is) ∙ ap (run_of config) (sym events_are) ∙ own_run config run legal in
     record {
       config_is = sym config_is;
@@ -139,7 +139,7 @@ refused_run config events (unaudited.Bad line why records) refuses =
     let ruled : Upheld config events ≡ Rejected line why before = refuses.ruled in
     absurd cc
 
-pub run_audited : (config : Counts) (run : List Entry) (result : Result Audited Unaudited) → AreInRange config.acceptors config.coordinators config.learners → Legal config run → IsWithinScript store_language (events_of run)
+pub run_audited : (config : Counts) (run : List Entry) (result : Result Audited Unaudited) → AreInRange config.acceptors config.coordinators config.learners → Legal config run → IsWithinScript store_language (oldest_first run)
     → Audits (verdict (printed config run)) result → MatchResult result (IsAuditedRun config run) (λ e. e ≡ unaudited.NoMemory)
 run_audited config run (Ok audited) range legal within audits = audited_run config run audited legal (subst (λ v. IsAudited v audited) (run_upheld config run range legal within) audits)
-run_audited config run (Err why) range legal within audits = refused_run config (events_of run) why (subst (λ v. Audits v (Err why)) (run_upheld config run range legal within) audits)
+run_audited config run (Err why) range legal within audits = refused_run config (oldest_first run) why (subst (λ v. Audits v (Err why)) (run_upheld config run range legal within) audits)

@@ -15,7 +15,7 @@ use Rattle.gp_msg.specs.Messages.{Entry}
 use Rattle.gp_run.specs.Legal.{Legal}
 use Rattle.gp_run.specs.Learned.{learned_at}
 use Rattle.gp_run.specs.Messages.{messages}
-use Rattle.gp_run.specs.Runs.{events_of}
+use Rattle.gp_run.specs.Runs.{oldest_first}
 use Rattle.gp_words.specs.Spacing.{spaced, joined}
 use Rattle.gp_words.proofs.NumberLemmas.{decimal_short}
 use Rattle.gp_replica.specs.declared.reply.Reply.{Reply}
@@ -188,7 +188,7 @@ totals_size events messages few less =
     let x = len5 (codes "events ") (decimal events) (codes " messages ") (decimal messages) (codes "\n") in
     omega (arith, a, b, x)
 
-pub report_size : (config : Counts) (run : List Entry) → AreInRange config.acceptors config.coordinators config.learners → Legal config run → length run < 2 ^ 64 → length (messages run) < 2 ^ 64 → count_by is_offer (events_of run) ≤ MOST_OFFERS
+pub report_size : (config : Counts) (run : List Entry) → AreInRange config.acceptors config.coordinators config.learners → Legal config run → length run < 2 ^ 64 → length (messages run) < 2 ^ 64 → count_by is_offer (oldest_first run) ≤ MOST_OFFERS
     → length (report config run) ≤ 440058
 unfolding report_for
 report_size config run range legal few less offers =

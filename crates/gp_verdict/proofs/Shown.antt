@@ -24,7 +24,7 @@ use Rattle.gp_script.proofs.Steps.{step_says, test_then, ok_or_says}
 use Rattle.gp_script.proofs.FormLemmas.{form_says}
 use Rattle.gp_script.proofs.ItemLemmas.{line_for, item_read}
 use Rattle.gp_text.specs.declared.limits.TheConstants.{MOST_EVENTS}
-use Rattle.gp_text.specs.Reading.{Reading, Whole, Refused, Script, Sofar, nothing, behind, on_line, is_nodes, is_passed, holds_limit, add_event, add_item, item_in, table_line, after_line, nodes_line, follow, reading_from}
+use Rattle.gp_text.specs.Reading.{Reading, Whole, Refused, Script, Sofar, nothing, said_so_far, on_line, is_nodes, is_passed, holds_limit, add_event, add_item, item_in, table_line, after_line, nodes_line, follow, reading_from}
 use Rattle.gp_verdict.specs.Parts.{is_divider, is_show, ends_trace, trace_lines, after_trace}
 
 -- ---- how many lines are shown
@@ -189,7 +189,7 @@ lines_show config own n place sofar whole [] e =
     let same : sofar ≡ whole = cc in
     ap (λ (s : Sofar). length s.shown) (sym same) ∙ omega arith
 lines_show config own n place sofar whole (line ∷ lines) e =
-    let g = goes_on (holds_limit place line) (after_line store_language config sofar (text_of line)) (λ more. follow store_language config (n + 1) (place + length line) more lines) n TooLong (behind config sofar) own whole e in
+    let g = goes_on (holds_limit place line) (after_line store_language config sofar (text_of line)) (λ more. follow store_language config (n + 1) (place + length line) more lines) n TooLong (said_so_far config sofar) own whole e in
     let rest = lines_show config own (n + 1) (place + length line) g.0 whole lines g.2 in
     let first = line_shows config sofar g.0 (text_of line) g.1 in
     omega (arith, rest, first)

@@ -13,7 +13,7 @@ use Rattle.gp_msg.specs.Messages.{Stamped, Entry}
 use Rattle.gp_msg.specs.Nodes.{node_of}
 use Rattle.gp_run.specs.Messages.{messages}
 use Rattle.gp_run.specs.Legal.{Legal, sent_by, sent_at}
-use Rattle.gp_run.specs.Runs.{entry_after, run_onto, run_of, AllFit, events_of}
+use Rattle.gp_run.specs.Runs.{entry_after, run_onto, run_of, AllFit, oldest_first}
 use Rattle.gp_run.proofs.Running.{own_events_fit}
 use Rattle.gp_service.specs.Stores.{store_language}
 use Rattle.gp_service.specs.StoreLaws.{store_spelled}
@@ -64,11 +64,11 @@ lines_size c sofar (e ∷ es) range fit drafted few offers =
     let all = length-append (event_line e ++ codes "\n") (lines_text es) in
     omega (arith, short, others, line, all, head)
 
-pub trace_size : (c : Counts) (run : List Entry) → AreInRange c.acceptors c.coordinators c.learners → Legal c run → IsWithinScript store_language (events_of run)
-    → length (trace c (events_of run)) ≤ 12 + (34 * length (events_of run) + 38 * count_by is_offer (events_of run))
+pub trace_size : (c : Counts) (run : List Entry) → AreInRange c.acceptors c.coordinators c.learners → Legal c run → IsWithinScript store_language (oldest_first run)
+    → length (trace c (oldest_first run)) ≤ 12 + (34 * length (oldest_first run) + 38 * count_by is_offer (oldest_first run))
 unfolding trace
 trace_size c run range legal within =
-    let es = events_of run in
+    let es = oldest_first run in
     let few = within.few in
     let few_offers = within.few_offers in
     let no_events : 0 + length es ≤ MOST_EVENTS = omega arith in

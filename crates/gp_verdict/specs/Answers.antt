@@ -1,8 +1,8 @@
--- What an audit answers.
+-- The result of an audit.
 use Rattle.std.specs.Prelude.{◌≡◌, ℕ, List, Option, Result, Ok, Err}
 use Rattle.gp_msg.specs.declared.event.Event.{Event}
 use Rattle.gp_msg.specs.declared.record.Record.{Record}
-use Rattle.gp_run.specs.Runs.{run_of, entries_in}
+use Rattle.gp_run.specs.Runs.{run_of, newest_first}
 use Rattle.gp_world.specs.State.{WorldState, entries_of}
 use Rattle.gp_text.specs.declared.played.Unplayed.{Unplayed}
 use Rattle.gp_text.specs.declared.played.Unplayed.TheVariants as unplayed
@@ -15,7 +15,7 @@ use Rattle.gp_verdict.specs.declared.answer.Unaudited.TheVariants as unaudited
 use Rattle.gp_verdict.specs.Verdicts.{Verdict, Upheld, Rejected}
 use Rattle.gp_verdict.specs.Certified.{IsCertified}
 
--- a script that is not played is not audited
+-- why an input is not audited, if its trace is not played for this reason
 abbrev pub unaudited_of : Unplayed → Unaudited
 unaudited_of unplayed.NoMemory = unaudited.NoMemory
 unaudited_of (unplayed.Bad line why records) = unaudited.Bad line (reason.Script why) records
@@ -24,7 +24,7 @@ unaudited_of (unplayed.Bad line why records) = unaudited.Bad line (reason.Script
 pub record IsRejected (ruling : Verdict) (line : ℕ) (why : AuditReason) (records : List Record) : Type 0 where
   pub before : Option Script
   pub ruled : ruling ≡ Rejected line why before
-  pub run : entries_in records ≡ run_before before
+  pub run : newest_first records ≡ run_before before
 
 -- the input is what a legal run prints, and the world has that run
 pub record IsUpheld (ruling : Verdict) (world : WorldState) : Type 0 where

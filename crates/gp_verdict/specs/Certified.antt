@@ -11,7 +11,7 @@ use Rattle.gp_audit.specs.declared.proof.Cause.{Cause}
 use Rattle.gp_audit.specs.declared.proof.Cause.TheVariants as cause
 use Rattle.gp_audit.specs.Certificates.{AreProofs}
 
--- what a learner took: a vote that made a quorum whole, or a Final message
+-- what a learner took: a vote that completed a quorum, or a Final message
 abbrev pub cause_words : Cause → List ℕ
 cause_words (cause.Quorum epoch round mask) =
     codes " epoch " ++ decimal epoch ++ codes " round " ++ dotted_round round ++ codes " quorum " ++ decimal mask
@@ -35,7 +35,7 @@ pub record AreProofLines (config : Counts) (run : List Entry) (learner : ℕ) (t
   pub certified : AreProofs config run learner proofs
   pub written : text ≡ proof_lines learner proofs
 
--- those of the first learners, as many as these, one learner after another
+-- the lines of the certificates of this many first learners, one learner after another
 pub data AreFirstLines (config : Counts) (run : List Entry) : ℕ → List ℕ → Type 0 where
   NoLearner : AreFirstLines config run 0 []
   OneMore : (count : ℕ) (text lines : List ℕ) → AreFirstLines config run count text → AreProofLines config run count lines → AreFirstLines config run (suc count) (text ++ lines)

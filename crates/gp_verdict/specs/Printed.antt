@@ -3,7 +3,7 @@ use Rattle.std.specs.Prelude.{◌≡◌, ◌≤◌, ℕ, ◌+◌, Option, List, 
 use Rattle.gp_round.specs.Counts.{Counts}
 use Rattle.gp_msg.specs.declared.event.Event.{Event}
 use Rattle.gp_msg.specs.Messages.{Entry}
-use Rattle.gp_run.specs.Runs.{run_of, events_of}
+use Rattle.gp_run.specs.Runs.{run_of, oldest_first}
 use Rattle.gp_words.specs.Lines.{lines_of, text_of}
 use Rattle.gp_world.specs.State.{entries_of}
 use Rattle.gp_report.specs.Texts.{report}
@@ -17,7 +17,7 @@ use Rattle.gp_verdict.specs.Certified.{IsCertified}
 
 -- the trace of a run, a line `--`, and its report
 abbrev pub printed : Counts → List Entry → List ℕ
-printed config run = trace config (events_of run) ++ codes "--\n" ++ report config run
+printed config run = trace config (oldest_first run) ++ codes "--\n" ++ report config run
 
 -- a script of the key store that says these events and shows nothing, a line `--`, and the lines of the report of their run; the last line may lack its line feed
 pub record IsPrinted (bytes : List ℕ) (config : Counts) (events : List Event) : Type 0 where
@@ -30,7 +30,7 @@ pub record IsPrinted (bytes : List ℕ) (config : Counts) (events : List Event) 
   pub divides : text_of divider ≡ codes "--"
   pub reports : texts_of reported ≡ texts_of (lines_of (report config (run_of config events)))
 
--- these lines are a script of the key store that says a run and shows nothing, and no line `--` follows
+-- these lines are a script of the key store that says a run and shows nothing, and a line `--` does not follow
 pub record LacksReport (lines : List (List ℕ)) (line : ℕ) (before : Option Script) : Type 0 where
   pub config : Counts
   pub events : List Event
@@ -38,7 +38,7 @@ pub record LacksReport (lines : List (List ℕ)) (line : ℕ) (before : Option S
   pub line_is : line ≡ length lines + 1
   pub before_is : before ≡ said config events
 
--- these lines are such a script, a line `--`, and lines that part at this one from those of the report
+-- these lines are such a script, a line `--`, and lines that differ from those of the report, at first at this line
 pub record HasWrongReport (lines : List (List ℕ)) (line : ℕ) (before : Option Script) : Type 0 where
   pub config : Counts
   pub events : List Event

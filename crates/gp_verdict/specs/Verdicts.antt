@@ -1,4 +1,4 @@
--- The verdict on an input: it is what a legal run prints, or it is refused at its first line that is not in order.
+-- The verdict on an input: it is what a legal run prints, or it is refused at the first line that breaks a rule.
 use Rattle.std.specs.Prelude.{ℕ, ◌+◌, nat_le, List, [], ◌∷◌, length, Option, Some, None, if◌then◌else◌}
 use Rattle.gp_round.specs.Counts.{Counts}
 use Rattle.gp_msg.specs.declared.event.Event.{Event}
@@ -14,7 +14,7 @@ use Rattle.gp_verdict.specs.declared.reason.AuditReason.{AuditReason}
 use Rattle.gp_verdict.specs.declared.reason.AuditReason.TheVariants as reason
 use Rattle.gp_verdict.specs.Parts.{texts_of, is_divider, trace_lines, after_trace, short_lines, first_difference}
 
--- the configuration and the events of a trace whose report is right, or the first refused line, the reason, and what the lines of the trace before it said, once there was a configuration
+-- the configuration and the events of a trace whose report is right, or the first refused line, the reason, and what the lines of the trace before it said, if there was a configuration
 pub data Verdict : Type 0 where
   Upheld : Counts → List Event → Verdict
   Rejected : ℕ → AuditReason → Option Script → Verdict
@@ -53,7 +53,7 @@ on_script (Refused line why before) number lines = Rejected line (reason.Script 
 unfoldable pub lines_verdict : List (List ℕ) → Verdict
 lines_verdict lines = on_script (script_of (trace_lines lines)) (length (trace_lines lines) + 1) (after_trace lines)
 
--- the line after the first lines, as many as these, is too long; a refusal at one of the first lines stands
+-- the line after this many first lines is too long; a refusal of one of the first lines takes precedence
 abbrev pub too_long_after : ℕ → Verdict → Verdict
 too_long_after count (Upheld config events) = Rejected (count + 1) (reason.Script TooLong) (said config events)
 too_long_after count (Rejected line why before) =

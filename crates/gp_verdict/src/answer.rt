@@ -1,4 +1,4 @@
-//! What an audit answers.
+//! The result of an audit.
 ghost use Rattle.std.specs.Prelude.{◌≡◌};
 ghost use Rattle.gp_verdict.specs.Answers.{unaudited_of};
 
@@ -8,7 +8,8 @@ use gp_msg::Records;
 use gp_text::Unplayed;
 use gp_world::World;
 
-/// What an upheld run led to: the world after its events, and the text with its certificates.
+/// The result of an audit of an upheld input: the world after the events of its trace, and the text
+/// with its certificates.
 #[derive(Drop)]
 pub struct Audited {
     pub world: World,
@@ -18,8 +19,8 @@ pub struct Audited {
 /// Why an input is not upheld.
 #[derive(Drop)]
 pub enum Unaudited {
-    /// A line, numbered from 1, is the first that is refused; the records are those of the events of
-    /// the trace before it.
+    /// `line`, counted from 1, is the first line that is refused, for `reason`. `records` are those
+    /// of the events in the trace before that line.
     Bad {
         line: u64,
         reason: AuditReason,

@@ -63,8 +63,9 @@ fn learner_lines(alloc: Global, world: &World, learner: u32) -> Result<Vec<u8>, 
     Ok(lines)
 }
 
-/// The text of a world that is upheld: the word `legal`, and a line for each command of each learner, in
-/// canonical order, that says by which record and by what message the learner came to hold it.
+/// The text of an upheld world: the word `legal`, and then, for each learner and each of its
+/// commands in canonical order, a line that says by which record and which message the learner came
+/// to hold the command.
 pub fn certificates(alloc: Global, world: &World) -> Result<Vec<u8>, NoMemory>
     ensures { IfOk result (λ text. IsCertified world.now.config (entries_of world.now) text.items) }
 {

@@ -30,7 +30,8 @@ fn refused(world: World, line: u64, reason: AuditReason) -> Unaudited
     }
 }
 
-// The lines after a trace that was played: the line `--`, and those of the report. The first has this number.
+// Judges the lines after a trace that was played: the line `--` and the lines of the report. The
+// first of them has this number.
 fn judge_ending(number: u64, rest: &[u8], played: Played) -> Result<World, Unaudited>
     requires few { number + length rest.now < 2 ^ 63 }
     requires text { played.text.items ≡ report played.world.config (entries_of played.world) }
@@ -61,7 +62,8 @@ fn judge_lines(alloc: Global, bytes: &[u8]) -> Result<World, Unaudited>
     judge_ending(trace.lines + 1, trace.rest, played)
 }
 
-// The line after so many lines, which were judged so, is too long.
+// The refusal of an input whose first `lines` lines have this judgement, and whose next line is too
+// long.
 fn too_long_after(lines: u64, judged: Result<World, Unaudited>) -> Unaudited
     requires { lines < 2 ^ 63 }
     ensures { (ruling : Verdict) → Judges ruling judged → Judges (too_long_after lines ruling) (Err result) }
@@ -94,7 +96,7 @@ fn too_long_after(lines: u64, judged: Result<World, Unaudited>) -> Unaudited
     }
 }
 
-/// The world of a run whose trace and report the input is, or why it is none.
+/// The world of the run whose trace and report the input is, or why the input is refused.
 pub fn judge(alloc: Global, bytes: &[u8]) -> Result<World, Unaudited>
     ensures { Judges (verdict bytes.now) result }
 {

@@ -3,7 +3,7 @@ ghost use Rattle.std.specs.Prelude.{◌≡◌, ◌≤◌, ◌↔◌, ℕ, List, 
 ghost use Rattle.gp_round.specs.Counts.{Counts};
 ghost use Rattle.gp_msg.specs.declared.event.Event.{Event};
 ghost use Rattle.gp_msg.specs.Messages.{Entry};
-ghost use Rattle.gp_run.specs.Runs.{events_of};
+ghost use Rattle.gp_run.specs.Runs.{oldest_first};
 ghost use Rattle.gp_words.specs.Lines.{lines_of};
 ghost use Rattle.gp_service.specs.Stores.{store_language};
 ghost use Rattle.gp_text.specs.Reading.{Script};
@@ -19,15 +19,18 @@ ghost use Rattle.gp_verdict.specs.Printed.{printed, IsPrinted, LacksReport, HasW
 
 use gp_text::MOST_BYTES;
 
-/// The inputs that are upheld are just those that a run prints: a script of the key store that shows nothing, a
-/// line `--`, and the lines of the report of the script's run. The last line may lack its line feed.
+/// An input is upheld if and only if a run prints it: it has at most 1,048,576 bytes and consists
+/// of a script of the key store without `show` lines, a line `--`, and the lines of the report of
+/// the script's run. The last line may lack its line feed.
 pub fn the_upheld_is_what_a_run_prints()
     ensures { (bytes : List ℕ) (config : Counts) (events : List Event) → (verdict bytes ≡ Upheld config events) ↔ IsPrinted bytes config events }
 {}
 
-/// An input of at most 1,048,576 bytes has no report exactly if it is a script that shows nothing: the line after the
-/// last is refused. It has a wrong report exactly if it is such a script, a line `--`, and lines that are not those of
-/// the report of the script's run: the first one that differs is refused, or the line after the last if lines are missing.
+/// An input of at most 1,048,576 bytes has no report if and only if it is a script of the key store
+/// without `show` lines; the refused line is then the one after the last. It has a wrong report if
+/// and only if it is such a script, a line `--`, and lines that are not those of the report of the
+/// script's run. The refused line is then the first one that differs, or the one after the last if
+/// lines are missing.
 pub fn a_report_is_missing_or_wrong()
     ensures missing { (bytes : List ℕ) (line : ℕ) (before : Option Script) → length bytes ≤ MOST_BYTES
         → (verdict bytes ≡ Rejected line reason.NoReport before) ↔ LacksReport (lines_of bytes) line before }
@@ -35,17 +38,18 @@ pub fn a_report_is_missing_or_wrong()
         → (verdict bytes ≡ Rejected line reason.WrongReport before) ↔ HasWrongReport (lines_of bytes) line before }
 {}
 
-/// Texts have no first difference exactly if they are the same, and else it is where they part.
+/// Two lists of texts have no first difference if and only if they are equal. Otherwise the first
+/// difference is the place at which they part.
 pub fn the_first_difference_is_where_texts_part()
     ensures none { (number : ℕ) (texts others : List (List ℕ)) → (first_difference number texts others ≡ None) ↔ (texts ≡ others) }
     ensures some { (number place : ℕ) (texts others : List (List ℕ)) → (first_difference number texts others ≡ Some place) ↔ PartAt number texts others place }
 {}
 
-/// What a legal run prints that a script can say is upheld: it has at most 1,048,576 bytes. Audited, it gives that
-/// run and its certificates, unless memory runs out.
+/// If a script can say a legal run, what the run prints has at most 1,048,576 bytes and is upheld.
+/// Its audit returns that run and its certificates, unless memory runs out.
 pub fn what_a_run_prints_is_upheld()
     ensures short { (config : Counts) (run : List Entry) → IsSayable store_language config run → length (printed config run) ≤ MOST_BYTES }
-    ensures upheld { (config : Counts) (run : List Entry) → IsSayable store_language config run → verdict (printed config run) ≡ Upheld config (events_of run) }
+    ensures upheld { (config : Counts) (run : List Entry) → IsSayable store_language config run → verdict (printed config run) ≡ Upheld config (oldest_first run) }
     ensures audited { (config : Counts) (run : List Entry) (result : Result Audited Unaudited) → IsSayable store_language config run
         → Audits (verdict (printed config run)) result → MatchResult result (IsAuditedRun config run) (λ e. e ≡ NoMemory) }
 {}

@@ -1,4 +1,5 @@
-//! The audit of what a run printed: whether its trace is a legal run and its report that of this run.
+//! The audit of what a run printed: it checks that the trace is a legal run and that the report is
+//! the report of this run.
 #![tactic(auto)]
 
 mod answer;

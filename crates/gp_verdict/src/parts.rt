@@ -1,10 +1,9 @@
 //! The parts of an input.
-ghost use Rattle.std.specs.Prelude.{◌≡◌, ◌≤◌, ◌<◌, ◌+◌, ◌^◌, length, take, drop};
+ghost use Rattle.std.specs.Prelude.{◌≡◌, ◌≤◌, ◌+◌, length, take, drop};
 ghost use Rattle.gp_words.specs.Lines.{lines_of};
-ghost use Rattle.gp_text.specs.Reading.{holds_limit};
 ghost use Rattle.gp_verdict.specs.Parts.{is_divider, ends_trace, trace_lines, after_trace, short_lines};
 
-use gp_text::MOST_BYTES;
+use gp_text::{MOST_BYTES, holds_limit};
 use gp_words::{first_line, split_token, text_of};
 
 /// The first lines of an input, how many they are, and what follows them.
@@ -15,14 +14,14 @@ pub struct Head<'a> {
     pub rest: &'a [u8],
 }
 
-/// Whether the text of a line is that of the line between a trace and a report.
+/// Whether this is the text of the line that separates a trace from a report.
 pub fn is_divider(text: &[u8]) -> bool
     ensures { result ≡ is_divider text.now }
 {
     text == b"--".as_slice()
 }
 
-// Whether a line with this text is no line of a trace.
+// Whether a line with this text is not a line of a trace.
 fn ends_trace(text: &[u8]) -> bool
     ensures { result ≡ ends_trace text.now }
 {
@@ -30,15 +29,7 @@ fn ends_trace(text: &[u8]) -> bool
     is_divider(text) || word == b"show".as_slice()
 }
 
-// Whether a line that begins at this place holds the byte that is too many.
-fn holds_limit(place: usize, line: &[u8]) -> bool
-    requires { place + length line.now < 2 ^ 64 }
-    ensures { result ≡ holds_limit place line.now }
-{
-    place <= MOST_BYTES && MOST_BYTES < place + line.len()
-}
-
-// The first bytes of an input, which are so many lines, and the rest.
+// The bytes of an input before this place, which are this many lines, and the rest.
 fn head_of(bytes: &[u8], place: usize, lines: u64) -> Head<'_>
     requires { place ≤ length bytes.now }
     ensures head { result.bytes.now ≡ take place bytes.now }
@@ -75,7 +66,7 @@ pub fn trace_head(bytes: &[u8]) -> Head<'_>
     head_of(bytes, place, lines)
 }
 
-/// The lines before the first that holds the byte at place 1,048,576.
+/// The lines before the first one that contains the byte at place 1,048,576, counted from 0.
 pub fn short_head(bytes: &[u8]) -> Head<'_>
     ensures head { lines_of result.bytes.now ≡ short_lines 0 (lines_of bytes.now) }
     ensures count { result.lines ≡ length (short_lines 0 (lines_of bytes.now)) }

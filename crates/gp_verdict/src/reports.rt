@@ -1,4 +1,4 @@
-//! The lines of a report against those that were printed.
+//! Compares the lines of a report with those that were printed.
 ghost use Rattle.std.specs.Prelude.{◌≡◌, ◌<◌, ◌+◌, ◌^◌, length};
 ghost use Rattle.std.specs.Str.{bytes_eq};
 ghost use Rattle.gp_words.specs.Lines.{lines_of, text_of};
@@ -13,9 +13,8 @@ fn are_alike(line: &[u8], other: &[u8]) -> bool
     text_of(line) == text_of(other)
 }
 
-/// The number of the first line of a text that differs from the one in its place of another text, or that
-/// stands where the other one has none, or that is missing where the other one has a line. The first line
-/// has this number.
+/// The number of the first line at which two texts differ: their lines there differ, or only one of
+/// them has a line there. The first line has this number. `None` if they do not differ.
 pub fn first_difference(number: u64, printed: &[u8], wanted: &[u8]) -> Option<u64>
     requires { number + length printed.now < 2 ^ 63 }
     ensures { result ≡ first_difference number (texts_of (lines_of printed.now)) (texts_of (lines_of wanted.now)) }

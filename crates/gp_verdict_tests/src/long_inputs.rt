@@ -7,12 +7,12 @@ use std::test::Fail;
 
 const TOO_LONG: AuditReason = AuditReason::Script(Reason::TooLong);
 
-// A `nodes` line and a comment of so many bytes in all, and then these bytes.
+// A `nodes` line and a comment, `length` bytes in all, followed by `rest`.
 fn after_comment(alloc: Global, length: usize, rest: &[u8]) -> Result<Vec<u8>, Fail> {
     filled(alloc, b"nodes 3 1 1\n#", length, rest)
 }
 
-// These bytes, a comment that goes on to so many bytes with its line feed, and then those.
+// `first`, then a comment that fills it up to `length` bytes with its line feed, and then `rest`.
 fn filled(alloc: Global, first: &[u8], length: usize, rest: &[u8]) -> Result<Vec<u8>, Fail> {
     let mut input = Vec::from_slice(alloc, first)?;
     for _ in input.len()..length.saturating_sub(1) {
@@ -107,7 +107,7 @@ fn a_line_is_too_long_before_something_is_missing(rt: HostRuntime) -> Result<(),
     Ok(())
 }
 
-// A first line, and then this one so many times.
+// A first line, followed by another line `count` times.
 fn repeated(alloc: Global, first: &[u8], line: &[u8], count: usize) -> Result<Vec<u8>, Fail> {
     let mut input = Vec::from_slice(alloc, first)?;
     for _ in 0..count {

@@ -10,7 +10,7 @@ type Row = (&'static [u8], u64, AuditReason);
 const TRACES: [Row; 18] = [
     // no line at all
     (b"", 1, AuditReason::Script(Reason::NoNodesLine)),
-    // no line but one that is passed over
+    // no line except one that is passed over
     (b"# c\n", 2, AuditReason::Script(Reason::NoNodesLine)),
     // the divider, a `show` line or another row of the table before a configuration
     (b"--\n", 1, AuditReason::Script(Reason::NoNodesLine)),
@@ -45,7 +45,7 @@ const TRACES: [Row; 18] = [
         2,
         AuditReason::Script(Reason::NoMessage),
     ),
-    // a line that only begins as the divider
+    // a line that only begins like the divider
     (
         b"nodes 3 1 1\n-- \n",
         2,
@@ -116,7 +116,7 @@ const REPORTS: [(&[u8], u64); 9] = [
         b"l0 learned 0: -\nl0 replies: -\nl0 state: -\nevents 0 messages 0\n",
         4,
     ),
-    // a line is there twice
+    // a line occurs twice
     (
         b"l0 learned 0: -\nl0 learned 0: -\nl0 state: -\nl0 replies: -\nevents 0 messages 0\n",
         4,

@@ -1,4 +1,4 @@
--- What changes do to an image, and which commands it has run then.
+-- What changes do to an image, and which commands it has run after them.
 use Rattle.std.specs.Prelude.{◌≡◌, ◌+◌, List, [], ◌∷◌, ◌++◌, length, fold}
 use Rattle.gp_command.specs.declared.command.Command.{Command}
 use Rattle.gp_replica.specs.Machines.{state_after}
@@ -17,23 +17,23 @@ changed s Restart = record s { store = store_rules.opening; count = 0 }
 changed s (Run c) = record s { store = after_command s.store c; count = s.count + 1 }
 changed s (Reach b) = record s { goal = b }
 
--- the commands that were run, first these and then those of the changes
+-- the commands that were run: first these, and then those of the changes
 abbrev pub listed : List Command → List Change → List Command
 listed cs [] = cs
 listed cs (Restart ∷ changes) = listed [] changes
 listed cs (Run c ∷ changes) = listed (cs ++ c ∷ []) changes
 listed cs (Reach b ∷ changes) = listed cs changes
 
--- the store is that after these commands, and the count is theirs
+-- the store is the state after these commands, and the count is their number
 pub record HasRun (s : Shown) (cs : List Command) : Type 0 where
   pub store : s.store ≡ state_after store_rules cs
   pub count : s.count ≡ length cs
 
--- it has run the list that it stands for
+-- it has run the list that it represents
 abbrev pub IsWhole : Shown → Type 0
 IsWhole s = HasRun s s.goal.list
 
--- what the changes make of it is of the same feed, and whole
+-- the image after the changes is of the same feed, and has run the list that it represents
 pub record MayFollow (s : Shown) (changes : List Change) : Type 0 where
   pub feed : (fold changed s changes).goal.feed ≡ s.goal.feed
   pub whole : IsWhole (fold changed s changes)

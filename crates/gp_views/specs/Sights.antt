@@ -1,4 +1,4 @@
--- What seats know, which is the feed, and the rule that they keep.
+-- What seats know, which is the feed, and the rule that is kept.
 use Rattle.std.specs.Prelude.{◌≡◌, ℕ, List, Option, Some, None}
 use mathlib.Core.Option.{some}
 use lib.ListN.{get_elem?}
@@ -22,13 +22,13 @@ pub record Keeps (x : Image) (sights : List (Option Published)) : Type 0 where
   pub whole : IsWhole (shown_of x)
   pub each : (seat : ℕ) (v : Option Published) → get_elem? sights seat ≡ some v → Knows x.goal.feed v
 
--- a read finds an image that is whole, of the feed that is known
+-- a read finds an image that has run its list and is of the known feed
 pub record Finds (v : Option Published) (x : Image) (w : Option Published) : Type 0 where
   pub same : w ≡ v
   pub whole : IsWhole (shown_of x)
   pub feed : Knows x.goal.feed v
 
--- the longer of two: the second only where it is not known
+-- what the first one knows, or else what the second one knows
 abbrev pub joined : Option Published → Option Published → Option Published
 joined None w = w
 joined (Some p) w = Some p

@@ -1,5 +1,5 @@
-//! The book of a feed: each list that it commits, of which each extends those before it. The lists exist in proofs
-//! alone. What lies in memory is how many there are.
+//! The book of a feed: the lists that it commits, each of which extends those before it. The lists
+//! exist only in proofs. Memory holds how many there are.
 ghost use Rattle.std.specs.Prelude.{◌≡◌, [], false, IsTrue, IfOk, IfSome};
 ghost use Rattle.std.specs.Arc.{arc_value};
 ghost use Rattle.gp_views.specs.Books.{count_of};
@@ -12,8 +12,8 @@ use std::alloc::Global;
 use std::marker::Model;
 use std::sync::Arc;
 
-/// An entry of a book is a list of commands. No value of it is made: a clause reads an array as a list, of any
-/// length.
+/// An entry of a book is a list of commands. No value of this type is made: a clause reads an array
+/// as a list, of any length.
 pub type List = [Command; 0];
 
 /// The rule of a book.
@@ -37,7 +37,7 @@ impl Rule<List, ()> for Nested {
     ghost moves = { λ ask before after answer. Unit {0} };
 }
 
-// Callers trade nothing.
+// Callers gain nothing.
 struct Nothing;
 
 impl Gain<List, ()> for Nothing {
@@ -64,10 +64,10 @@ impl Plain<Batch, List, ()> for Add {
     ghost state = { λ batch. None };
 }
 
-/// How many lists the book has, which threads share.
+/// How many lists the book has. Threads share this count.
 pub type Count = Word<List, (), Nested>;
 
-/// A list that was committed, and how many there were then. Contracts see it as its feed and the list.
+/// A list that was committed, and how many there were then. A contract sees its feed and the list.
 #[derive(Drop)]
 pub struct Mark {
     seen: Seen<List, (), Nested>,
@@ -96,7 +96,8 @@ impl Mark {
         }
     }
 
-    /// Whether it was committed no later than the other. Of two lists of one feed the later extends the earlier.
+    /// Whether this list was committed no later than the other one. Of two lists of one feed, the
+    /// later one extends the earlier one.
     pub fn is_no_later(&self, other: &Mark) -> bool
         requires { other.now.feed ≡ self.now.feed }
         ensures no_later { IsTrue result → Extends other.now.list self.now.list }
@@ -108,7 +109,7 @@ impl Mark {
     }
 }
 
-// A rule that says nothing.
+// A rule that requires nothing.
 struct Anything;
 
 impl Rule<List, ()> for Anything {
@@ -135,7 +136,7 @@ impl Opening<History, List> for Anything {
     ghost log = { λ count ran. ran ∷ [] };
 }
 
-// What a replica ran, which only clauses read: the one list of a book of its own. It has no bytes.
+// What a replica ran, for clauses only: the one list of a book of its own. It has no bytes.
 #[derive(Drop)]
 struct Ran {
     list: Seen<List, (), Anything>,
@@ -168,13 +169,14 @@ impl Ran {
     }
 }
 
-/// A list that may be committed behind the mark that it was made at. Contracts see it as its feed and the list.
+/// A list that may be committed next after the mark that it was made from. A contract sees its feed
+/// and the list.
 #[derive(Drop)]
 pub struct Batch {
     count: Arc<Count, Global>,
     seen: Seen<List, (), Nested>,
     lists: u64,
-    // what a replica ran, or nothing where the list is the last one again
+    // what a replica ran, or nothing if the list is the last one again
     ran: Option<Ran>,
 }
 
@@ -207,7 +209,7 @@ impl Batch {
         })
     }
 
-    /// What a replica ran, which extends the list of the mark.
+    /// What a replica ran. It must extend the list of the mark.
     pub fn of(count: &Arc<Count, Global>, mark: &Mark, ran: &History) -> Result<Batch, NoMemory>
         requires count { arc_value count.now ≡ count_of mark.now.feed }
         requires more { Extends ran.now mark.now.list }
@@ -221,7 +223,9 @@ impl Batch {
         })
     }
 
-    /// Commits the list, and gives its mark. It gives none where another list was committed behind that mark.
+    /// Commits the list and returns its mark. The result is `None` if another list was committed
+    /// after the mark that the batch was made from, or if no number is left; no clause gives these
+    /// causes.
     pub fn commit(&self) -> Option<Mark>
         ensures { IfSome result (λ m. m ≡ self.now) }
     {
@@ -240,7 +244,7 @@ impl Batch {
     }
 }
 
-/// The feed and the list of a batch, which only clauses read. It has no bytes.
+/// The feed and the list of a batch, for clauses only. It has no bytes.
 #[derive(Drop)]
 pub struct Goal {
     seen: Seen<List, (), Nested>,
@@ -277,7 +281,7 @@ fn again(ran: &Option<Ran>) -> Option<Ran>
     }
 }
 
-/// A new book with no list: the word that counts them, and a mark of the empty list.
+/// A new book without lists: the word that counts them, and a mark of the empty list.
 pub fn open(alloc: Global) -> Result<(Arc<Count, Global>, Mark), NoMemory>
     ensures count { IfOk result (λ t. arc_value t.0 ≡ count_of t.1.feed) }
     ensures empty { IfOk result (λ t. t.1.list ≡ []) }

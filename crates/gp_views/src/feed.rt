@@ -24,13 +24,14 @@ use std::alloc::{AllocError, Global};
 use std::marker::Model;
 use std::sync::{Arc, Wait};
 
-/// What publishes the commands that a replica ran, for readers to see. It is not `Drop`: end it by `close`.
+/// Publishes the commands that a replica ran, so that readers see them. A contract sees the feed
+/// and its published list. A feed is not `Drop`: end it with `close`.
 pub struct Feed {
     end: FeedEnd,
     count: Arc<Count, Global>,
     // the last mark of the list
     mark: Option<Mark>,
-    // a publish was refused and may have left changes behind, which are not of the list
+    // a publish was refused and may have left changes that are not of the list
     stale: bool,
 }
 
@@ -54,7 +55,7 @@ impl Model for Feed {
 }
 
 impl Feed {
-    /// A feed that has published nothing, and its readers.
+    /// A feed that has published nothing, and its `readers` readers, from 1 to 16.
     pub fn new<R: Wait>(
         rt: &R,
         alloc: Global,
@@ -85,8 +86,9 @@ impl Feed {
         }
     }
 
-    /// Publishes at once what the replica ran behind the published list, and answers how many commands
-    /// these were. Where memory runs out nothing new is published.
+    /// Publishes what the replica ran after the published list, and returns how many commands these
+    /// were. What the replica ran must extend the published list. If memory runs out, the published
+    /// list stays as it was.
     pub fn publish<R: Wait>(
         &mut self,
         rt: &R,
@@ -113,7 +115,7 @@ impl Feed {
         Ok(ran.len() - before)
     }
 
-    /// A note of the published list, for one reader.
+    /// A note of the published list, for one reader. The feed stays as it was.
     pub fn tell(&mut self) -> Result<Told, NoMemory>
         ensures told { IfOk result (λ told. told ≡ self.old) }
         ensures kept { self.new ≡ self.old }
@@ -124,7 +126,8 @@ impl Feed {
         }
     }
 
-    /// Ends it. It waits for the readers that are reading; from then on no read is made.
+    /// Ends the feed. It waits for the readers that are reading. Afterwards `Reader::get` returns
+    /// `Unread`; this is tested, and no clause says it.
     pub fn close<R: Wait>(self, rt: &R) {
         let Feed {
             end,
@@ -135,7 +138,8 @@ impl Feed {
         drop(end.take(rt));
     }
 
-    // The batch of what a replica ran. Where changes were left behind, a batch may be among them.
+    // The batch of what a replica ran. If changes of a refused publish are left, a batch may be
+    // among them.
     fn batch(&mut self, ran: &History) -> Result<Batch, NoMemory>
         requires { Extends ran.now self.old.list }
         ensures batch { IfOk result (λ b. b ≡ record { feed = self.old.feed; list = ran.now }) }
@@ -234,7 +238,7 @@ fn first_reader(end: &mut FeedEnd, mark: &Mark) -> Result<Reader, NoMemory>
     Ok(Reader::new(reader, mark))
 }
 
-// Appends what makes the image run the whole of `ran` and stand for it.
+// Appends the changes by which the image runs all of `ran` and represents it.
 fn append(
     end: &mut FeedEnd,
     stale: bool,
@@ -257,7 +261,8 @@ fn append(
     put(end, Change::Reach(batch))
 }
 
-// Appends the commands alone. Where changes were left behind it begins anew.
+// Appends only the commands. If changes of a refused publish are left, the image starts again from
+// nothing.
 fn run_rest(end: &mut FeedEnd, stale: bool, ran: &History, before: usize) -> Result<(), NoMemory>
     requires fresh { stale ≡ false → drop end.old.behind end.old.log.items ≡ [] }
     requires more { Extends ran.now end.old.desk.shown.value.goal.list

@@ -10,16 +10,16 @@ use gp_store::KeyStore;
 use left_right::Absorb;
 use std::alloc::{AllocError, Global};
 
-/// What both copies have in common: a store, how many commands it has run, and the list that it stands for.
-/// No value of it is made.
+/// What both copies have in common: a store, how many commands it has run, and the list that it
+/// represents. No value of this type is made.
 pub struct Shown {
     pub store: KeyStore,
     pub count: u64,
     pub goal: Batch,
 }
 
-/// A store, how many commands it has run, the list that it stands for, and the mark of that list. The copy
-/// that readers do not take may have no mark.
+/// A store, how many commands it has run, the list that it represents, and the mark of that list.
+/// The copy that readers do not take may have no mark.
 #[derive(Drop)]
 pub struct Image {
     pub store: KeyStore,
@@ -30,21 +30,22 @@ pub struct Image {
     ghost marked: { ForSome mark (λ m. m ≡ goal) },
 }
 
-/// What is done to an image.
+/// A change of an image.
 #[derive(Drop)]
 pub enum Change {
-    /// It has run nothing, as at first.
+    /// It has run nothing, as at the start.
     Restart,
     /// It runs the command.
     Run(Command),
-    /// It stands for the batch's list from now on.
+    /// It represents the batch's list from now on.
     Reach(Batch),
 }
 
 impl Image {
     ghost use Rattle.gp_views.specs.Images.{shown_of};
 
-    /// It has run nothing, and stands for the list of the mark, as the batch does.
+    /// An image that has run nothing. It represents the list of the mark, which must be the batch's
+    /// list.
     pub fn new(alloc: Global, batch: &Batch, mark: &Mark) -> Result<Image, NoMemory>
         requires { mark.now ≡ batch.now }
         ensures { IfOk result (λ x. shown_of x
@@ -69,7 +70,7 @@ impl Image {
         Ok(())
     }
 
-    // A count at the end of its type is as a memory that is full.
+    // If the count is the greatest number of its type, the result is `NoMemory`.
     fn run(&mut self, c: &Command) -> Result<(), NoMemory>
         ensures next { OnOk result (shown_of self.new
             ≡ record (shown_of self.old) { store = after_command self.old.store c.now; count = self.old.count + 1 }) }
@@ -116,7 +117,7 @@ impl Absorb<Change> for Image {
         }
     }
 
-    // The list was committed when the other copy took the batch in.
+    // The list was committed when the other copy took it in.
     fn absorb_second(&mut self, change: Change, _other: &Image) -> Result<(), Change> {
         let done = match &change {
             Change::Restart => self.restart(),

@@ -1,4 +1,4 @@
-//! Local reads of a key store that never wait: one feed publishes what a replica ran, and readers read it with no
+//! Local reads of a key store: a feed publishes what a replica ran, and readers read it without a
 //! lock.
 #![tactic(auto)]
 

@@ -17,11 +17,11 @@ use gp_command::Key;
 use std::marker::Model;
 use std::sync::Wait;
 
-/// There was no read.
+/// No read was made.
 #[derive(Clone, Copy, Debug, PartialEq, Eq)]
 pub struct Unread;
 
-/// A reader of what a feed publishes. It waits for nobody.
+/// A reader of what a feed publishes. Of its calls only `read` may wait.
 #[derive(Drop)]
 pub struct Reader {
     end: ReaderEnd,
@@ -53,7 +53,7 @@ struct Found {
 }
 
 impl Reader {
-    /// One that has seen the list of the mark, which is empty.
+    /// A reader that has seen the list of the mark, which is empty.
     pub(crate) fn new(end: ReaderEnd, mark: &Mark) -> Reader
         requires feed { known (view end.place) ≡ Some mark.now.feed }
         requires empty { mark.now.list ≡ [] }
@@ -67,15 +67,16 @@ impl Reader {
         }
     }
 
-    /// How many commands it has seen. It takes no memory.
+    /// How many commands it has seen.
     pub fn seen(&self) -> u64
         ensures { result ≡ length self.now.seen }
     {
         self.count
     }
 
-    /// Learns what was published when the note was made: what it sees from then on extends that. Of all notes
-    /// the longest list is kept, which extends the others. It takes no memory.
+    /// Learns what was published when the note was made: later reads see that list, or one that
+    /// extends it. The note must be of the reader's feed. The reader keeps the longest list of its
+    /// notes, which extends the others.
     pub fn learn(&mut self, told: Told)
         requires { told.feed ≡ self.old.feed }
         ensures told { Extends self.new.told told.list }
@@ -89,8 +90,10 @@ impl Reader {
         }
     }
 
-    /// The value at the key after the commands that it has seen then, and `None` where the key is absent.
-    /// They extend what it had seen before and all that it was told of. It waits for nobody.
+    /// The value at the key after the commands that the reader has seen then, or `None` if the key
+    /// is absent. These commands extend what it had seen before, and each list that it learned from
+    /// a note. After `Unread` the reader has seen what it had seen before. No clause says when
+    /// `Unread` is returned.
     pub fn get(&mut self, key: Key) -> Result<Option<u64>, Unread>
         ensures value { IfOk result (λ value. value ≡ value_at (state_after store_rules self.new.seen) key) }
         ensures later { OnOk result (Extends self.new.seen self.old.seen) }
@@ -107,7 +110,7 @@ impl Reader {
         Ok(found.value)
     }
 
-    /// The same, again and again until there was a read.
+    /// The same, repeated until a read is made. No clause says that the call returns.
     pub fn read<R: Wait>(&mut self, rt: &R, key: Key) -> Option<u64>
         ensures value { result ≡ value_at (state_after store_rules self.new.seen) key }
         ensures later { Extends self.new.seen self.old.seen }
@@ -124,8 +127,8 @@ impl Reader {
         unreachable!()
     }
 
-    /// Whether what it has seen was published no later than what the other has seen. Of what two readers of one
-    /// feed have seen, one list extends the other. It takes no memory.
+    /// Whether what this reader has seen was published no later than what the other one has seen.
+    /// Both must be readers of the same feed. Of what they have seen, one list extends the other.
     pub fn is_no_later(&self, other: &Reader) -> bool
         requires { other.now.feed ≡ self.now.feed }
         ensures no_later { IsTrue result → Extends other.now.seen self.now.seen }
@@ -134,8 +137,8 @@ impl Reader {
         self.seen.is_no_later(&other.seen)
     }
 
-    /// Whether what the note tells of was published no later than what was seen. Of the two lists one extends
-    /// the other. It takes no memory.
+    /// Whether the list of the note was published no later than what the reader has seen. The note
+    /// must be of the reader's feed. Of the two lists, one extends the other.
     pub fn has_seen(&self, told: &Told) -> bool
         requires { told.now.feed ≡ self.now.feed }
         ensures seen { IsTrue result → Extends self.now.seen told.now.list }

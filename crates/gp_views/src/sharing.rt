@@ -1,4 +1,5 @@
-//! What may cross threads. A call of these functions does nothing: that they compile is what they show.
+//! What may be moved between threads. A call of these functions does nothing. That they compile
+//! shows that the type may be moved.
 use crate::feed::Feed;
 use crate::reader::Reader;
 use crate::told::Told;

@@ -1,4 +1,4 @@
-//! What the two copies are shared under: the rule that `left_right` keeps, and what its steps tell.
+//! How the two copies are shared: the rule that `left_right` keeps, and what its steps say.
 ghost use Rattle.gp_views.specs.Sights.{Keeps, Finds, joined};
 
 use crate::book::Mark;
@@ -8,8 +8,8 @@ use crossbeam_utils::rule::{Outcome, Protocol};
 use left_right::reader;
 use left_right::writer::Writer;
 
-/// The image has run the list that it stands for. What a seat knows is the feed, or nothing; of the mark
-/// only that counts, and no value of it is made.
+/// The image has run the list that it represents. What a seat knows is the feed, or nothing. Of the
+/// mark in this type only the feed counts, and no value of it is made.
 pub struct Whole;
 
 impl Protocol<Image, Option<Mark>> for Whole {
@@ -36,7 +36,7 @@ impl Outcome<Image, Option<Mark>> for Showing {
     ghost then = { λ v x y w. w ≡ Some y.goal };
 }
 
-/// A seat that is told of the feed.
+/// A seat learns the feed.
 pub struct Telling;
 
 impl Split<Option<Mark>> for Telling {

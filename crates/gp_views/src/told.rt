@@ -2,7 +2,8 @@
 use crate::book::Mark;
 use std::marker::Model;
 
-/// A note of a feed's published list, which one reader learns. Contracts see it as its feed and the list.
+/// A note of a feed's published list, which one reader learns. A contract sees its feed and the
+/// list.
 #[derive(Drop)]
 pub struct Told {
     pub(crate) mark: Mark,

@@ -1,4 +1,5 @@
-//! A reader's thread that is held between two reads, until another thread has published and told.
+//! A reader's thread that is held between two reads, until another thread has published and
+//! notified it.
 ghost use Rattle.std.specs.Prelude.{◌≡◌, []};
 ghost use Rattle.gp_views_tests.specs.Names.{no_feed};
 

@@ -1,14 +1,10 @@
 //! Replicas that have run a few commands.
-ghost use Rattle.std.specs.Prelude.{◌≡◌, ◌≢◌, ◌<◌, ◌≤◌, ℕ, IsTrue, OnOk, Some, length, slice_get};
-ghost use Rattle.gp_command.specs.declared.command.Command.{Command};
-ghost use Rattle.gp_history.specs.Sequence.{history_of};
-ghost use Rattle.gp_replica.specs.Runs.{HasDistinctIds};
 ghost use Rattle.gp_views.specs.Lists.{Extends};
 
 use gp_command::{Command, CommandId};
 use gp_history::Hist;
 use gp_index::History;
-use gp_replica::Replica;
+use gp_replica::{Replica, has_distinct_ids};
 use gp_store::{KeyStore, Op, draft_of};
 use std::alloc::Global;
 use std::process::Abort;
@@ -24,32 +20,8 @@ pub fn learn(learned: &mut History, alloc: Global, number: u32, op: Op) -> Resul
     Ok(())
 }
 
-// Whether no command before a place has this identity.
-fn is_new(learned: &History, place: usize, id: CommandId) -> bool
-    requires { place ≤ length learned.now }
-    ensures { IsTrue result → (i : ℕ) (c : Command) → i < place → slice_get learned.now i ≡ Some c → c.id ≢ id }
-{
-    for i in 0..place {
-        if learned.at(i).id() == id {
-            return false;
-        }
-    }
-    true
-}
-
-// Whether each command has an identity of its own.
-fn has_distinct_ids(learned: &History) -> bool
-    ensures { IsTrue result → HasDistinctIds (history_of learned.now) }
-{
-    for place in 0..learned.len() {
-        if !is_new(learned, place, learned.at(place).id()) {
-            return false;
-        }
-    }
-    true
-}
-
-/// Catches up, if the history is one to which a replica may be led. It then has run what it had run, and more.
+/// Catches up, if the history is one with which a replica may catch up. The replica then has run
+/// what it had run, and more.
 pub fn catch_up(
     rt: &impl Abort,
     replica: &mut Replica<KeyStore>,
@@ -58,7 +30,9 @@ pub fn catch_up(
     ensures { Extends replica.new replica.old }
 {
     assert!(rt; replica.ran().is_prefix(learned));
-    assert!(rt; has_distinct_ids(learned));
+    if !has_distinct_ids(learned) {
+        panic!(rt; "two commands have the same identity");
+    }
     Ok(replica.catch_up(learned)?)
 }
 

@@ -1,4 +1,5 @@
-//! A publish that is refused, and then one of another sequence. Run it with one allocation after another failing too.
+//! A publish that is refused, and then one of another sequence. Run it also with each allocation
+//! failing in turn.
 ghost use Rattle.std.specs.Prelude.{◌≡◌, []};
 
 use crate::histories::replica_of;
@@ -9,10 +10,10 @@ use gp_views::{Feed, Reader};
 use std::sync::Wait;
 use std::test::Fail;
 
-// Which publish was answered, and how many commands it published.
+// Whether the first publish succeeded, and how many commands were published.
 type Published = (bool, usize);
 
-// Publishes what the first has run, and where that is refused what the second has run.
+// Publishes what the first has run, and if that is refused, what the second has run.
 fn publish_one<R: Wait>(
     rt: &R,
     feed: &mut Feed,
@@ -31,7 +32,7 @@ fn publish_one<R: Wait>(
     }
 }
 
-// What a reader that was told sees then.
+// What a reader sees after it was notified.
 fn read_told(feed: &mut Feed, reader: &mut Reader, key: Key) -> Option<(u64, Option<u64>)>
     requires { reader.old.feed ≡ feed.old.feed }
 {

@@ -9,7 +9,7 @@ use gp_views::{Feed, Reader, Unread};
 use std::sync::Wait;
 use std::test::Fail;
 
-// What two readers of one feed find, of which the second alone is told.
+// What two readers of one feed find; only the second is notified.
 #[derive(Drop, Debug, PartialEq, Eq)]
 struct Findings {
     before: bool,

@@ -1,4 +1,4 @@
-//! Eight readers beside one writer, each in a thread of its own.
+//! Eight readers and one writer, each in a thread of its own.
 ghost use Rattle.std.specs.Prelude.{◌≡◌, ◌<◌, [], OnOk, length};
 
 use crate::histories::{catch_up, learn};
@@ -18,12 +18,12 @@ use std::thread::Threads;
 
 const READERS: u32 = 8;
 
-// Of each feed.
+// The number of publishes of each feed.
 const PUBLISHES: u32 = 100;
 
 const FEEDS: u32 = 20;
 
-// A reader reads so often, or until it has seen all.
+// The number of reads of a reader, unless it has seen all before.
 const READS: u32 = 2_000;
 
 // A reader, and whether all that it read was right.
@@ -38,7 +38,8 @@ fn value_after(seen: u64) -> Option<u64> {
     if seen == 0 { None } else { Some(seen) }
 }
 
-// Reads once. A read is right if its value is that after what was seen, and no less was seen than before.
+// Reads once. A read is right if its value is the one after the commands that were seen, and no
+// fewer were seen than before.
 fn look(watcher: &mut Watcher, key: Key) {
     let before = watcher.reader.seen();
     let value = watcher.reader.get(key);
@@ -123,7 +124,7 @@ fn watchers(alloc: Global, readers: Vec<Reader>) -> Result<Vec<Watcher>, Fail> {
     Ok(watchers)
 }
 
-// Whether all that was read was right, and each reader sees all once the writer is done.
+// Whether all that was read was right, and each reader sees all after the writer is done.
 fn are_right(watchers: &mut [Watcher], key: Key) -> bool {
     let mut right = true;
     for watcher in watchers {

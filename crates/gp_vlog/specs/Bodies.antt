@@ -1,11 +1,11 @@
--- The body of an entry: what it stands for behind another entry, and what is written for a durable part.
+-- The body of an entry: what it means after another entry, and what is written for a durable part.
 use Rattle.std.specs.Prelude.{◌≡◌, ℕ, zero, suc, ◌+◌, Bool, true, false, not, ◌&&◌, ◌||◌, List, [], ◌∷◌, ◌++◌, length, drop, Option, Some, None, Result, Ok, Err, nat_lt, nat_le, nat_eq, if◌then◌else◌}
 use Rattle.std.specs.Int.{w32, to_le_bytes, from_le_bytes}
 use Rattle.std.specs.List.{flat_map}
 use Rattle.gp_command.specs.declared.command.Command.{Command}
 use Rattle.gp_command.specs.declared.reading.ReadRefused.{ReadRefused}
 use Rattle.gp_command.specs.Spelling.{spelling}
-use Rattle.gp_command.specs.Reading.{reading, when}
+use Rattle.gp_command.specs.Reading.{command_reading, when}
 use Rattle.gp_history.specs.History.{History, empty, size, pushes}
 use Rattle.gp_round.specs.declared.round.Mode.{Mode}
 use Rattle.gp_round.specs.declared.round.Mode.TheVariants.{Single, Multi, Fast}
@@ -32,7 +32,7 @@ coordinators epoch round = record { epoch = epoch; part = Coordinators round }
 
 -- ---- rounds
 
--- a coordinator, and 0 in a multi round
+-- the greatest lead of a round of this mode: 4, or 0 in a multi round
 abbrev pub most_lead : Mode → ℕ
 most_lead Single = 4
 most_lead Multi = 0
@@ -49,7 +49,7 @@ is_round r = is_zero r || (nat_le 1 r.count && (nat_le r.count LAST_COUNT && nat
 abbrev pub round_spelling : Round → List ℕ
 round_spelling r = to_le_bytes w32 r.count ++ (mode_number r.mode ∷ to_le_bytes w32 r.lead)
 
--- ---- what a body stands for: each field is read with what is left behind it
+-- ---- what a body means: each field is read, with the bytes that remain after it
 
 infixl 10 ◌>>=◌
 abbrev pub ◌>>=◌ : {A B : Type 0} → Option A → (A → Option B) → Option B
@@ -85,9 +85,9 @@ found bytes (Ok x) = Some (x.0, drop x.1 bytes)
 found bytes (Err e) = None
 
 unfoldable pub command_at : List ℕ → Option (Command × List ℕ)
-command_at bytes = found bytes (reading bytes)
+command_at bytes = found bytes (command_reading bytes)
 
--- so many commands
+-- this number of commands, one after another
 unfoldable pub commands_at : ℕ → List ℕ → Option (List Command × List ℕ)
 commands_at zero bytes = Some ([], bytes)
 commands_at (suc n) bytes = do
@@ -95,7 +95,7 @@ commands_at (suc n) bytes = do
   others ← commands_at n first.1
   Some (first.0 ∷ others.0, others.1)
 
--- round, voted round, and the commands that the vote has more than `base`
+-- round, voted round, and the commands that the vote has and `base` lacks
 unfoldable pub acceptor_at : ℕ → History → List ℕ → Option EpochPart
 acceptor_at epoch base bytes = do
   round ← round_at bytes
@@ -120,12 +120,12 @@ kind_of first =
     else if nat_eq first 19 then Some (false, Adding)
     else None
 
--- version 1 has epoch 0 alone
+-- version 1 has only epoch 0
 abbrev pub epoch_at : Bool → List ℕ → Option (ℕ × List ℕ)
 epoch_at true bytes = Some (0, bytes)
 epoch_at false bytes = number_at bytes
 
--- the vote of an acceptor's part of this epoch, where it is not empty
+-- the vote of an acceptor's part of this epoch, if it is not empty
 abbrev pub vote_of : Part → Bool → Option History
 vote_of (Acceptors r q u) is_same = when (is_same && nat_lt 0 (size u)) u
 vote_of (Coordinators r) is_same = None
@@ -152,7 +152,7 @@ fits_version (Some before) false = not before.old
 abbrev pub entry_with : Bool → EpochPart → LogEntry
 entry_with old part = record { old = old; part = part }
 
--- the entry that a body stands for behind another, where it keeps the rules
+-- the entry that a body means after another one, if it keeps the rules
 unfoldable pub entry_of : Option LogEntry → List ℕ → Option LogEntry
 entry_of before [] = None
 entry_of before (first ∷ bytes) = do
@@ -161,13 +161,13 @@ entry_of before (first ∷ bytes) = do
   part ← part_at kind.1 (part_before before) epoch.0 epoch.1
   when (fits_version before kind.0) (entry_with kind.0 part)
 
--- what was written of a command is read, whatever follows
+-- what was written for a command is read again, whatever bytes follow
 abbrev pub IsReadAgain : Command → Type 0
-IsReadAgain c = (rest : List ℕ) → reading (spelling c ++ rest) ≡ Ok (c, length (spelling c))
+IsReadAgain c = (rest : List ℕ) → command_reading (spelling c ++ rest) ≡ Ok (c, length (spelling c))
 
 -- ---- what is written, which is of version 2
 
--- the vote before, where the new one only adds to it
+-- the vote before, if the new one only adds to it
 abbrev pub base_for : Option EpochPart → ℕ → History → Option History
 base_for before epoch vote = vote_before before epoch >>= λ base. when (is_prefix base vote) base
 
@@ -177,7 +177,7 @@ vote_spelling commands = to_le_bytes w32 (length commands) ++ flat_map spelling 
 abbrev pub acceptor_body : ℕ → ℕ → Round → Round → List Command → List ℕ
 acceptor_body first epoch round voted commands = first ∷ (to_le_bytes w32 epoch ++ (round_spelling round ++ (round_spelling voted ++ vote_spelling commands)))
 
--- the whole vote is added to the empty one
+-- without a base the whole vote is added to the empty one
 abbrev pub base_or_empty : Option History → History
 base_or_empty None = empty
 base_or_empty (Some base) = base
@@ -192,15 +192,15 @@ votes_body epoch round voted vote base = acceptor_body (first_byte base) epoch r
 abbrev pub coordinator_body : ℕ → Round → List ℕ
 coordinator_body epoch round = 18 ∷ (to_le_bytes w32 epoch ++ round_spelling round)
 
--- the body for a part in an epoch, behind another
+-- the body for a part in an epoch, after another part
 abbrev pub body_in : Option EpochPart → ℕ → Part → List ℕ
 body_in before epoch (Acceptors round voted vote) = votes_body epoch round voted vote (base_for before epoch vote)
 body_in before epoch (Coordinators round) = coordinator_body epoch round
 
--- the body for a durable part behind another
+-- the body for a durable part after another one
 unfoldable pub body_of : Option EpochPart → EpochPart → List ℕ
 body_of before entry = body_in before entry.epoch entry.part
 
--- length, body and next gate
+-- the number of bytes of the length, the body and the next gate
 unfoldable pub need : Option EpochPart → EpochPart → ℕ
 need before part = 5 + length (body_of before part)

@@ -5,11 +5,11 @@ use Rattle.gp_vlog.specs.Bodies.{LogEntry, entry_of}
 use Rattle.gp_vlog.specs.Gates.{length_at}
 use Rattle.gp_vlog.specs.Files.{Contents, magic, is_second, first_gate}
 
--- the limit that stands at place 8
+-- the limit, which is at place 8
 abbrev pub limit_in : List ℕ → ℕ
 limit_in s = from_le_bytes w32 (take 4 (drop 8 s))
 
--- where the active area begins: the switch stands at place 12
+-- the place where the active area begins; the switch is at place 12
 abbrev pub area_start : List ℕ → ℕ
 area_start s = first_gate (limit_in s) (is_second (get_or s 12 0))
 
@@ -17,11 +17,11 @@ area_start s = first_gate (limit_in s) (is_second (get_or s 12 0))
 abbrev pub area_bytes : List ℕ → List ℕ
 area_bytes s = drop (area_start s) s
 
--- a gate that is there and is not closed
+-- a gate inside the area that is not closed
 abbrev pub IsOpen : List ℕ → ℕ → Type 0
 IsOpen area g = (g < length area) × (get_or area g 0 ≢ 0)
 
--- the place of the gate behind the entry of an open gate
+-- the place of the gate after the entry of an open gate
 abbrev pub next_gate : List ℕ → ℕ → ℕ
 next_gate area g = g + (5 + length_at (drop (g + 1) area))
 
@@ -59,11 +59,11 @@ pub data Breaks (in_range : ℕ → Bool) (s : List ℕ) (p : ℕ) : Type 0 wher
   WrongName : p < 8 → p < length s → get_or s p 0 ≢ get_or magic p 0 → Breaks in_range s p
   -- a limit out of range
   WrongLimit : p ≡ 8 → 12 ≤ length s → in_range (limit_in s) ≡ false → Breaks in_range s p
-  -- a byte behind the switch that is not zero
+  -- a byte after the switch that is not zero
   NotZero : 13 ≤ p → p < 16 → p < length s → get_or s p 0 ≢ 0 → Breaks in_range s p
   -- the first gate of the active area is not inside the file
   NoGate : HasArea in_range s → p ≡ area_start s → length s ≤ p → Breaks in_range s p
-  -- an open gate of the active area without a whole entry behind it
+  -- an open gate of the active area without a whole entry after it
   NoEntry : HasArea in_range s → (n g : ℕ) (last : Option LogEntry) → p ≡ area_start s + g
       → LeadsTo entry_of (limit_in s - 16) (area_bytes s) n None 0 last g → IsBroken entry_of (limit_in s - 16) (area_bytes s) last g → Breaks in_range s p
 
@@ -72,7 +72,7 @@ pub record BreaksFirst (in_range : ℕ → Bool) (s : List ℕ) (p : ℕ) : Type
   pub there : Breaks in_range s p
   pub smallest : (q : ℕ) → Breaks in_range s q → p ≤ q
 
--- an answer that is the smallest place of a break, or none where there is no break
+-- the result is an error at the smallest place of a break, or no error if there is no break
 abbrev pub IsFirstBreak : (ℕ → Bool) → List ℕ → Result Contents ℕ → Type 0
 IsFirstBreak in_range s (Ok x) = (q : ℕ) → Breaks in_range s q → ⊥
 IsFirstBreak in_range s (Err p) = BreaksFirst in_range s p

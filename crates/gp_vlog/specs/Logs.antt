@@ -28,7 +28,7 @@ entry_for old d = entry_with old (part_of d)
 abbrev pub log_entries : Bool → List Durable → List LogEntry
 log_entries old ds = map (entry_for old) ds
 
--- the last of them
+-- the last durable part
 abbrev pub last : List Durable → Option Durable
 last ds = slice_get ds (length ds - 1)
 
@@ -43,11 +43,11 @@ pub record Shows (limit : ℕ) (es : List LogEntry) (size : ℕ) (s : List ℕ) 
 abbrev pub HoldsEntries : ℕ → List LogEntry → List ℕ → Type 0
 HoldsEntries limit es s = (size : ℕ) × Shows limit es size s
 
--- where the disk tells, what reads give is the log, and a crash leaves that alone
+-- if the disk reveals its content, reads return this log, and a crash leaves nothing else
 abbrev pub IsReady : {D : Type 0} → (D → Option (List ℕ)) → (D → List ℕ → Type 0) → LogState D → Type 0
 IsReady content image log = IfRevealed (content log.disk) (λ s. Shows log.limit (log_entries log.is_old log.entries) log.size s × Only s (image log.disk))
 
--- what a log keeps of its disk
+-- the invariant of a log and its disk
 pub record IsOnDisk {D : Type 0} (content : D → Option (List ℕ)) (image : D → List ℕ → Type 0) (disk : D) (limit : ℕ) (second old : Bool) (entries : List LogEntry) (closed : ℕ) (ready : Bool) : Type 0 where
   pub low : LEAST_LIMIT ≤ limit
   pub high : limit ≤ MOST_LIMIT
@@ -55,7 +55,7 @@ pub record IsOnDisk {D : Type 0} (content : D → Option (List ℕ)) (image : D 
   pub some : old ≡ true → 0 < length entries
   pub revealed : ready ≡ true → IfRevealed (content disk) (λ s. (read_log is_limit s ≡ Ok (record { limit = limit; second = second; entries = entries; closed = closed })) × Only s (image disk))
 
--- the rules of a body
+-- the rules that an entry keeps
 abbrev pub KeepsRules : Durable → Type 0
 KeepsRules (Acceptor epoch round voted vote) = (is_round round ≡ true) × (is_round voted ≡ true) × (earlier round voted ≡ false) × All (λ c. IsNumbered c.id) vote
 KeepsRules (Coordinator epoch round) = is_round round ≡ true
@@ -68,13 +68,13 @@ OldOrAdded limit es e s = HoldsEntries limit es s ⊎ HoldsEntries limit (es ++ 
 abbrev pub OldOrRenewed : ℕ → List LogEntry → LogEntry → List ℕ → Type 0
 OldOrRenewed limit es e s = HoldsEntries limit es s ⊎ HoldsEntries limit (e ∷ []) s
 
--- after want of memory or a failed disk it is not ready, and where there was no room it is as it was
+-- after `Disk` and `NoMemory` the log is not ready, and after `Full` it is unchanged
 abbrev pub StaysWhole : {D T : Type 0} → LogState D → LogState D → Result T AppendFault → Type 0
 StaysWhole old new (Ok x) = new.ready ≡ true
 StaysWhole old new (Err (Full size need)) = new ≡ old
 StaysWhole old new (Err Disk) = new.ready ≡ false
 StaysWhole old new (Err NoMemory) = new.ready ≡ false
 
--- one of them is of version 1
+-- an entry is of version 1
 abbrev pub has_old : List LogEntry → Bool
 has_old es = list_any (λ e. e.old) es

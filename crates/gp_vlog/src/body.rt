@@ -1,4 +1,4 @@
-//! The bodies of entries: what is written.
+//! Writing the bodies of entries.
 ghost use Rattle.std.specs.Prelude.{◌≡◌, ◌++◌, ◌∷◌, [], ◌<◌, ◌^◌, IfOk, OnOk, None, Some, false, length};
 ghost use Rattle.std.specs.Int.{w32, to_le_bytes};
 ghost use Rattle.std.specs.List.{All, flat_map};
@@ -19,7 +19,7 @@ use gp_msg::Durable;
 use gp_round::Round;
 use std::alloc::Global;
 
-/// The body for a durable part behind another one.
+/// The body for a durable part that follows another one.
 pub(crate) fn body_of(
     alloc: Global,
     before: Option<&Durable>,
@@ -53,7 +53,7 @@ fn first_byte(base: Option<&History>) -> u8
     }
 }
 
-// The vote before, where the new one only adds to it.
+// The vote before, if the new one only adds to it.
 fn base_for<'a>(before: Option<&'a Durable>, epoch: u32, vote: &History) -> Option<&'a History>
     ensures { option_map history_of (option_copied result) ≡ base_for (option_map part_of (option_copied before.entry)) epoch (history_of vote.now) }
 {
@@ -76,8 +76,8 @@ fn base_for<'a>(before: Option<&'a Durable>, epoch: u32, vote: &History) -> Opti
     }
 }
 
-// Whether a vote only adds to another. Most votes are the one before with commands pushed behind it, which
-// their sequences show; the test of two histories costs more.
+// Whether a vote only adds to another. If the sequence of the one begins that of the other, their
+// histories are not compared.
 #[tactic(auto, using(crate::proofs::PrefixTests::begins))]
 fn is_prefix(h: &History, of: &History) -> bool
     ensures { result ≡ is_prefix (history_of h.now) (history_of of.now) }

@@ -14,7 +14,7 @@ use crate::header::header_bytes;
 use gp_edge::{Disk, Refused};
 use std::alloc::Global;
 
-/// Writes and syncs. A crash leaves an image from before, whole or with this write cut short.
+/// Writes and syncs. A crash leaves an image from before, or one with this write, whole or in part.
 fn write_down<D: Disk>(disk: &mut D, at: u64, bytes: &[u8]) -> Result<(), Refused>
     ensures written { OnOk result (IfBothRevealed (λ s t. (t ≡ put at bytes.now s) × Only t (D.image disk.new)) (D.content disk.old) (D.content disk.new)) }
     ensures reveals { RevealsAlike (D.content disk.old) (D.content disk.new) }
@@ -25,7 +25,7 @@ fn write_down<D: Disk>(disk: &mut D, at: u64, bytes: &[u8]) -> Result<(), Refuse
     disk.sync()
 }
 
-/// Writes a piece and then one byte, the one on the disk before the other.
+/// Writes a piece and then one byte. The piece is synced before the byte is written.
 pub(crate) fn write_and_mark<D: Disk>(
     disk: &mut D,
     at: u64,
@@ -59,7 +59,8 @@ fn read_whole<D: Disk>(alloc: Global, disk: &mut D) -> Result<Vec<u8>, Refused>
     Ok(bytes)
 }
 
-/// Syncs a disk and reads the log that it holds. Every limit in range is right, or the log's own alone.
+/// Syncs a disk and reads the log that it holds. The limit has to be `own`, or in range if `own` is
+/// `None`.
 pub(crate) fn load<D: Disk>(
     alloc: Global,
     disk: &mut D,
@@ -80,7 +81,7 @@ pub(crate) fn load<D: Disk>(
     Found::read(alloc, &bytes, own)
 }
 
-/// Cuts a disk to nothing and begins a log of this limit on it.
+/// Cuts a disk to length 0, and begins a log of this limit on it.
 pub(crate) fn begin<D: Disk>(alloc: Global, disk: &mut D, limit: u32) -> Result<(), OpenFault>
     ensures begun { OnOk result (IfRevealed (D.content disk.new) (λ s. (s ≡ head_bytes limit 0 ++ 0 ∷ []) × Only s (D.image disk.new))) }
     ensures place { IfErr result IsNoPlace }

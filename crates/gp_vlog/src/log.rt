@@ -22,9 +22,9 @@ use std::marker::Model;
 
 /// The durable parts of one node, in order, on a disk.
 ///
-/// A log is ready after it was created or opened, and after each append and renewal that succeeded or
-/// found no room. It then knows what its disk holds: a crash leaves the entries that it shows. After
-/// `Disk` and `NoMemory` it is not ready, and `reopen` reads it again.
+/// A log is ready after it was created or opened, and after each append and renewal that returned
+/// `Ok` or `Full`. It then knows what its disk holds: a crash leaves the entries that it shows.
+/// After `Disk` and `NoMemory` it is not ready, and `reopen` reads it again.
 ///
 /// Contracts speak of what the disk holds if the disk reveals its content. The file format is in
 /// docs/FORMATS.md. All entries are in memory, and opening reads the whole file into memory.
@@ -54,7 +54,7 @@ impl<D: Disk> Model for Log<D> {
     ghost invariant = { λ l. IsOnDisk D.content D.image l.disk l.limit l.second l.first_version (log_entries l.first_version l.entries.items) l.closed l.ready };
 }
 
-/// Why a log was not created or opened, and the disk that comes back.
+/// Why a log was not created or opened, with the disk.
 #[derive(Drop)]
 pub struct Unopened<D: Disk> {
     pub why: OpenFault,
@@ -62,11 +62,12 @@ pub struct Unopened<D: Disk> {
 }
 
 impl<D: Disk> Log<D> {
-    /// Makes a log without entries, whose size is at most `limit` bytes. What the disk held is lost.
+    /// Makes a log without entries, whose size is at most `limit` bytes. What the disk held is
+    /// lost.
     ///
-    /// It cuts the disk to nothing, writes the header with one closed gate, and syncs. It is refused with
-    /// `Disk` only if the number of faults of the disk has risen, and with `NoMemory` if memory runs out.
-    /// Nothing is promised of a crash inside this call.
+    /// It cuts the disk to length 0, writes the header with one closed gate, and syncs. It returns
+    /// `Disk` only if the number of faults of the disk has increased, and `NoMemory` if memory runs
+    /// out. It never returns `NotLog`. No clause says what a crash inside this call leaves.
     pub fn create(alloc: Global, disk: D, limit: u32) -> Result<Log<D>, Unopened<D>>
         requires low { LEAST_LIMIT ≤ limit }
         requires high { limit ≤ MOST_LIMIT }
@@ -96,10 +97,10 @@ impl<D: Disk> Log<D> {
 
     /// Opens the log that a disk holds, with all its entries.
     ///
-    /// It syncs and reads, and changes no byte. It is refused with `NotLog` only if the bytes break the
-    /// format, at the smallest place where they do; with `Disk` only if the number of faults of the disk
-    /// has risen; and with `NoMemory` if memory runs out. A disk on which a log was created is never
-    /// refused with `NotLog`, also after a crash inside an append or a renewal (`laws`).
+    /// It syncs and reads, and changes no byte. It returns `NotLog` only if the bytes break the
+    /// format, with the smallest place where they do; `Disk` only if the number of faults of the
+    /// disk has increased; and `NoMemory` if memory runs out. It never returns `NotLog` for a disk
+    /// on which a log was created, even after a crash inside an append or a renewal (`laws`).
     pub fn open(alloc: Global, disk: D) -> Result<Log<D>, Unopened<D>>
         ensures ready { IfOk result (λ log. (log.ready ≡ true) × IsReady D.content D.image log) }
         ensures rules { IfOk result (λ log. All KeepsRules log.entries) }
@@ -126,8 +127,8 @@ impl<D: Disk> Log<D> {
 
     /// Reads the log again from its disk, as `open` does, and makes it ready.
     ///
-    /// A limit other than that of this log counts as out of range, so the limit of a log never changes.
-    /// The refusals are those of `open`, and after each the log is not ready.
+    /// A limit other than that of this log counts as out of range, so the limit of a log never
+    /// changes. The errors are those of `open`. After each of them the log is not ready.
     pub fn reopen(&mut self) -> Result<(), OpenFault>
         ensures ready { OnOk result ((self.new.ready ≡ true) × IsReady D.content D.image self.new) }
         ensures rules { OnOk result (All KeepsRules self.new.entries) }
@@ -148,8 +149,8 @@ impl<D: Disk> Log<D> {
         Ok(())
     }
 
-    /// Whether it has an entry of version 1 of the format. Such a log is read but not appended to:
-    /// `renew` with its last entry takes it on. It takes no memory.
+    /// Whether it has an entry of version 1 of the format. Such a log can be read but not appended
+    /// to. `renew` with its last entry brings it to version 2.
     #[tactic(auto, using(crate::proofs::Openings::old_is_had))]
     pub fn is_old(&self) -> bool
         ensures value { result ≡ self.now.is_old }
@@ -158,14 +159,14 @@ impl<D: Disk> Log<D> {
         self.first_version
     }
 
-    /// The number of entries. It takes no memory.
+    /// The number of entries.
     pub fn count(&self) -> usize
         ensures { result ≡ length self.now.entries }
     {
         self.entries.len()
     }
 
-    /// Entry `i`, from 0, the oldest first. It takes no memory.
+    /// Entry `i`, counted from 0, the oldest first.
     pub fn entry(&self, i: usize) -> &Durable
         requires { i < length self.now.entries }
         ensures { slice_get self.now.entries i ≡ Some result.now }
@@ -173,14 +174,14 @@ impl<D: Disk> Log<D> {
         &self.entries[i]
     }
 
-    /// The number of bytes that it takes of its limit. It takes no memory.
+    /// Its size: the number of bytes that it takes of its limit.
     pub fn size(&self) -> u64
         ensures { result ≡ self.now.size }
     {
         17 + self.closed
     }
 
-    /// The disk, which comes back. It takes no memory.
+    /// Returns the disk.
     pub fn into_disk(self) -> D
         ensures { result ≡ self.disk }
     {
@@ -188,7 +189,7 @@ impl<D: Disk> Log<D> {
         disk
     }
 
-    /// Whether it may be appended to and renewed. It takes no memory.
+    /// Whether it is ready. `append` and `renew` require this.
     pub fn is_ready(&self) -> bool
         ensures value { result ≡ self.now.ready }
         ensures ready { result ≡ true → IsReady D.content D.image self.now }
@@ -196,16 +197,18 @@ impl<D: Disk> Log<D> {
         self.ready
     }
 
-    /// Appends an entry after the others. After `Ok` each crash leaves a log that has it.
+    /// Appends an entry after the others. After `Ok` a crash leaves a log that has it.
     ///
-    /// The entry and its closed gate are written and synced first; the gate before it is then opened by a
-    /// write of one byte, and synced. So a crash inside the call leaves the entries from before it, or
-    /// these and the new one. An acceptor's entry holds what its vote adds to the one before, if that is
-    /// a vote of the same epoch that is not empty and a prefix of it; else it holds the whole vote.
+    /// The entry and its closed gate are written and synced first. The gate before the entry is
+    /// then opened by a write of one byte, and synced. So a crash inside the call leaves the
+    /// entries from before it, or these and the new one. An acceptor's entry holds only what its
+    /// vote adds to the vote of the entry before it, if that vote is of the same epoch, is not
+    /// empty and is a prefix of its own. Otherwise it holds the whole vote.
     ///
-    /// It is refused with `Full` exactly if the size and the need of the entry exceed the limit, and the
-    /// log is as it was; with `Disk` only if the number of faults of the disk has risen; and with
-    /// `NoMemory` if memory runs out. After these two the log is not ready, even if nothing was written.
+    /// It returns `Full` exactly if the size and the need of the entry together exceed the limit,
+    /// unless memory runs out, and the log is then unchanged. It returns `Disk` only if the number
+    /// of faults of the disk has increased, and `NoMemory` if memory runs out. After these two the
+    /// log is not ready, even if nothing was written.
     pub fn append(&mut self, entry: &Durable) -> Result<(), AppendFault>
         requires ready { self.old.ready ≡ true }
         requires new { self.old.is_old ≡ false }
@@ -231,14 +234,14 @@ impl<D: Disk> Log<D> {
         Ok(())
     }
 
-    /// Makes an entry the only one, with the whole vote in it. After `Ok` each crash leaves a log that has
+    /// Makes an entry the only one, with its whole vote. After `Ok` a crash leaves a log that has
     /// this entry alone.
     ///
-    /// The entry is written into the area that is not active and synced; the switch in the header is then
-    /// turned by a write of one byte, and synced. So a crash inside the call leaves the entries from
-    /// before it, or the new one alone.
+    /// The entry is written into the area that is not active, and synced. The switch in the header
+    /// is then changed by a write of one byte, and synced. So a crash inside the call leaves the
+    /// entries from before it, or the new one alone.
     ///
-    /// The refusals are those of `append`, with 17 for the size.
+    /// The errors are those of `append`, with a size of 17.
     pub fn renew(&mut self, entry: &Durable) -> Result<(), AppendFault>
         requires ready { self.old.ready ≡ true }
         requires rules { KeepsRules entry.now }

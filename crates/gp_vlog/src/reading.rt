@@ -1,4 +1,4 @@
-//! The bodies of entries: what is read.
+//! Reading the bodies of entries.
 ghost use Rattle.std.specs.Prelude.{◌≡◌, ◌≤◌, ◌-◌, ◌++◌, length, take, drop, IfOk, IfSome, false, true};
 ghost use Rattle.std.specs.List.{All};
 ghost use Rattle.gp_command.specs.Spelling.{IsNumbered};
@@ -203,7 +203,7 @@ fn epoch_at(old: bool, bytes: &[u8]) -> Result<(u32, &[u8]), Unread>
     }
 }
 
-// The vote of an acceptor's part of this epoch, where it is not empty.
+// The vote of an acceptor's part of this epoch, if it is not empty.
 fn vote_before(before: Option<&Durable>, epoch: u32) -> Option<&History>
     requires { IfSome (option_copied before) KeepsRules }
     ensures vote { option_map history_of (option_copied result) ≡ vote_before (option_map part_of (option_copied before.entry)) epoch }
@@ -258,7 +258,7 @@ fn fits_version(before: Option<&Durable>, before_old: bool, version: bool) -> bo
     }
 }
 
-/// The durable part that a body stands for behind another one, and whether it is of version 1.
+/// The durable part that a body means after another one, and whether the body is of version 1.
 #[tactic(auto, unfolding(crate::specs::Bodies::entry_of))]
 pub(crate) fn entry_of(
     alloc: Global,

@@ -9,9 +9,10 @@ use gp_history::Hist;
 use gp_index::History;
 use gp_msg::Durable;
 
-/// Whether a log may hold this durable part: its rounds are round zero or may be begun by a coordinator,
-/// a vote is of no later round than the acceptor's, and each command has the identity of an offer. Only
-/// a caller that does not know this of its entries needs to ask. It takes no memory.
+/// A test of the rules of a log for a durable part: its rounds are round zero or may be begun by a
+/// coordinator, a vote is of no later round than the acceptor's, and each command has the identity
+/// of an offer. If the result is true, a log may hold the part. Only a caller that does not know
+/// this of its entries needs the test.
 pub fn keeps_rules(part: &Durable) -> bool
     ensures { result ≡ true → KeepsRules part.now }
 {

@@ -22,7 +22,8 @@ pub fn new_log(alloc: Global, limit: u32) -> Result<Vec<u8>, AllocError> {
     log_of(alloc, limit, &first, &second)
 }
 
-// A log whose entries begin so: the length, the first byte of the body and the epoch, if there is one.
+// A log whose entries begin with these bytes: the length, the first byte of the body and the epoch,
+// if there is one.
 fn log_of(alloc: Global, limit: u32, first: &[u8], second: &[u8]) -> Result<Vec<u8>, AllocError> {
     let mut log = Vec::new(alloc);
     log.extend_from_slice(b"MCGPLOG1")?;

@@ -90,8 +90,8 @@ fn is_safe(alloc: Global, change: &Change, writes: Writes) -> Result<bool, Fail>
     )
 }
 
-// A call on a log: what was there before and after it. The log is made by appending so many of the
-// parts, and then renewing it by these.
+// A call on a log: what the log was before and after it. The log is made by appending the first
+// `appended` parts, and then renewing it with each of `renewed`.
 fn changed(
     alloc: Global,
     appended: usize,

@@ -1,4 +1,4 @@
-//! Logs of both versions, whole, cut and wrong.
+//! Logs of both versions: complete, cut and wrong.
 use crate::bytes::{new_log, old_log};
 use crate::parts::{Opens, append, broken, created, opens, opens_cut, part, renew};
 use gp_edge::CalmDisk;
@@ -102,7 +102,7 @@ static NEW_CHANGES: [Change; 8] = [
     (53, 19, 48),
     // the voted round is greater than the round
     (58, 0, 48),
-    // a number of commands that are not there
+    // a number of commands that do not exist
     (76, 2, 48),
 ];
 

@@ -99,15 +99,15 @@ pub fn renew<D: Disk>(log: &mut Log<D>, part: &Durable) -> Result<(), AppendFaul
     log.renew(part)
 }
 
-/// What opening answers: the number of entries and the size, or why it was refused.
+/// The result of opening: the number of entries and the size, or why it was refused.
 pub type Opens = Result<(usize, u64), OpenFault>;
 
-/// What opening these bytes answers.
+/// The result of opening these bytes.
 pub fn opens(alloc: Global, bytes: &[u8]) -> Result<Opens, Fail> {
     Ok(opens_on(alloc, CalmDisk::new(alloc, bytes)?))
 }
 
-/// What opening the log on this disk answers.
+/// The result of opening the log on this disk.
 pub fn opens_on<D: Disk>(alloc: Global, disk: D) -> Opens {
     match Log::open(alloc, disk) {
         Ok(log) => Ok((log.count(), log.size())),
@@ -115,7 +115,7 @@ pub fn opens_on<D: Disk>(alloc: Global, disk: D) -> Opens {
     }
 }
 
-/// What opening the first bytes answers.
+/// The result of opening the first bytes.
 pub fn opens_cut(alloc: Global, bytes: &[u8], len: usize) -> Result<Opens, Fail> {
     if len <= bytes.len() {
         opens(alloc, &bytes[..len])

@@ -6,7 +6,7 @@ use Rattle.std.proofs.lemmas.Grind.{flat_map-append}
 use Rattle.gp_msg.specs.declared.message.Msg.{Msg}
 use Rattle.gp_msg.specs.declared.record.Record.{Record}
 use Rattle.gp_wire.specs.declared.indexed.Place.{Place}
-use Rattle.gp_wire.specs.Messages.{messages_in}
+use Rattle.gp_msg.specs.Records.{messages_in}
 use Rattle.gp_wire.specs.Places.{out_at, at_place, message_at, place, places_to, all_there}
 
 as_many_places : (records : List Record) (places : List Place) (ms : List Msg) → map (at_place records) places ≡ all_there ms → length places ≡ length ms

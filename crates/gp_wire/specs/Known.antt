@@ -34,7 +34,7 @@ records p = map record_of p.seen
 abbrev pub new_pass : Node → TableId → List Node → List Node → PassState
 new_pass node_ wire_ all_ holds_ = record { node = node_; wire = wire_; all = all_; holds = holds_; seen = []; turn = None }
 
--- what it knew, for a later list to begin with
+-- what the pass knew, so that a later list can be compared with it
 abbrev pub old_of : PassState → Old
 old_of p = record { nodes = p.holds; seen = p.seen; turn = p.turn }
 

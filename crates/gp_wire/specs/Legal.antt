@@ -2,7 +2,7 @@
 use Rattle.std.specs.Prelude.{◌≢◌, List, [], ◌∷◌, ◌++◌}
 use Rattle.gp_msg.specs.declared.record.Record.{Record}
 
--- each record of the second list may follow what stands before it
+-- each record of the second list may follow the records before it
 abbrev pub LegalFrom : (List Record → Record → Type 0) → List Record → List Record → Type 0
 LegalFrom legal before [] = Unit {0}
 LegalFrom legal before (x ∷ xs) = legal before x × LegalFrom legal (before ++ x ∷ []) xs

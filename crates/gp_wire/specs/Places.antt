@@ -1,4 +1,4 @@
--- Where the messages of a list of records stand.
+-- The places of the messages in a list of records.
 use Rattle.std.specs.Prelude.{ℕ, zero, suc, List, [], ◌∷◌, ◌++◌, map, slice_get, Option, Some, None}
 use Rattle.gp_msg.specs.declared.message.Msg.{Msg}
 use Rattle.gp_msg.specs.declared.record.Record.{Record}
@@ -9,7 +9,7 @@ abbrev pub out_at : Option Record → ℕ → Option Msg
 out_at None at = None
 out_at (Some r) at = slice_get r.out at
 
--- what stands at a place of these records
+-- the message at a place of these records
 abbrev pub at_place : List Record → Place → Option Msg
 at_place records p = out_at (slice_get records p.index) p.at
 
@@ -26,6 +26,6 @@ abbrev pub places_to : ℕ → ℕ → List Place
 places_to r zero = []
 places_to r (suc n) = places_to r n ++ place r n ∷ []
 
--- messages that are all there
+-- these messages, none of which is missing
 abbrev pub all_there : List Msg → List (Option Msg)
 all_there ms = map (λ m. Some m) ms

@@ -73,7 +73,7 @@ pub record Begins (seen : List Post) (o : Old) : Type 0 where
 abbrev pub IsSomebody : List Node → Type 0
 IsSomebody nodes = (n : Node) × Has n nodes
 
--- what goes with where a seat stands: without a ticket it may still have old lists to learn of; a ticket lies from the served one to below the next; and the seat with the turn has the whole list, which is out of the slot
+-- what holds of a seat in this position: without a ticket it may still have old lists to learn of; a ticket is at least the served one and below the next one; and the seat with the turn has seen the whole list and has taken the slot
 abbrev pub Stands : List Post → ℕ → ℕ → List (maybe.Option Slot) → View → Standing → Type 0
 Stands log next serving homes v Idle = Each (Begins v.seen) v.olds
 Stands log next serving homes v (Waiting t) = (serving ≤ t) × (t < next) × (v.olds ≡ []) × IsSomebody v.nodes
@@ -96,7 +96,7 @@ abbrev pub waiting : List View → ℕ
 waiting [] = 0
 waiting (v ∷ vs) = tickets v.standing + waiting vs
 
--- the seat has not the turn
+-- the seat does not have the turn
 abbrev pub NotServing : Standing → Type 0
 NotServing Idle = Unit {0}
 NotServing (Waiting t) = Unit {0}
@@ -106,16 +106,16 @@ NotServing (Serving t) = ⊥
 abbrev pub NoTurn : List View → Type 0
 NoTurn views = (i : ℕ) (v : View) → get_elem? views i ≡ maybe.some v → NotServing v.standing
 
--- the numbers of the turns do not descend
+-- the numbers of the turns do not decrease
 abbrev pub Ascends : ℕ → List Post → Type 0
 Ascends least [] = Unit {0}
 Ascends least (e ∷ es) = (least ≤ e.turn) × Ascends e.turn es
 
 -- The rule between any two steps. There is one list of posts, `log`, and
--- 1. the next ticket is the served one plus the number of seats with a ticket; no two seats have one ticket; a seat stands as its ticket says;
--- 2. the third word counts the records; the list is legal and of nodes of the wire; each seat has seen a beginning of it; while nobody has the turn, it lies in the slot;
+-- 1. the next ticket is the served one plus the number of seats with a ticket; no two seats have the same ticket; what `Stands` says of a seat holds;
+-- 2. word 2 is the number of records; the list is legal and of nodes of the wire; each seat has seen a beginning of it; while no seat has the turn, it is in the slot;
 -- 3. each node of the wire is held by exactly one seat, which has seen all records of that node;
--- 4. the turns of the list ascend, up to the served one, which only a record of the seat with the turn can have; the last turn of a seat is below the served one, and all that it has not seen is of later turns.
+-- 4. the turns of the list do not decrease; they are at most the served ticket, and below it while no seat has the turn; the last turn of a seat is below the served ticket, and all that the seat has not seen is of later turns.
 pub record Kept (legal : List Record → Record → Type 0) (all : List Node) (s : State Slot View) : Type 0 where
   pub log : List Post
   pub next : ℕ

@@ -1,4 +1,4 @@
--- What each step tells its seat, and how seats are split and joined.
+-- What a seat learns by each step, and how seats are split and joined.
 use Rattle.std.specs.Prelude.{◌≡◌, ◌≢◌, ℕ, List, [], ◌∷◌, ◌++◌, length, Option, Some, None, if◌then◌else◌, nat_lt}
 use Rattle.atomic_table.specs.Table.{Step, Me, rest}
 use Rattle.gp_msg.specs.declared.node.Node.{Node}
@@ -14,13 +14,13 @@ use Rattle.gp_wire.specs.Rule.{Slot, items, post_of, view, newcomer, IsForeign, 
 abbrev pub SeatState : Type 0
 SeatState = Me Slot View
 
--- a seat with no ticket has the ticket that it asked for, where it was the next
+-- a seat with no ticket has the ticket that it asked for, if that was the next one
 abbrev pub drawn : Step Slot → SeatState → ℕ → SeatState → Type 0
 drawn st m r m' =
     (r ≡ st.first → m' ≡ (view m.0.all m.0.nodes m.0.seen (Waiting r) m.0.turn m.0.olds, m.1))
     × (r ≢ st.first → m' ≡ m)
 
--- where its ticket is served, a seat has the turn, the slot and the whole list, which is of nodes of the wire
+-- if its ticket is served, a seat has the turn, the slot and the whole list, which is of nodes of the wire
 pub record HasTurn (t : ℕ) (m m' : SeatState) : Type 0 where
   pub more : List Post
   pub after : m' ≡ (view m.0.all m.0.nodes (m.0.seen ++ more) (Serving t) m.0.turn m.0.olds, (0, Some (items (m.0.seen ++ more))) ∷ m.1)
@@ -28,11 +28,11 @@ pub record HasTurn (t : ℕ) (m m' : SeatState) : Type 0 where
   pub inside : Each (λ e. Has e.item.node m.0.all) (m.0.seen ++ more)
   pub risen : IsBelow m.0.turn t
 
--- a look at the served ticket gives the turn where it is the seat's own, and else nothing
+-- a look at the served ticket gives the turn if it is the seat's own, and otherwise nothing
 abbrev pub looked : Step Slot → SeatState → ℕ → SeatState → Type 0
 looked st m r m' = (m.0.standing ≡ Waiting r → HasTurn r m m') × (m.0.standing ≢ Waiting r → m' ≡ m)
 
--- the record that stands at the end of the list in the slot is posted, in this turn
+-- the last record of the list in the slot is posted, in this turn
 abbrev pub posted : Step Slot → SeatState → ℕ → SeatState → Type 0
 posted st m r m' =
     (t : ℕ) (x : Record) → m.0.standing ≡ Serving t → m.1 ≡ (0, Some (items m.0.seen ++ x ∷ [])) ∷ []
@@ -42,7 +42,7 @@ posted st m r m' =
 abbrev pub left_ : Step Slot → SeatState → ℕ → SeatState → Type 0
 left_ st m r m' = (t : ℕ) → m.0.standing ≡ Serving t → m' ≡ (view m.0.all m.0.nodes m.0.seen Idle (Some t) m.0.olds, rest m.1)
 
--- what a seat with no ticket learns of its old lists, which it forgets
+-- what a seat learns of its old lists, which it then forgets
 abbrev pub learned : Step Slot → SeatState → ℕ → SeatState → Type 0
 learned st m r m' = (m' ≡ (view m.0.all m.0.nodes m.0.seen m.0.standing m.0.turn [], m.1)) × Each (Begins m.0.seen) m.0.olds
 
@@ -51,7 +51,7 @@ abbrev pub front : List Node → List Node
 front [] = []
 front (n ∷ ns) = n ∷ []
 
--- the nodes behind the first
+-- the nodes after the first
 abbrev pub behind : List Node → List Node
 behind [] = []
 behind (n ∷ ns) = ns
@@ -82,12 +82,12 @@ later None u = u
 later (Some t) None = Some t
 later (Some t) (Some u) = Some (if nat_lt t u then u else t)
 
--- the first of two, if its seat holds a node
+-- the first list if its seat holds a node, and otherwise the second
 abbrev pub all_of : List Node → List Node → List Node → List Node
 all_of [] a b = b
 all_of (n ∷ ns) a b = a
 
--- what a seat knows, once it is joined with another
+-- what a seat knew before it was joined with another
 abbrev pub old : View → Old
 old v = record { nodes = v.nodes; seen = v.seen; turn = v.turn }
 
@@ -99,6 +99,6 @@ joined v w = view (all_of v.nodes v.all w.all) (v.nodes ++ w.nodes) (longer v.se
 abbrev pub nobody : View
 nobody = newcomer []
 
--- a seat after a join, once it has learned what its old lists were
+-- a seat after a join, when it has learned of its old lists
 abbrev pub together : View → View → View
 together v w = view (all_of v.nodes v.all w.all) (v.nodes ++ w.nodes) (longer v.seen w.seen) Idle (later v.turn w.turn) []

@@ -22,7 +22,7 @@ IsSame p q = (q.table_id ≡ p.table_id) × (q.id ≡ p.id)
 abbrev pub IsStill : WireSeat → WireSeat → Type 0
 IsStill p q = (q.table_id ≡ p.table_id) × (q.id ≡ p.id) × (q.me ≡ p.me)
 
--- what the seat knows, where it stands there in the order of turns
+-- what the seat knows, at this position in the order of turns
 abbrev pub at_standing : View → Standing → View
 at_standing v standing = view v.all v.nodes v.seen standing v.turn v.olds
 
@@ -30,7 +30,7 @@ at_standing v standing = view v.all v.nodes v.seen standing v.turn v.olds
 abbrev pub IsIdle : Me Slot View → Type 0
 IsIdle m = (m.0.standing ≡ Idle) × (m.0.olds ≡ []) × (m.1 ≡ [])
 
--- the seat has had a turn, after its last one. It has seen more records than before, by other nodes than its own, and then these
+-- the seat has had a turn, after its last one: it has then seen what it had seen, more records of nodes that it does not hold, and these
 pub record Turned (m m' : Me Slot View) (posts : ℕ → List Post) : Type 0 where
   pub turn : ℕ
   pub risen : IsBelow m.0.turn turn
@@ -39,11 +39,11 @@ pub record Turned (m m' : Me Slot View) (posts : ℕ → List Post) : Type 0 whe
   pub inside : Each (λ e. Has e.item.node m.0.all) (m.0.seen ++ more)
   pub after : m' ≡ (view m.0.all m.0.nodes ((m.0.seen ++ more) ++ posts turn) Idle (Some turn) m.0.olds, m.1)
 
--- what a seat knows once it has given up the turn of this ticket
+-- what a seat knows after it has given up the turn of this ticket
 abbrev pub rested : View → ℕ → View
 rested v t = view v.all v.nodes v.seen Idle (Some t) v.olds
 
--- the seat has the turn of this ticket, and the whole list is out
+-- the seat has the turn of this ticket, and has taken the whole list out of the slot
 pub record Enters (m m' : Me Slot View) (ticket : ℕ) (out : List Record) : Type 0 where
   pub risen : IsBelow m.0.turn ticket
   pub more : List Post

@@ -14,10 +14,10 @@ use crate::wire::Wire;
 use gp_msg::Records;
 
 impl<R: Rules> Wire<R> {
-    /// Hands all nodes of the other pass to this one, which then has seen the longer of the two lists: it
-    /// begins with both, and has of each node that the pass then holds just the records that the list of its
-    /// holder had. The other pass holds no node then and keeps its list. It takes no memory and waits for
-    /// nobody.
+    /// Hands all nodes of the other pass to this one, without a turn. This pass has then seen the
+    /// longer of the two lists, which begins with both. Of each node that it then holds, that list
+    /// has exactly the records that the list of the node's holder had. The other pass keeps its
+    /// list and then holds no node.
     pub fn meet(&self, pass: &mut Pass, other: &mut Pass)
         requires own { pass.old.wire ≡ self.now.id }
         requires own_too { other.old.wire ≡ self.now.id }
@@ -32,9 +32,9 @@ impl<R: Rules> Wire<R> {
         pass.count = longer(pass.count, other.count);
     }
 
-    /// The one list, given passes that hold all nodes. The list of every pass is a beginning of it, and it has
-    /// of each node just the records that the list of the pass that holds the node has. It takes no memory
-    /// and waits for nobody.
+    /// Closes the wire and returns its list, given passes that together hold all nodes. What each
+    /// pass has seen is a beginning of that list. Of each node the list has exactly the records
+    /// that the pass which holds the node has seen.
     pub fn close(self, passes: Vec<Pass>) -> Records
         requires own { AreOf self.id passes.items }
         requires all { (n : Node) → Has n self.nodes → IsHeld n passes.items }

@@ -1,21 +1,23 @@
-//! The list that lies in the slot of a wire.
+//! The list in the slot of a wire.
 ghost use Rattle.std.specs.Prelude.{◌≡◌, ◌+◌, ◌≤◌, ◌++◌, ◌∷◌, [], length, slice_get, vec_len, vec_capacity, OnOk, OnErr, IfErr};
 ghost use Rattle.std.specs.Option.{option_copied};
-ghost use Rattle.gp_wire.specs.Messages.{messages_in};
+ghost use Rattle.gp_msg.specs.Records.{messages_in};
 ghost use Rattle.gp_wire.specs.Places.{message_at, places_to};
 
 use gp_msg::{Msg, Record, Records};
 use std::alloc::Global;
 use std::marker::Model;
 
-/// Where a message stands: in which record, and which of its messages it is.
+/// The place of a message: the index of its record, and its index among the messages of that
+/// record.
 #[derive(Clone, Copy, Debug)]
 pub(crate) struct Place {
     pub index: usize,
     pub at: usize,
 }
 
-/// Records, the oldest first, with the place of each of their messages. A contract sees them as a list.
+/// Records, the oldest first, with the place of each of their messages. A contract sees them as a
+/// list.
 #[derive(Drop)]
 pub struct IndexedRecords {
     records: Vec<Record>,
@@ -26,7 +28,7 @@ pub struct IndexedRecords {
 impl Model for IndexedRecords {
     ghost use Rattle.std.specs.Prelude.{◌≡◌, List, map};
     ghost use Rattle.gp_msg.specs.declared.record.Record.{Record};
-    ghost use Rattle.gp_wire.specs.Messages.{messages_in};
+    ghost use Rattle.gp_msg.specs.Records.{messages_in};
     ghost use Rattle.gp_wire.specs.Places.{at_place, all_there};
 
     ghost Value = { List Record };
@@ -37,7 +39,7 @@ impl Model for IndexedRecords {
 }
 
 impl IndexedRecords {
-    /// No records. It takes no memory.
+    /// A list without records.
     pub fn new(alloc: Global) -> IndexedRecords
         ensures { result ≡ [] }
     {
@@ -47,7 +49,7 @@ impl IndexedRecords {
         }
     }
 
-    /// Puts a record behind the others. Where memory runs out it comes back, and the list stays as it was.
+    /// Appends a record. If memory runs out, the record comes back and the list is unchanged.
     pub fn push(&mut self, item: Record) -> Result<(), Record>
         ensures pushed { OnOk result (self.new ≡ self.old ++ item ∷ []) }
         ensures unchanged { OnErr result (self.new ≡ self.old) }
@@ -77,7 +79,7 @@ impl IndexedRecords {
         self.places.len() as u64
     }
 
-    /// Message k, if there is one.
+    /// Message k, counted from 0, if there is one.
     #[tactic(auto, using(crate::proofs::Placing::found_at))]
     pub fn message(&self, k: u64) -> Option<&Msg>
         ensures { option_copied result ≡ slice_get (messages_in self.now) k }
@@ -85,7 +87,7 @@ impl IndexedRecords {
         at_place(&self.records, &self.places, k)
     }
 
-    /// The records alone. It takes no memory.
+    /// Returns the records alone.
     pub fn into_records(self) -> Records
         ensures { result ≡ self }
     {
@@ -94,7 +96,7 @@ impl IndexedRecords {
     }
 }
 
-// The places of the first messages of a record, behind those that are there.
+// The places of the first `count` messages of a record, after those that are there.
 fn add_places(places: &mut Vec<Place>, index: usize, count: usize)
     requires { vec_len places.old + count ≤ vec_capacity places.old }
     ensures { places.new.items ≡ places.old.items ++ places_to index count }

@@ -1,4 +1,4 @@
-//! What the table of a wire is told once, and the rule by which it is kept.
+//! What the table of a wire is made with, and the rule that its steps keep.
 ghost use Rattle.gp_wire.specs.Rule.{Kept, newcomer};
 
 use crate::indexed::IndexedRecords;
@@ -23,14 +23,15 @@ impl Model for Nodes {
     ghost view = { λ s. s.nodes.items };
 }
 
-/// What a table is told when it is made, and keeps.
+/// What a table is made with. It never changes.
 #[derive(Drop)]
 pub struct WireKey<R: Rules> {
     pub rules: R,
     pub nodes: Nodes,
 }
 
-/// The rule between any two steps: of the words, the list in the slot and what each seat knows.
+/// The rule that holds between any two steps, about the words, the list in the slot, and what each
+/// seat knows.
 pub struct WireRule;
 
 impl<R: Rules> TableRule<Option<IndexedRecords>, View, WireKey<R>> for WireRule {

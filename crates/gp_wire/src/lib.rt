@@ -1,5 +1,6 @@
-//! The list of records that the nodes of a run share, each in a thread of its own. Nodes take turns at the
-//! list by tickets. Each has a pass, which knows a beginning of the list with all records of its node.
+//! The list of records that the nodes of a run share. Each node runs in a thread of its own, and
+//! they take turns at the list by tickets. Each node has a pass, which has seen a beginning of the
+//! list with all records of the node.
 #![tactic(auto)]
 
 mod closing;

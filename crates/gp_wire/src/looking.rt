@@ -3,7 +3,7 @@ ghost use Rattle.std.specs.Prelude.{◌≡◌, ◌<◌, ◌^◌, length, slice_g
 ghost use Rattle.std.specs.Option.{option_map, option_copied};
 ghost use Rattle.gp_msg.specs.Reads.{kind_of};
 ghost use Rattle.gp_wire.specs.Lists.{Has};
-ghost use Rattle.gp_wire.specs.Messages.{messages_in};
+ghost use Rattle.gp_msg.specs.Records.{messages_in};
 ghost use Rattle.gp_wire.specs.Known.{records, HoldsAll};
 ghost use Rattle.gp_wire.specs.Passes.{HadTurn, nothing};
 
@@ -15,10 +15,10 @@ use gp_msg::{Msg, MsgKind};
 use std::sync::Wait;
 
 impl<R: Rules> Wire<R> {
-    /// Message k, from 0, of the list that the pass has seen at the end of this call, and `None` exactly
-    /// where that list has no message k. The pass has a turn, in which it sees the whole list, and nothing is
-    /// posted: the list that it has seen is longer by records of nodes that it does not hold, if it is. A
-    /// pass that holds all nodes has seen the whole list before. Where memory runs out it has had its turn too.
+    /// Message k, counted from 0, of the list that the pass has seen at the end of this call, and
+    /// `None` exactly if that list has no message k. The pass has a turn, and nothing is posted.
+    /// What it has seen may grow, by records of nodes that it does not hold. If it holds all nodes,
+    /// what it has seen does not change. If memory runs out, the pass has had its turn too.
     pub fn read<W: Wait>(&self, rt: &W, pass: &mut Pass, k: u64) -> Result<Option<Msg>, NoMemory>
         requires own { pass.old.wire ≡ self.now.id }
         requires holds { Has pass.old.node pass.old.holds }
@@ -33,8 +33,7 @@ impl<R: Rules> Wire<R> {
         found
     }
 
-    /// The kind of the message that `read` answers, and `None` exactly where that answers `None`. It takes
-    /// no memory.
+    /// As `read`, but returns only the kind of the message, and has no error.
     pub fn kind<W: Wait>(&self, rt: &W, pass: &mut Pass, k: u64) -> Option<MsgKind>
         requires own { pass.old.wire ≡ self.now.id }
         requires holds { Has pass.old.node pass.old.holds }
@@ -52,7 +51,7 @@ impl<R: Rules> Wire<R> {
     }
 }
 
-// An equal message, if there is one.
+// A copy of a message, if there is one.
 fn copied(m: Option<&Msg>) -> Result<Option<Msg>, NoMemory>
     ensures { IfOk result (λ copy. copy ≡ option_copied m.entry) }
 {

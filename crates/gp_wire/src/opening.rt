@@ -14,7 +14,7 @@ use gp_command::NoMemory;
 use gp_msg::Node;
 use std::alloc::Global;
 
-// The slot of a new wire, with the list that has no records.
+// The slot of a new wire, with an empty list.
 fn one_slot(alloc: Global) -> Result<Vec<Option<IndexedRecords>>, NoMemory>
     ensures { IfOk result (λ v. v.items ≡ Some [] ∷ []) }
 {
@@ -26,8 +26,8 @@ fn one_slot(alloc: Global) -> Result<Vec<Option<IndexedRecords>>, NoMemory>
 }
 
 impl<R: Rules> Wire<R> {
-    /// A wire with no record, and a pass for each node, in their order, which holds that node and has seen
-    /// nothing.
+    /// A wire without records, and a pass for each node, in the order of `nodes`. Each pass holds
+    /// its node and has seen nothing. `nodes` has at least one node, and none twice.
     pub fn new(alloc: Global, rules: R, nodes: &[Node]) -> Result<(Wire<R>, Vec<Pass>), NoMemory>
         requires some { 0 < length nodes.now }
         requires distinct { IsDistinct nodes.now }

@@ -9,10 +9,10 @@ use std::marker::Model;
 
 pub(crate) type WireSeat = Seat<Option<IndexedRecords>, View>;
 
-/// The pass of one node at one wire. It holds this node until it hands it to another pass, and has seen a
-/// beginning of the wire's list, with all records of each node that it holds. It may be moved to a thread. A
-/// contract sees it as what it knows. A pass that is dropped takes its nodes with it: the wire can then
-/// not be closed.
+/// The pass of one node at one wire. It holds this node until it hands it to another pass, and has
+/// seen a beginning of the wire's list, with all records of each node that it holds. It may be
+/// moved to a thread. A contract sees what it knows. If a pass is dropped, nobody holds its nodes
+/// any more, and the wire cannot be closed.
 #[derive(Drop)]
 pub struct Pass {
     pub(crate) node: Node,
@@ -34,14 +34,14 @@ impl Model for Pass {
 }
 
 impl Pass {
-    /// The node whose pass it is. It takes no memory.
+    /// The node whose pass it is.
     pub fn node(&self) -> Node
         ensures { result ≡ self.now.node }
     {
         self.node
     }
 
-    /// How many records it has seen. It takes no memory.
+    /// How many records it has seen.
     pub fn seen(&self) -> u64
         ensures { result ≡ length self.now.seen }
     {

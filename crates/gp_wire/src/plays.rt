@@ -1,4 +1,5 @@
-//! What each step tells its seat, and how seats are split and joined. No value of these types is made.
+//! What a seat learns by each step, and how seats are split and joined. No value of these types is
+//! made.
 ghost use Rattle.gp_wire.specs.Told.{drawn, looked, posted, left_, learned, rest_nodes, first_node, no_nodes, all_nodes, joined, nobody};
 
 use crate::indexed::IndexedRecords;
@@ -12,7 +13,8 @@ impl Play<Option<IndexedRecords>, View> for Draw {
     ghost then = { drawn };
 }
 
-/// Looks which ticket is served: a `load`, which gives the turn and the slot where it is the seat's own.
+/// Looks which ticket is served: a `load`. If it is the seat's own, the seat gets the turn and the
+/// slot.
 pub(crate) struct Look;
 
 impl Play<Option<IndexedRecords>, View> for Look {
@@ -26,14 +28,14 @@ impl Play<Option<IndexedRecords>, View> for Append {
     ghost then = { posted };
 }
 
-/// Gives the slot and the turn up: a `fetch_add` of the ticket that is served.
+/// Gives up the slot and the turn: a `fetch_add` of the ticket that is served.
 pub(crate) struct Leave;
 
 impl Play<Option<IndexedRecords>, View> for Leave {
     ghost then = { left_ };
 }
 
-/// Learns what the lists before a join were: a `load`.
+/// Learns that the list begins with each of the lists before a join: a `load`.
 pub(crate) struct Learn;
 
 impl Play<Option<IndexedRecords>, View> for Learn {

@@ -1,7 +1,7 @@
 //! Posts to the list.
 ghost use Rattle.std.specs.Prelude.{◌≡◌, ◌++◌, [], ◌∷◌, length, IfOk, IfErr};
 ghost use Rattle.gp_wire.specs.Lists.{Has};
-ghost use Rattle.gp_wire.specs.Messages.{messages_in};
+ghost use Rattle.gp_msg.specs.Records.{messages_in};
 ghost use Rattle.gp_wire.specs.Known.{records, HoldsAll};
 ghost use Rattle.gp_wire.specs.Passes.{HadTurn, nothing, only};
 
@@ -12,18 +12,18 @@ use crate::wire::Wire;
 use gp_msg::Record;
 use std::sync::Wait;
 
-/// A record that was not posted, since memory ran out.
+/// A record that was not posted because memory ran out.
 #[derive(Drop)]
 pub struct Unposted {
     pub item: Record,
 }
 
 impl<R: Rules> Wire<R> {
-    /// Posts a record of the pass's node that is legal after what the pass has seen, and answers how many
-    /// messages the list then has. The pass has a turn, in which it sees the whole list; the record stands
-    /// at its end, and is still legal there, since what came to the list are legal records of other nodes.
-    /// The list is grown before the record is posted. Where memory runs out, the record comes back and
-    /// nothing was posted; the pass has had its turn and has seen the list as by a look.
+    /// Posts a record of the pass's node, which is legal after what the pass has seen. Returns how
+    /// many messages the list then has. The pass has a turn, and the record is the last one that it
+    /// has then seen. The record is still legal there, since only legal records of other nodes came
+    /// between. If memory runs out, nothing is posted and the record comes back. The pass has then
+    /// had its turn as by `read`.
     pub fn append<W: Wait>(&self, rt: &W, pass: &mut Pass, item: Record) -> Result<u64, Unposted>
         requires own { pass.old.wire ≡ self.now.id }
         requires holds { Has pass.old.node pass.old.holds }

@@ -1,4 +1,5 @@
-//! What may cross threads. A call of these functions does nothing: that they compile is what they show.
+//! What threads may share. These functions do nothing; that they compile shows what their comments
+//! say.
 use crate::pass::Pass;
 use crate::rules::Rules;
 use crate::wire::Wire;
@@ -7,7 +8,7 @@ fn is_sync<T: Sync>() {}
 
 fn is_send<T: Send>() {}
 
-/// Threads may share a wire whose rules they may share.
+/// Threads may share a wire if they may share its rules.
 pub fn wires_are_shared_by_threads<R: Rules + Send + Sync>() {
     is_sync::<Wire<R>>();
     is_send::<Wire<R>>();

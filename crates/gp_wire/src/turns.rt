@@ -75,7 +75,7 @@ impl<R: Rules> Wire<R> {
         let _ = self.table.shared.exchange(seat, 0, Some(list));
     }
 
-    /// Waits for a turn, and takes the list.
+    /// Waits for a turn, and takes the list out of the slot. Returns the ticket and the list.
     pub(crate) fn enter<W: Wait>(&self, rt: &W, seat: &mut WireSeat) -> (u64, IndexedRecords)
         requires own { seat.old.table_id ≡ self.now.id }
         requires idle { IsIdle seat.old.me × IsSomebody seat.old.me.0.nodes }
@@ -89,7 +89,7 @@ impl<R: Rules> Wire<R> {
         (ticket, list)
     }
 
-    /// Gives the slot and the turn up.
+    /// Gives up the slot and the turn.
     pub(crate) fn pass_on(&self, seat: &mut WireSeat, ticket: u64)
         requires own { seat.old.table_id ≡ self.now.id }
         requires turn { seat.old.me.0.standing ≡ Serving ticket }
@@ -100,7 +100,7 @@ impl<R: Rules> Wire<R> {
         let _ = self.table.shared.fetch_add::<Leave>(seat, 1, 1);
     }
 
-    /// Gives the list and the turn up.
+    /// Puts the list back, and gives up the slot and the turn.
     pub(crate) fn leave(&self, seat: &mut WireSeat, ticket: u64, list: IndexedRecords)
         requires own { seat.old.table_id ≡ self.now.id }
         requires turn { (seat.old.me.0.standing ≡ Serving ticket) × (seat.old.me.1 ≡ (0, None) ∷ []) }

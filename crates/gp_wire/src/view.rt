@@ -8,7 +8,7 @@ pub struct Post {
     pub turn: u64,
 }
 
-/// Where a seat stands in the order of turns.
+/// The position of a seat in the order of turns.
 pub enum Standing {
     /// It has no ticket.
     Idle,
@@ -29,7 +29,7 @@ pub struct Old {
 pub struct View {
     /// All nodes of the wire.
     pub all: LinkedList<Node>,
-    /// Those that it holds.
+    /// The nodes that it holds.
     pub nodes: LinkedList<Node>,
     pub seen: LinkedList<Post>,
     pub standing: Standing,

@@ -7,9 +7,10 @@ use atomic_table::Table;
 use std::alloc::Global;
 use std::marker::Model;
 
-/// A list of records that nodes share. Each record is legal after those before it, under the rules with which
-/// the wire was made, and no call changes a record or takes one away. Threads may share a wire. A contract
-/// sees which wire it is, its nodes and its rules; it sees the list through passes, and once it is closed.
+/// A list of records that nodes share. Each record is legal after those before it, under the rules
+/// with which the wire was made, and no call changes or removes a record. Threads may share a wire.
+/// A contract sees which wire it is, its nodes and its rules. It sees the list through passes, and
+/// when the wire is closed.
 #[derive(Drop)]
 pub struct Wire<R: Rules> {
     pub(crate) table: Table<Option<IndexedRecords>, View, WireKey<R>, WireRule, Global>,

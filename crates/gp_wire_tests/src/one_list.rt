@@ -68,7 +68,7 @@ fn check_closed<R: Threads + Wait + Abort + Sync>(
     Ok(())
 }
 
-// A pass that has met all others has the whole list, posts behind it, and closes the wire.
+// A pass that has met all others has the whole list, posts after it, and closes the wire.
 fn check_met<R: Threads + Wait + Abort + Sync>(
     rt: &R,
     alloc: Global,
@@ -154,7 +154,8 @@ fn marks(alloc: Global, records: &[Record]) -> Result<Vec<Mark>, NoMemory> {
     Ok(marks)
 }
 
-// Whether a node was refused nothing, read a beginning of the list, and posted what stands there of it.
+// Whether no call of a node failed, the node read a beginning of the list, and the list has what it
+// posted, at the right places.
 fn fits(list: &[Mark], found: &Findings, posts: u32) -> bool {
     !found.failed
         && list.starts_with(found.read.as_slice())
@@ -162,7 +163,7 @@ fn fits(list: &[Mark], found: &Findings, posts: u32) -> bool {
         && stands_where_it_was_told(list, found)
 }
 
-// Whether the list has just so many messages of the node, in their order.
+// Whether the list has exactly this many messages of the node, in their order.
 fn is_in_order(list: &[Mark], node: u32, posts: u32) -> bool {
     let mut next = 0u32;
     for (of, number) in list {
@@ -176,7 +177,8 @@ fn is_in_order(list: &[Mark], node: u32, posts: u32) -> bool {
     next == posts
 }
 
-// Whether each message of the node is the last of as many as the node was told.
+// Whether each message of the node is where its post said: the last of as many messages as the post
+// returned.
 fn stands_where_it_was_told(list: &[Mark], found: &Findings) -> bool {
     let mut number = 0u32;
     for count in &found.counts {

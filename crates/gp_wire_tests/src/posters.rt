@@ -34,11 +34,11 @@ pub struct Findings {
     pub read: Vec<Mark>,
     /// How many messages there were after each of its posts.
     pub counts: Vec<u64>,
-    /// A call was refused, or a message was not there a second time.
+    /// A call was refused, or a message that had a kind could not be read.
     pub failed: bool,
 }
 
-/// A node that posts so many records, and reads after each of them what it has not read.
+/// A node that posts this many records, and after each of them reads what it has not read.
 #[derive(Drop)]
 pub struct Poster {
     pub alloc: Global,
@@ -79,7 +79,7 @@ pub fn numbered(alloc: Global, node: Node, number: u32) -> Result<Record, NoMemo
     Ok(Record { node, event, out })
 }
 
-/// Posts a record with one message, and answers how many messages there are then.
+/// Posts a record with one message, and returns how many messages there are then.
 pub fn append_numbered<W: Wait>(
     rt: &W,
     alloc: Global,
@@ -206,7 +206,7 @@ fn posters(alloc: Global, passes: Vec<Pass>, posts: u32) -> Result<Vec<Poster>, 
     Ok(posters)
 }
 
-/// A wire to which each node has posted so many records.
+/// A wire to which each node has posted this many records.
 pub fn posted<R: Threads + Wait + Sync>(
     rt: &R,
     alloc: Global,

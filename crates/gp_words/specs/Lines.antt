@@ -6,7 +6,7 @@ use Rattle.std.specs.List.{before_first, onto_first}
 abbrev pub is_line_feed : ℕ → Bool
 is_line_feed byte = byte == 10
 
--- each with the line feed that ends it; the last may lack it
+-- the lines of a text, each with the line feed that ends it; the last may lack it
 unfoldable pub lines_of : List ℕ → List (List ℕ)
 lines_of [] = []
 lines_of (byte ∷ bytes) = if is_line_feed byte then (byte ∷ []) ∷ lines_of bytes else onto_first byte (lines_of bytes)

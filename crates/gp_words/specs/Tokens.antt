@@ -7,7 +7,7 @@ use Rattle.std.specs.Borrow.{Bor}
 abbrev pub is_space : ℕ → Bool
 is_space byte = byte == 32
 
--- what stands between single spaces
+-- the parts of a text that single spaces separate
 abbrev pub tokens_of : List ℕ → List (List ℕ)
 tokens_of text = slice_split is_space text
 

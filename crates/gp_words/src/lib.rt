@@ -1,6 +1,6 @@
-//! Words of texts: lines, tokens, numbers and spacing. Nothing here knows what the words mean.
+//! Words of texts: lines, tokens, numbers and spacing. What the words mean is left to other crates.
 //!
-//! Only `tokens_of` and the calls that write take memory.
+//! Only `tokens_of` and the calls that write can run out of memory.
 #![tactic(auto)]
 
 pub mod laws;

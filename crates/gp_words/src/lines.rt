@@ -2,10 +2,11 @@
 ghost use Rattle.std.specs.Prelude.{◌≡◌, ◌<◌, ◌+◌, ◌∷◌, ◌++◌, length, position};
 ghost use Rattle.gp_words.specs.Lines.{is_line_feed, lines_of, text_of};
 
-/// The first line of a text that is not empty, with the line feed that ends it, and what stands behind it.
+/// The first line of a text that is not empty, with the line feed that ends it, and the remaining
+/// text.
 ///
-/// The last line may lack its line feed. Behind a line feed at the end of the text there is no
-/// further line.
+/// The last line may lack its line feed. No further line follows a line feed at the end of the
+/// text.
 pub fn first_line(bytes: &[u8]) -> (&[u8], &[u8])
     requires { 0 < length bytes.now }
     ensures parts { bytes.now ≡ result.0.now ++ result.1.now }

@@ -7,10 +7,10 @@ ghost use Rattle.gp_words.specs.Numbers.{is_decimal, number_of};
 use gp_memory::NoMemory;
 use itoa::Buffer;
 
-/// The number that a token spells: digits, without a sign, without a leading zero but for `0` itself,
-/// and at most 18446744073709551615. `None` for every other token. It takes no memory.
+/// The number that a token spells in decimal digits: without a sign, without a leading zero except
+/// in `0` itself, and at most 18446744073709551615. The result is `None` for every other token.
 ///
-/// What `push_number` writes is read again, and nothing else is read as that number.
+/// It reads what `push_number` writes, and it reads nothing else as that number.
 pub fn number_of(token: &[u8]) -> Option<u64>
     ensures { result ≡ number_of token.now }
 {
@@ -26,7 +26,7 @@ pub fn number_of(token: &[u8]) -> Option<u64>
     }
 }
 
-/// Appends a number in decimal. Where memory runs out `to` holds what it held.
+/// Appends a number in decimal. If memory runs out, `to` stays as it was.
 pub fn push_number(number: u64, to: &mut Vec<u8>) -> Result<(), NoMemory>
     ensures written { OnOk result (to.new.items ≡ to.old.items ++ decimal number) }
     ensures unchanged { OnErr result (to.new.items ≡ to.old.items) }

@@ -8,8 +8,8 @@ use std::alloc::Global;
 
 /// The tokens of a text, split at each single space.
 ///
-/// Two spaces in a row, or one at an end, have an empty token beside them. The empty text has one
-/// token, which is empty.
+/// Two spaces in a row, or one at an end, make an empty token. The empty text has one token, which
+/// is empty.
 pub fn tokens_of(alloc: Global, text: &[u8]) -> Result<Vec<&[u8]>, NoMemory>
     ensures { IfOk result (λ tokens. texts tokens.items ≡ tokens_of text.now) }
 {
@@ -17,7 +17,7 @@ pub fn tokens_of(alloc: Global, text: &[u8]) -> Result<Vec<&[u8]>, NoMemory>
     Ok(tokens)
 }
 
-/// The first token of a text, and what stands behind its space where there is one. It takes no memory.
+/// The first token of a text, and what follows the space after it, if there is one.
 pub fn split_token(text: &[u8]) -> (&[u8], Option<&[u8]>)
     ensures { MatchOption result.1 (tokens_of text.now ≡ result.0.now ∷ []) (λ rest. tokens_of text.now ≡ result.0.now ∷ tokens_of rest.now) }
 {

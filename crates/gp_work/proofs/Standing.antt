@@ -5,7 +5,7 @@ use Rattle.gp_work.specs.declared.moves.Move.{Move}
 use Rattle.gp_rules.specs.Own.{own_events}
 use Rattle.gp_msg.specs.declared.event.Event.{Event}
 use Rattle.gp_msg.specs.declared.message.MsgKind.{MsgKind}
-use Rattle.gp_wire.specs.Messages.{messages_in}
+use Rattle.gp_msg.specs.Records.{messages_in}
 use Rattle.gp_work.specs.Doing.{ProcessState, have, Goes, Posted}
 use Rattle.gp_work.specs.Moves.{Takes}
 use Rattle.gp_work.specs.Batches.{IsBatch, order, AreRead}
@@ -124,7 +124,7 @@ broken_after p f first q g r s m t = record {
   mid = g;
   last = t.mid;
   done = first;
-  left = [];
+  undone = [];
   split = sym (append-nil first);
   made = m.es;
   took = t.es;
@@ -140,7 +140,7 @@ broken_in p f first q m = record {
   mid = m.mid;
   last = m.mid;
   done = m.done;
-  left = m.left;
+  undone = m.undone;
   split = m.split;
   made = m.es;
   took = [];

@@ -1,4 +1,4 @@
--- Why a step or a rise is refused.
+-- Why a step or a recovery is refused.
 use Rattle.std.specs.Prelude.{◌≡◌, ℕ, true, false, [], ◌∷◌, Option}
 use Rattle.gp_msg.specs.declared.event.Event.TheVariants.{Fall}
 use Rattle.gp_msg.specs.declared.event.Kept.{Kept}
@@ -23,6 +23,6 @@ RiseCause p q rise.Disk = Rose p.faults q.faults
 RiseCause p q (rise.NotLog at) = Unit {0}
 RiseCause p q (rise.Changed found) = Unit {0}
 
--- it posted a fall
+-- it posted a crash
 abbrev pub Falls : ProcessState → ProcessState → Type 0
 Falls p q = (kept : Option Kept) × Posted p q (Fall p.node kept ∷ [])

@@ -43,25 +43,25 @@ IsBeyond n (Offer d) = ⊥
 IsBeyond n (Begin r) = ⊥
 IsBeyond n (Take k) = n ≤ k
 
--- a move was made; or it was left out, since the message that it takes was not sent; or the node fell instead, which it does once
+-- a move was made; or it was left out, because the message that it takes was not sent; or the node crashed instead, which it does at most once
 abbrev pub One : Node → ℕ → Move → List Event → Bool → Bool → Type 0
 One n have m es f g =
     ((es ≡ event_of n m ∷ []) × (g ≡ f))
     ⊎ ((es ≡ []) × (g ≡ f) × IsBeyond have m)
     ⊎ ((kept : Option Kept) × (es ≡ event.Fall n kept ∷ []) × (f ≡ false) × (g ≡ true))
 
--- each of the moves, in their order, was made, was left out, or is replaced by a fall, when so many messages were sent at first
+-- each of the moves, in their order, was made, was left out, or was replaced by a crash; `have` messages were sent at first
 abbrev pub Does : Node → ℕ → List Move → List Event → Bool → Bool → Type 0
 Does n have [] es f g = (es ≡ []) × (g ≡ f)
 Does n have (m ∷ ms) es f g = (first : List Event) × (rest : List Event) × (mid : Bool) × (es ≡ first ++ rest) × One n have m first f mid × Does n have ms rest mid g
 
--- a message was taken, or the node fell instead
+-- a message was taken, or the node crashed instead
 abbrev pub OneTake : Node → ℕ → Event → Bool → Bool → Type 0
 OneTake n k e f g =
     ((e ≡ event.Take n k) × (g ≡ f))
     ⊎ ((kept : Option Kept) × (e ≡ event.Fall n kept) × (f ≡ false) × (g ≡ true))
 
--- each of the messages, in this order, was taken, or is replaced by a fall
+-- each of the messages, in this order, was taken, or was replaced by a crash
 abbrev pub Takes : Node → List ℕ → List Event → Bool → Bool → Type 0
 Takes n [] es f g = (es ≡ []) × (g ≡ f)
 Takes n (k ∷ ks) es f g = (e : Event) × (rest : List Event) × (mid : Bool) × (es ≡ e ∷ rest) × OneTake n k e f mid × Takes n ks rest mid g

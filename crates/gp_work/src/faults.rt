@@ -1,4 +1,4 @@
-//! Why a step or a rise was refused, and why a job ended.
+//! Why a step or a recovery was refused, and why a job ended early.
 use gp_msg::Durable;
 
 /// Why a step was refused. It posted nothing.
@@ -10,12 +10,13 @@ pub enum StepFault {
     NoMemory,
     /// The disk failed, and the node is down.
     Disk,
-    /// The log has no room for the durable part, and the node is down: the size of a log with no other entry and the
-    /// need of the part, in bytes, exceed its limit together.
+    /// The log has no room for the durable part, and the node is down: `size`, the size of a log
+    /// with no other entry, and `need`, the need of the part, both in bytes, together exceed the
+    /// limit.
     Full { size: u64, need: u64 },
 }
 
-/// Why a node did not come up again. It is still down, and posted nothing.
+/// Why a node did not recover. It is still down, and posted nothing.
 #[derive(Drop, Debug)]
 pub enum RiseFault {
     /// Memory ran out.
@@ -24,12 +25,13 @@ pub enum RiseFault {
     Disk,
     /// The bytes of the disk break the format of a log at this place.
     NotLog { at: u64 },
-    /// The log has neither the durable part before the move in which the node went down nor that after it. What was found
-    /// is its last entry, if it has one.
+    /// The log has neither the durable part before the move in which the node went down nor the one
+    /// after it, or it has entries of version 1 of the format. `found` is its last entry, if it has
+    /// one.
     Changed { found: Option<Durable> },
 }
 
-/// Why a job ended early: the fault of the step or of the rise that ended it.
+/// Why a job ended early: the fault of the step or of the recovery that ended it.
 #[derive(Drop, Debug)]
 pub enum JobFault {
     NoMemory,

@@ -1,18 +1,18 @@
-//! A job of a phase.
+//! A job of a work phase.
 use crate::faults::JobFault;
 use crate::moves::Moves;
 
-/// What one node is to do in a phase: make the moves of `first`, and then take the messages from the cursor on that its
-/// role reads.
+/// What one node is to do in a work phase: make the moves of `first`, and then take the messages,
+/// from `cursor` on, that its role reads.
 #[derive(Drop)]
 pub struct Job<P> {
     pub cell: P,
     pub first: Moves,
     /// The number of the first message that it has not looked at.
     pub cursor: u64,
-    /// How many steps it tried. Its gate is given this number.
+    /// How many steps it has tried. The gate is given this number.
     pub turn: u64,
-    /// Whether its disk has failed in a step, so that it came up again or tried to.
+    /// Whether its disk has failed in a step, so that the node recovered or tried to.
     pub risen: bool,
     /// Why its work ended early, if it did.
     pub fault: Option<JobFault>,

@@ -1,4 +1,4 @@
-//! The work of a running node in a phase: it makes its moves, and then takes what others sent.
+//! The work of a running node in a work phase: it makes its moves, and then takes what others sent.
 #![tactic(auto)]
 
 mod faults;

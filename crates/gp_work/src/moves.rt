@@ -33,7 +33,7 @@ impl Model for Moves {
 }
 
 impl Moves {
-    /// No moves. It takes no memory.
+    /// No moves.
     pub fn new(alloc: Global) -> Moves
         ensures { result ≡ [] }
     {
@@ -54,7 +54,7 @@ impl Moves {
         }
     }
 
-    /// The moves, the first one first. It takes no memory.
+    /// The moves, in their order.
     pub fn as_slice(&self) -> &[Move]
         ensures { result.now ≡ self.now }
     {

@@ -3,7 +3,7 @@ ghost use Rattle.std.specs.Prelude.{◌≡◌, ◌<◌, ◌^◌, ℕ, true, fals
 ghost use Rattle.std.specs.Option.{option_map};
 ghost use Rattle.gp_msg.specs.declared.event.Event.{Event};
 ghost use Rattle.gp_msg.specs.Reads.{kind_of};
-ghost use Rattle.gp_wire.specs.Messages.{messages_in};
+ghost use Rattle.gp_msg.specs.Records.{messages_in};
 ghost use Rattle.gp_work.specs.Doing.{ProcessState, posted, have, Goes, Posted, HasRisen};
 ghost use Rattle.gp_work.specs.Moves.{event_of, Fits, HasRoom};
 ghost use Rattle.gp_work.specs.Causes.{StepCause, RiseCause, Falls};
@@ -14,8 +14,8 @@ use gp_edge::Gate;
 use gp_msg::{MsgKind, Node};
 use std::sync::Wait;
 
-/// A node that runs beside others over a net that they share. It can look at what was sent, make a step, and come up
-/// again after its disk failed.
+/// A node that runs beside others over a net that they share. It can look at what was sent, make a
+/// step, and recover after its disk failed.
 pub trait Process<N> {
     ghost state: { Self → ProcessState };
 
@@ -28,15 +28,16 @@ pub trait Process<N> {
     fn node(&self) -> Node
         ensures { result ≡ (state self.now).node };
 
-    /// How many records it posted. It takes no memory.
+    /// How many records it posted.
     fn posted(&self) -> u64
         ensures { result ≡ posted (state self.now) };
 
-    /// How many records it has seen. It takes no memory.
+    /// How many records it has seen.
     fn seen(&self) -> u64
         ensures { result ≡ length (state self.now).list };
 
-    /// The kind of message k, from 0, of the list that it has then seen.
+    /// The kind of message k, counted from 0, of the list that the node has seen at the end of this
+    /// call, and `None` exactly if that list has no message k.
     fn kind<W: Wait>(&mut self, rt: &W, net: &N, k: u64) -> Option<MsgKind>
         requires { is_of self.old net.now }
         ensures own { is_of self.new net.now }
@@ -47,7 +48,8 @@ pub trait Process<N> {
         ensures few { have (state self.new) < 2 ^ 64 }
         ensures answer { result ≡ option_map kind_of (slice_get (messages_in (state self.new).list) k) };
 
-    /// Makes a move of a node that is up: posts exactly one record. If it is refused, it posts nothing.
+    /// Makes a move of a node that is up: posts exactly one record. If it is refused, it posts
+    /// nothing. `turn` is for the gate.
     fn step<W: Wait, G: Gate>(
         &mut self,
         rt: &W,
@@ -67,7 +69,8 @@ pub trait Process<N> {
         ensures nothing { OnErr result (Posted (state self.old) (state self.new) []) }
         ensures cause { IfErr result (StepCause mv (state self.old) (state self.new) (too_great self.new (event_of (state self.old).node mv))) };
 
-    /// Comes up again after it went down: posts exactly one fall. If it is refused, it posts nothing.
+    /// Recovers a node that is down: posts exactly one record, of a crash (`Fall`). If it is
+    /// refused, it posts nothing.
     fn rise<W: Wait>(&mut self, rt: &W, net: &N) -> Result<u64, RiseFault>
         requires own { is_of self.old net.now }
         requires down { (state self.old).up ≡ false }

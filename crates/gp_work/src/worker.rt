@@ -1,6 +1,6 @@
 //! The work of one job.
 ghost use Rattle.std.specs.Prelude.{◌≡◌, ◌+◌, ◌-◌, ◌^◌, ◌<◌, ◌≤◌, false, true, cond, [], ◌∷◌, ℕ, All, length, slice_index_or, OnOk, IfOk, IfErr, OnErr};
-ghost use Rattle.gp_wire.specs.Messages.{messages_in};
+ghost use Rattle.gp_msg.specs.Records.{messages_in};
 ghost use Rattle.gp_work.specs.Doing.{posted, have, Goes, Posted};
 ghost use Rattle.gp_work.specs.Moves.{Fits, HasRoom, AllFit, HasOffer};
 ghost use Rattle.gp_work.specs.Batches.{IsBatch, is_odd, is_propose, takes_now, takes_late, upward, downward, order};
@@ -20,7 +20,7 @@ use std::sync::Wait;
 use std::thread::Threads;
 use std::{mem, thread};
 
-// Makes a move. If the disk fails for the first time, the node comes up again.
+// Makes a move. If the disk fails for the first time, the node recovers.
 fn make<N, P: Process<N>, W: Wait, G: Gate>(
     rt: &W,
     net: &N,
@@ -50,7 +50,7 @@ fn make<N, P: Process<N>, W: Wait, G: Gate>(
     }
 }
 
-// The node comes up again, unless it did before.
+// The node recovers, unless it did before.
 fn recover<N, P: Process<N>, W: Wait>(rt: &W, net: &N, job: &mut Job<P>) -> Result<(), JobFault>
     requires own { P.is_of job.old.cell net.now }
     requires down { (P.state job.old.cell).up ≡ false }
@@ -184,7 +184,8 @@ fn take_if<N, P: Process<N>, W: Wait, G: Gate>(
     }
 }
 
-// Takes the messages of a batch that the node reads, in order. The proposals are left out if they are to be taken later.
+// Takes the messages of a batch that the node reads, in order. The proposals are left out if they
+// are to be taken later.
 fn take_upward<N, P: Process<N>, W: Wait, G: Gate>(
     rt: &W,
     net: &N,
@@ -252,8 +253,8 @@ fn is_odd(node: Node) -> bool
     n % 2 == 1
 }
 
-// Takes the messages of a batch that the node reads. A node with an odd number takes the proposals behind the others, the
-// newest first, so that orders can collide.
+// Takes the messages of a batch that the node reads. A node with an odd number takes the proposals
+// after the others, the newest first, so that values can collide.
 fn take_batch<N, P: Process<N>, W: Wait, G: Gate>(
     rt: &W,
     net: &N,
@@ -342,10 +343,13 @@ fn run<N, P: Process<N>, W: Wait, G: Gate>(
     }
 }
 
-/// Does a job. It makes the moves of `first`, and then takes the messages from the cursor on that the node reads, batch by
-/// batch: a batch is what was sent when it looks. A node with an odd number takes the proposals of a batch after the other
-/// messages, the newest first. After the first failure of the disk in a step the node comes up again and goes on. Any other
-/// fault but `Waiting` ends the job.
+/// Does a job. It makes the moves of `first`, and then takes the messages, from `cursor` on, that
+/// the node reads. After the first failure of its disk in a step the node recovers and goes on. Any
+/// other fault except `Waiting` ends the job.
+///
+/// No clause says in which order messages are taken. They are taken batch by batch; a batch is what
+/// was sent when the node looks. A node with an odd number takes the proposals of a batch after the
+/// other messages, the newest first.
 pub fn work<N, P: Process<N>, W: Wait, G: Gate>(
     rt: &W,
     alloc: Global,
@@ -362,7 +366,8 @@ pub fn work<N, P: Process<N>, W: Wait, G: Gate>(
     }
 }
 
-/// Does the jobs of a phase, each in a thread of its own, and joins the threads. The jobs come back in order.
+/// Does the jobs of a work phase, and returns them in order. Each job has a thread of its own, and
+/// all threads are joined; no clause says so.
 pub fn workers<N: Sync, P: Process<N> + Send, W: Threads + Wait + Sync, G: Gate + Sync>(
     rt: &W,
     alloc: Global,

@@ -16,10 +16,10 @@ use Rattle.gp_msg.specs.declared.record.Record.{Record}
 use Rattle.gp_msg.specs.Messages.{Stamped, message_of}
 use Rattle.gp_coordinator.specs.Epochs.{CoordinatorInEpoch}
 use Rattle.gp_run.specs.Learned.{learned_at}
-use Rattle.gp_run.specs.Runs.{entries_in}
+use Rattle.gp_run.specs.Runs.{newest_first}
 use Rattle.gp_run.specs.States.{learner_at, coordinator_at}
 use Rattle.gp_run.specs.TopCount.{rounds_of, greatest_count, rounds_below, top_count, top_of_messages}
-use Rattle.gp_run.specs.Messages.{messages_in}
+use Rattle.gp_msg.specs.Records.{messages_in}
 use Rattle.gp_run.proofs.Telling.{messages-entries}
 use Rattle.gp_run.proofs.TopRounds.{top_is}
 use Rattle.gp_world.specs.Nodes.{NodesState, states_below}
@@ -31,13 +31,13 @@ use Rattle.gp_world.proofs.Numbering.{length-states_below, slice_get-states_belo
 pub learner_there : (config : Counts) (records : List Record) (nodes : NodesState) (l : ℕ) → IsSound config records nodes → l < config.learners → l < length nodes.learners
 learner_there config records nodes l sound h =
     let many = ap (λ (n : NodesState). length n.learners) sound.nodes_are in
-    omega (arith, h, many, length-states_below config.learners (λ i. learner_at config i (entries_in records)))
+    omega (arith, h, many, length-states_below config.learners (λ i. learner_at config i (newest_first records)))
 
 pub learner_shows : (config : Counts) (records : List Record) (nodes : NodesState) (l : ℕ) → IsSound config records nodes → l < config.learners
-    → option_map (λ s. s.learned) (slice_get nodes.learners l) ≡ Some (learned_at config l (entries_in records))
+    → option_map (λ s. s.learned) (slice_get nodes.learners l) ≡ Some (learned_at config l (newest_first records))
 learner_shows config records nodes l sound h =
     ap (λ (n : NodesState). option_map (λ s. s.learned) (slice_get n.learners l)) sound.nodes_are
-    ∙ ap (option_map (λ s. s.learned)) (slice_get-states_below config.learners (λ i. learner_at config i (entries_in records)) l h)
+    ∙ ap (option_map (λ s. s.learned)) (slice_get-states_below config.learners (λ i. learner_at config i (newest_first records)) l h)
 
 -- ---- the greatest round
 
@@ -71,11 +71,11 @@ rounds_of_states zero f = refl
 rounds_of_states (suc n) f = map-append (λ x. x.state.round) (states_below n f) (f n ∷ []) ∙ ap (λ rs. rs ++ (f n).state.round ∷ []) (rounds_of_states n f)
 
 pub greatest_is_top : (config : Counts) (records : List Record) (nodes : NodesState) → IsSound config records nodes → (a b : ℕ) → a ≡ top_of_messages (map message_of (messages_in records)) → b ≡ greatest_count (map (λ s. s.state.round) nodes.coordinators)
-    → max a b ≡ top_count config (entries_in records)
+    → max a b ≡ top_count config (newest_first records)
 greatest_is_top config records nodes sound a b h k =
     let sent = h ∙ ap top_of_messages (sym (messages-entries records)) in
-    let own = k ∙ ap (λ (n : NodesState). greatest_count (map (λ s. s.state.round) n.coordinators)) sound.nodes_are ∙ ap greatest_count (rounds_of_states config.coordinators (λ c. coordinator_at config c (entries_in records))) in
-    (λ i. max (sent i) (own i)) ∙ sym (top_is config (entries_in records))
+    let own = k ∙ ap (λ (n : NodesState). greatest_count (map (λ s. s.state.round) n.coordinators)) sound.nodes_are ∙ ap greatest_count (rounds_of_states config.coordinators (λ c. coordinator_at config c (newest_first records))) in
+    (λ i. max (sent i) (own i)) ∙ sym (top_is config (newest_first records))
 
 -- ---- the greatest round of messages
 

@@ -23,7 +23,7 @@ use Rattle.gp_learner.specs.Epochs as learner
 use Rattle.gp_run.specs.Messages.{messages, on_message}
 use Rattle.gp_msg.specs.Nodes.{node_of, is_present, fits_among}
 use Rattle.gp_command.specs.declared.command.TheConstants.{PROPOSERS}
-use Rattle.gp_run.specs.States.{proposer_acts, proposer_at, coordinator_acts, coordinator_at, coordinator_left, coordinator_kept, acceptor_left, acceptor_acts, acceptor_at, acceptor_kept, learner_acts, learner_at}
+use Rattle.gp_run.specs.States.{proposer_acts, proposer_at, coordinator_acts, coordinator_at, coordinator_after_crash, coordinator_kept, acceptor_after_crash, acceptor_acts, acceptor_at, acceptor_kept, learner_acts, learner_at}
 use Rattle.gp_run.specs.Legal.{Legal, fits, sent_by}
 use Rattle.gp_run.specs.Refusals.{message_named, refusal_among}
 use Rattle.gp_run.specs.Runs.{entry_after}
@@ -129,32 +129,32 @@ module _ (config : Counts) (es : List Entry) where
       (changed-states_below config.learners (λ b. learner_at config b es) (λ b. (learner_acts b (learner_at config b es) (messages es) (Take (Learner l) k)).0) l (λ s. (learner.take s m).0) (λ b. learner_taking l k b m e))
 
   -- the durable part that is left is the one that is kept
-  coordinator_leaves : (node : Node) (s : CoordinatorInEpoch) (what : Option Kept) → coordinator_left s what (named_in es (Fall node what)) ≡ coordinator_kept s (messages es) what
+  coordinator_leaves : (node : Node) (s : CoordinatorInEpoch) (what : Option Kept) → coordinator_after_crash s what (named_in es (Fall node what)) ≡ coordinator_kept s (messages es) what
   coordinator_leaves node s None = refl
   coordinator_leaves node s (Some (kept.Begin r)) = refl
   coordinator_leaves node s (Some (kept.Take k)) = refl
 
-  acceptor_leaves : (node : Node) (s : AcceptorInEpoch) (what : Option Kept) → acceptor_left s what (named_in es (Fall node what)) ≡ acceptor_kept s (messages es) what
+  acceptor_leaves : (node : Node) (s : AcceptorInEpoch) (what : Option Kept) → acceptor_after_crash s what (named_in es (Fall node what)) ≡ acceptor_kept s (messages es) what
   acceptor_leaves node s None = refl
   acceptor_leaves node s (Some (kept.Begin r)) = refl
   acceptor_leaves node s (Some (kept.Take k)) = refl
 
   coordinator_falling : (c b : ℕ) (what : Option Kept)
-      → cond (nat_eq b c) (coordinator.fall (coordinator_at config b es) (coordinator_left (coordinator_at config b es) what (named_in es (Fall (Coordinator c) what)))) (coordinator_at config b es)
+      → cond (nat_eq b c) (coordinator.fall (coordinator_at config b es) (coordinator_after_crash (coordinator_at config b es) what (named_in es (Fall (Coordinator c) what)))) (coordinator_at config b es)
       ≡ (coordinator_acts b (coordinator_at config b es) (messages es) (Fall (Coordinator c) what)).0
   coordinator_falling c b what =
       let s = coordinator_at config b es in
       let nothing : Option Stamped = None in
-      first_of (nat_eq b c) (coordinator.fall s (coordinator_left s what (named_in es (Fall (Coordinator c) what))), nothing) (s, nothing)
+      first_of (nat_eq b c) (coordinator.fall s (coordinator_after_crash s what (named_in es (Fall (Coordinator c) what))), nothing) (s, nothing)
       ∙ ap (λ part. (cond {A = CoordinatorInEpoch × Option Stamped} (nat_eq b c) (coordinator.fall s part, nothing) (s, nothing)).0) (coordinator_leaves (Coordinator c) s what)
 
   acceptor_falling : (a b : ℕ) (what : Option Kept)
-      → cond (nat_eq b a) (acceptor.fall (acceptor_at config b es) (acceptor_left (acceptor_at config b es) what (named_in es (Fall (Acceptor a) what)))) (acceptor_at config b es)
+      → cond (nat_eq b a) (acceptor.fall (acceptor_at config b es) (acceptor_after_crash (acceptor_at config b es) what (named_in es (Fall (Acceptor a) what)))) (acceptor_at config b es)
       ≡ (acceptor_acts b (acceptor_at config b es) (messages es) (Fall (Acceptor a) what)).0
   acceptor_falling a b what =
       let s = acceptor_at config b es in
       let nothing : Option Stamped = None in
-      first_of (nat_eq b a) (acceptor.fall s (acceptor_left s what (named_in es (Fall (Acceptor a) what))), nothing) (s, nothing)
+      first_of (nat_eq b a) (acceptor.fall s (acceptor_after_crash s what (named_in es (Fall (Acceptor a) what))), nothing) (s, nothing)
       ∙ ap (λ part. (cond {A = AcceptorInEpoch × Option Stamped} (nat_eq b a) (acceptor.fall s part, nothing) (s, nothing)).0) (acceptor_leaves (Acceptor a) s what)
 
   -- what an event makes of the nodes of a run are those of the run with its entry
@@ -169,10 +169,10 @@ module _ (config : Counts) (es : List Entry) where
   stepped (Fall (Proposer p) what) = refl
   stepped (Fall (Coordinator c) what) =
       ap (λ xs. record (nodes_at config es) { coordinators = xs })
-      (changed-states_below config.coordinators (λ b. coordinator_at config b es) (λ b. (coordinator_acts b (coordinator_at config b es) (messages es) (Fall (Coordinator c) what)).0) c (λ s. coordinator.fall s (coordinator_left s what (named_in es (Fall (Coordinator c) what)))) (λ b. coordinator_falling c b what))
+      (changed-states_below config.coordinators (λ b. coordinator_at config b es) (λ b. (coordinator_acts b (coordinator_at config b es) (messages es) (Fall (Coordinator c) what)).0) c (λ s. coordinator.fall s (coordinator_after_crash s what (named_in es (Fall (Coordinator c) what)))) (λ b. coordinator_falling c b what))
   stepped (Fall (Acceptor a) what) =
       ap (λ xs. record (nodes_at config es) { acceptors = xs })
-      (changed-states_below config.acceptors (λ b. acceptor_at config b es) (λ b. (acceptor_acts b (acceptor_at config b es) (messages es) (Fall (Acceptor a) what)).0) a (λ s. acceptor.fall s (acceptor_left s what (named_in es (Fall (Acceptor a) what)))) (λ b. acceptor_falling a b what))
+      (changed-states_below config.acceptors (λ b. acceptor_at config b es) (λ b. (acceptor_acts b (acceptor_at config b es) (messages es) (Fall (Acceptor a) what)).0) a (λ s. acceptor.fall s (acceptor_after_crash s what (named_in es (Fall (Acceptor a) what)))) (λ b. acceptor_falling a b what))
   stepped (Fall (Learner l) what) =
       ap (λ xs. record (nodes_at config es) { learners = xs })
       (changed-states_below config.learners (λ b. learner_at config b es) (λ b. (learner_acts b (learner_at config b es) (messages es) (Fall (Learner l) what)).0) l learner.fall (λ b. let nothing : Option Stamped = None in first_of (nat_eq b l) (learner.fall (learner_at config b es), nothing) (learner_at config b es, nothing)))

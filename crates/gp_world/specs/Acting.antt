@@ -17,7 +17,7 @@ use Rattle.gp_coordinator.specs.Epochs as coordinator
 use Rattle.gp_acceptor.specs.Epochs.{AcceptorInEpoch}
 use Rattle.gp_acceptor.specs.Epochs as acceptor
 use Rattle.gp_learner.specs.Epochs as learner
-use Rattle.gp_run.specs.States.{coordinator_left, acceptor_left}
+use Rattle.gp_run.specs.States.{coordinator_after_crash, acceptor_after_crash}
 use Rattle.gp_world.specs.Nodes.{NodesState, IsThere}
 
 -- a list with the element at a place changed by f
@@ -48,11 +48,11 @@ sent_at_take n (Coordinator c) m = sent_of n.coordinators c (λ s. coordinator.t
 sent_at_take n (Acceptor a) m = sent_of n.acceptors a (λ s. acceptor.take s m)
 sent_at_take n (Learner l) m = sent_of n.learners l (λ s. learner.take s m)
 
--- the nodes after one of them fell
+-- the nodes after one of them crashed
 abbrev pub after_fall : NodesState → Node → Option Kept → Option Stamped → NodesState
 after_fall n (Proposer p) what m = n
-after_fall n (Coordinator c) what m = record n { coordinators = changed n.coordinators c (λ s. coordinator.fall s (coordinator_left s what m)) }
-after_fall n (Acceptor a) what m = record n { acceptors = changed n.acceptors a (λ s. acceptor.fall s (acceptor_left s what m)) }
+after_fall n (Coordinator c) what m = record n { coordinators = changed n.coordinators c (λ s. coordinator.fall s (coordinator_after_crash s what m)) }
+after_fall n (Acceptor a) what m = record n { acceptors = changed n.acceptors a (λ s. acceptor.fall s (acceptor_after_crash s what m)) }
 after_fall n (Learner l) what m = record n { learners = changed n.learners l learner.fall }
 
 -- the nodes after an event
@@ -71,7 +71,7 @@ sent_at_event n (Take node k) None = None
 sent_at_event n (Take node k) (Some m) = sent_at_take n node m
 sent_at_event n (Fall node what) m = None
 
--- proposer p can have one more offer
+-- proposer p can number one more offer
 abbrev pub CanOffer : List ProposerState → ℕ → Type 0
 CanOffer proposers p = (s : ProposerState) → slice_get proposers p ≡ Some s → s.offers < 2 ^ 32 - 1
 

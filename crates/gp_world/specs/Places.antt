@@ -1,4 +1,4 @@
--- The places of the messages of some records, which come the oldest first.
+-- The places of the messages in a list of records, the oldest record first.
 use Rattle.std.specs.Prelude.{ℕ, List, map, slice_get, Option, Some, None}
 use Rattle.gp_msg.specs.declared.message.Msg.{Msg}
 use Rattle.gp_msg.specs.declared.record.Record.{Record}
@@ -12,11 +12,11 @@ first_message (Some r) = slice_get r.out 0
 abbrev pub first_at : List Record → ℕ → Option Msg
 first_at records place = first_message (slice_get records place)
 
--- the messages that the records at these places have
+-- the first messages of the records at these places
 abbrev pub messages_at : List Record → List ℕ → List (Option Msg)
 messages_at records places = map (first_at records) places
 
--- messages each of which is there
+-- these messages, none of which is missing
 abbrev pub all_there : List Msg → List (Option Msg)
 all_there ms = map (λ m. Some m) ms
 

@@ -5,7 +5,7 @@ ghost use Rattle.gp_msg.specs.Messages.{message_of, part_of, epoch_of};
 ghost use Rattle.gp_acceptor.specs.Epochs.{opening};
 ghost use Rattle.gp_acceptor.specs.Epochs as table;
 ghost use Rattle.gp_world.specs.Nodes.{states_below};
-ghost use Rattle.gp_run.specs.States.{acceptor_left};
+ghost use Rattle.gp_run.specs.States.{acceptor_after_crash};
 ghost use Rattle.gp_world.specs.Acting.{changed, sent_of, HasRoom};
 
 use gp_acceptor::Acceptor;
@@ -14,7 +14,7 @@ use gp_msg::{Durable, Kept, Msg, Outs};
 use gp_round::Config;
 use std::alloc::Global;
 
-/// All acceptors of a configuration, before anything happened.
+/// All acceptors of a configuration in their opening states, in the order of their numbers.
 #[tactic(auto, using(crate::proofs::Numbering::states_more))]
 pub fn new_all(alloc: Global, config: &Config) -> Result<Vec<Acceptor>, NoMemory>
     ensures opening { IfOk result (λ all. all.items ≡ states_below config.now.acceptors (opening config.now)) }
@@ -27,7 +27,7 @@ pub fn new_all(alloc: Global, config: &Config) -> Result<Vec<Acceptor>, NoMemory
     Ok(all)
 }
 
-/// An acceptor takes a message. If memory runs out, nothing changes.
+/// Acceptor `a` takes the message `m`. Returns what it sends. If memory runs out, nothing changes.
 #[tactic(auto, using(crate::proofs::Changing::changed_at, crate::proofs::Changing::sent_from, crate::proofs::Rooms::closes_no_last))]
 pub fn take(acceptors: &mut [Acceptor], a: u32, m: &Msg) -> Result<Outs, NoMemory>
     requires there { a < length acceptors.old }
@@ -40,8 +40,9 @@ pub fn take(acceptors: &mut [Acceptor], a: u32, m: &Msg) -> Result<Outs, NoMemor
     acceptors[a as usize].take(m)
 }
 
-/// An acceptor falls, and keeps the step that `kept` names, of which `m` is the message. If memory runs
-/// out, nothing changes.
+/// Acceptor `a` crashes and restarts. If `kept` is `None`, its durable part is the one before the
+/// crash. Otherwise it is the one after the step that `kept` names, whose message is `m`. If memory
+/// runs out, nothing changes.
 #[tactic(auto, using(crate::proofs::Changing::changed_at))]
 pub fn fall(
     acceptors: &mut [Acceptor],
@@ -52,7 +53,7 @@ pub fn fall(
     requires there { a < length acceptors.old }
     requires room { HasRoom (option_map message_of (option_copied m)) }
     ensures next { OnOk result (acceptors.new
-        ≡ changed acceptors.old a (λ s. table.fall s (acceptor_left s kept (option_map message_of (option_copied m.entry))))) }
+        ≡ changed acceptors.old a (λ s. table.fall s (acceptor_after_crash s kept (option_map message_of (option_copied m.entry))))) }
     ensures unchanged { OnErr result (acceptors.new ≡ acceptors.old) }
 {
     let durable = durable_left(&acceptors[a as usize], kept, m)?;
@@ -60,7 +61,8 @@ pub fn fall(
     Ok(())
 }
 
-// The durable part after a fall: that of the acceptor, or that after the step which the fall keeps.
+// The durable part that a crash leaves: the acceptor's, or the one after the step that the crash
+// keeps.
 #[tactic(auto, using(crate::proofs::Rooms::closes_no_last))]
 fn durable_left(
     acceptor: &Acceptor,
@@ -68,7 +70,7 @@ fn durable_left(
     m: Option<&Msg>,
 ) -> Result<Durable, NoMemory>
     requires { HasRoom (option_map message_of (option_copied m)) }
-    ensures { IfOk result (λ d. part_of d ≡ acceptor_left acceptor.now kept (option_map message_of (option_copied m.entry))) }
+    ensures { IfOk result (λ d. part_of d ≡ acceptor_after_crash acceptor.now kept (option_map message_of (option_copied m.entry))) }
 {
     match (kept, m) {
         (Some(Kept::Take(_)), Some(m)) => {

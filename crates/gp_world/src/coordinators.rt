@@ -6,7 +6,7 @@ ghost use Rattle.gp_coordinator.specs.Epochs.{opening, durable};
 ghost use Rattle.gp_coordinator.specs.Epochs as table;
 ghost use Rattle.gp_run.specs.TopCount.{greatest_count};
 ghost use Rattle.gp_world.specs.Nodes.{states_below};
-ghost use Rattle.gp_run.specs.States.{coordinator_left};
+ghost use Rattle.gp_run.specs.States.{coordinator_after_crash};
 ghost use Rattle.gp_world.specs.Acting.{changed, sent_of, CanBegin, HasRoom};
 
 use gp_command::NoMemory;
@@ -15,7 +15,7 @@ use gp_msg::{Durable, Kept, Msg, Outs};
 use gp_round::{Config, Round};
 use std::alloc::Global;
 
-/// All coordinators of a configuration, before anything happened.
+/// All coordinators of a configuration in their opening states, in the order of their numbers.
 #[tactic(auto, using(crate::proofs::Numbering::states_more))]
 pub fn new_all(alloc: Global, config: &Config) -> Result<Vec<Coordinator>, NoMemory>
     ensures { IfOk result (λ all. all.items ≡ states_below config.now.coordinators (opening config.now)) }
@@ -27,7 +27,7 @@ pub fn new_all(alloc: Global, config: &Config) -> Result<Vec<Coordinator>, NoMem
     Ok(all)
 }
 
-/// A coordinator begins a round. If memory runs out, nothing changes.
+/// Coordinator `c` begins a round. Returns what it sends. If memory runs out, nothing changes.
 #[tactic(auto, using(crate::proofs::Changing::changed_at, crate::proofs::Changing::sent_from))]
 pub fn begin(coordinators: &mut [Coordinator], c: u32, round: Round) -> Result<Outs, NoMemory>
     requires there { c < length coordinators.old }
@@ -40,7 +40,8 @@ pub fn begin(coordinators: &mut [Coordinator], c: u32, round: Round) -> Result<O
     coordinators[c as usize].begin(round)
 }
 
-/// A coordinator takes a message. If memory runs out, nothing changes.
+/// Coordinator `c` takes the message `m`. Returns what it sends. If memory runs out, nothing
+/// changes.
 #[tactic(auto, using(crate::proofs::Changing::changed_at, crate::proofs::Changing::sent_from, crate::proofs::Rooms::closes_no_last))]
 pub fn take(coordinators: &mut [Coordinator], c: u32, m: &Msg) -> Result<Outs, NoMemory>
     requires there { c < length coordinators.old }
@@ -54,8 +55,9 @@ pub fn take(coordinators: &mut [Coordinator], c: u32, m: &Msg) -> Result<Outs, N
     coordinators[c as usize].take(m)
 }
 
-/// A coordinator falls, and keeps the step that `kept` names, of which `m` is the message. If memory runs
-/// out, nothing changes.
+/// Coordinator `c` crashes and restarts. If `kept` is `None`, its durable part is the one before
+/// the crash. Otherwise it is the one after the step that `kept` names, whose message is `m`. If
+/// memory runs out, nothing changes.
 #[tactic(auto, using(crate::proofs::Changing::changed_at))]
 pub fn fall(
     coordinators: &mut [Coordinator],
@@ -66,13 +68,13 @@ pub fn fall(
     requires there { c < length coordinators.old }
     requires room { HasRoom (option_map message_of (option_copied m)) }
     ensures next { OnOk result (coordinators.new
-        ≡ changed coordinators.old c (λ s. table.fall s (coordinator_left s kept (option_map message_of (option_copied m.entry))))) }
+        ≡ changed coordinators.old c (λ s. table.fall s (coordinator_after_crash s kept (option_map message_of (option_copied m.entry))))) }
     ensures unchanged { OnErr result (coordinators.new ≡ coordinators.old) }
 {
     fall_one(&mut coordinators[c as usize], kept, m)
 }
 
-/// The greatest count of the round of a coordinator, and 0 if there are no coordinators. It takes no memory.
+/// The greatest count among the rounds of the coordinators, and 0 if there are no coordinators.
 pub fn top_count(coordinators: &[Coordinator]) -> u32
     ensures { result ≡ greatest_count (map (λ s. s.state.round) coordinators.now) }
 {
@@ -83,7 +85,8 @@ pub fn top_count(coordinators: &[Coordinator]) -> u32
     top
 }
 
-// A coordinator falls: its epoch and its round stay, or are those after the step which the fall keeps.
+// A coordinator crashes. Its epoch and its round stay, or are those after the step that the crash
+// keeps.
 fn fall_one(
     coordinator: &mut Coordinator,
     kept: Option<Kept>,
@@ -91,7 +94,7 @@ fn fall_one(
 ) -> Result<(), NoMemory>
     requires { HasRoom (option_map message_of (option_copied m)) }
     ensures next { OnOk result (coordinator.new
-        ≡ table.fall coordinator.old (coordinator_left coordinator.old kept (option_map message_of (option_copied m.entry)))) }
+        ≡ table.fall coordinator.old (coordinator_after_crash coordinator.old kept (option_map message_of (option_copied m.entry)))) }
     ensures unchanged { OnErr result (coordinator.new ≡ coordinator.old) }
 {
     match (kept, m) {
@@ -108,7 +111,7 @@ fn fall_one(
     }
 }
 
-// A coordinator falls after it has taken a message.
+// A coordinator crashes after it has taken a message.
 #[tactic(auto, using(crate::proofs::Falling::falls_after, crate::proofs::Rooms::closes_no_last))]
 fn fall_after(coordinator: &mut Coordinator, m: &Msg) -> Result<(), NoMemory>
     requires { epoch_of (message_of m.now) < 2 ^ 32 - 1 }

@@ -15,7 +15,7 @@ use gp_msg::{Msg, Outs};
 use gp_round::Config;
 use std::alloc::Global;
 
-/// All learners of a configuration, before anything happened.
+/// All learners of a configuration in their opening states, in the order of their numbers.
 #[tactic(auto, using(crate::proofs::Numbering::states_more))]
 pub fn new_all(alloc: Global, config: &Config) -> Result<Vec<Learner>, NoMemory>
     ensures { IfOk result (λ all. all.items ≡ states_below config.now.learners (opening config.now)) }
@@ -27,7 +27,7 @@ pub fn new_all(alloc: Global, config: &Config) -> Result<Vec<Learner>, NoMemory>
     Ok(all)
 }
 
-/// A learner takes a message. If memory runs out, nothing changes.
+/// Learner `l` takes the message `m`. Returns what it sends. If memory runs out, nothing changes.
 #[tactic(auto, using(crate::proofs::Changing::changed_at, crate::proofs::Changing::sent_from, crate::proofs::Rooms::learner_can_take))]
 pub fn take(learners: &mut [Learner], l: u32, m: &Msg) -> Result<Outs, NoMemory>
     requires there { l < length learners.old }
@@ -40,7 +40,7 @@ pub fn take(learners: &mut [Learner], l: u32, m: &Msg) -> Result<Outs, NoMemory>
     learners[l as usize].take(m)
 }
 
-/// A learner falls: it returns to its opening state. It takes no memory.
+/// Learner `l` crashes: it returns to its opening state.
 #[tactic(auto, using(crate::proofs::Changing::changed_at))]
 pub fn fall(learners: &mut [Learner], l: u32)
     requires { l < length learners.old }
@@ -49,7 +49,7 @@ pub fn fall(learners: &mut [Learner], l: u32)
     learners[l as usize].fall();
 }
 
-/// The history that a learner shows. It takes no memory.
+/// The history that learner `l` shows.
 pub fn learned(learners: &[Learner], l: u32) -> &History
     requires { l < length learners.now }
     ensures { option_map (λ s. s.learned) (slice_get learners.now l) ≡ Some (history_of result.now) }

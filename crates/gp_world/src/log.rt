@@ -3,7 +3,7 @@ ghost use Rattle.std.specs.Prelude.{◌≡◌, ◌<◌, ◌≤◌, ◌++◌, ◌
 ghost use Rattle.std.specs.Option.{option_copied, option_and_then};
 ghost use Rattle.gp_run.specs.Refusals.{message_named};
 ghost use Rattle.gp_msg.specs.Messages.{message_of};
-ghost use Rattle.gp_run.specs.Messages.{messages_in};
+ghost use Rattle.gp_msg.specs.Records.{messages_in};
 ghost use Rattle.gp_run.specs.TopCount.{rounds_of, greatest_count, top_of_messages};
 ghost use Rattle.gp_world.specs.Places.{messages_at, message_at, all_there};
 
@@ -16,7 +16,7 @@ use std::alloc::Global;
 #[derive(Drop, Debug)]
 pub struct Log {
     pub records: Vec<Record>,
-    /// At place k, the place of the record that has message k.
+    /// Entry k is the index of the record that has message k.
     pub places: Vec<usize>,
     /// The greatest count of a round in a message, and 0 if there is none.
     pub top: u32,
@@ -25,7 +25,7 @@ pub struct Log {
 }
 
 impl Log {
-    /// No records. It takes no memory.
+    /// A log without records.
     pub fn new(alloc: Global) -> Log
         ensures { result.records.items ≡ [] }
     {
@@ -44,7 +44,7 @@ impl Log {
         self.places.len() as u64
     }
 
-    /// Message k, from 0, if it was sent.
+    /// Message k, counted from 0, or `None` if it was not sent.
     #[tactic(auto, using(crate::proofs::Placing::found_at))]
     pub fn message(&self, k: u64) -> Option<&Msg>
         ensures { option_copied result ≡ slice_get (messages_in self.now.records.items) k }
@@ -52,7 +52,7 @@ impl Log {
         at_place(&self.records, &self.places, k)
     }
 
-    /// The message that an event names, if it names one that was sent.
+    /// The message that an event names, or `None` if it names none or one that was not sent.
     pub fn named(&self, event: &Event) -> Option<&Msg>
         ensures { option_copied result ≡ option_and_then (slice_get (messages_in self.now.records.items)) (message_named event.now) }
     {
@@ -62,7 +62,7 @@ impl Log {
         }
     }
 
-    /// Reserves memory for one more record. If memory runs out, the records are as before.
+    /// Reserves memory for one more record. If memory runs out, the records are unchanged.
     pub fn reserve(&mut self) -> Result<(), NoMemory>
         ensures records { self.new.records.items ≡ self.old.records.items }
         ensures room_for_a_record { OnOk result (vec_len self.new.records < vec_capacity self.new.records) }
@@ -73,7 +73,7 @@ impl Log {
         Ok(())
     }
 
-    /// Adds a record after the others. It takes no memory.
+    /// Adds a record after the others, in the memory that `reserve` has reserved.
     pub fn post(&mut self, last: Record)
         requires room_for_a_record { vec_len self.old.records < vec_capacity self.old.records }
         requires room_for_a_place { vec_len self.old.places < vec_capacity self.old.places }
@@ -87,7 +87,7 @@ impl Log {
         let _ = self.records.push(last);
     }
 
-    /// The records alone. It takes no memory.
+    /// Returns the records alone.
     pub fn into_records(self) -> Records
         ensures { result ≡ self.records.items }
     {
@@ -96,7 +96,7 @@ impl Log {
     }
 }
 
-// The message k, found by its place.
+// Message k, found by its place.
 fn at_place<'a>(records: &'a [Record], places: &[usize], k: u64) -> Option<&'a Msg>
     ensures { option_copied result ≡ message_at records.now (slice_get places.now k) }
 {

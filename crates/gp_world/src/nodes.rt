@@ -41,7 +41,7 @@ impl Model for Nodes {
 }
 
 impl Nodes {
-    /// The nodes before anything happened.
+    /// The nodes of a configuration in their opening states.
     pub fn new(alloc: Global, config: &Config) -> Result<Nodes, NoMemory>
         ensures opening { IfOk result (λ n. n ≡ nodes_at config.now []) }
         ensures some { OnOk result (0 < config.now.acceptors) }
@@ -55,8 +55,8 @@ impl Nodes {
         })
     }
 
-    /// An event happens at its node; `m` is the message that it names, and the answer is what the node
-    /// sends. If memory runs out, nothing changes.
+    /// An event happens at its node. Returns what the node sends. `m` is the message that the event
+    /// names. If memory runs out, nothing changes.
     pub fn act(&mut self, event: &Event, m: Option<&Msg>) -> Result<Outs, NoMemory>
         requires { CanAct self.old event.now (option_map message_of (option_copied m)) }
         ensures next { OnOk result (self.new
@@ -83,7 +83,7 @@ impl Nodes {
         }
     }
 
-    /// The history that a learner shows. It takes no memory.
+    /// The history that learner `l` shows.
     pub fn learned(&self, l: u32) -> &History
         requires { l < length self.now.learners }
         ensures { option_map (λ s. s.learned) (slice_get self.now.learners l) ≡ Some (history_of result.now) }
@@ -91,7 +91,7 @@ impl Nodes {
         learners::learned(&self.learners, l)
     }
 
-    /// The greatest count of the round of a coordinator. It takes no memory.
+    /// The greatest count among the rounds of the coordinators, and 0 if there are no coordinators.
     pub fn top_count(&self) -> u32
         ensures { result ≡ greatest_count (map (λ s. s.state.round) self.now.coordinators) }
     {
@@ -115,7 +115,7 @@ impl Nodes {
         }
     }
 
-    // A node falls, and keeps the step that `kept` names.
+    // A node crashes, and keeps the step that `kept` names.
     fn fall(&mut self, node: Node, kept: Option<Kept>, m: Option<&Msg>) -> Result<(), NoMemory>
         requires there { IsThere self.old node }
         requires room { HasRoom (option_map message_of (option_copied m)) }

@@ -12,7 +12,7 @@ use gp_msg::Outs;
 use gp_proposer::{Proposer, Unoffered};
 use std::alloc::Global;
 
-/// All proposers, before anything happened.
+/// All proposers in their opening states, in the order of their numbers.
 #[tactic(auto, using(crate::proofs::Numbering::states_more))]
 pub fn new_all(alloc: Global) -> Result<Vec<Proposer>, NoMemory>
     ensures { IfOk result (λ all. all.items ≡ states_below PROPOSERS opening) }
@@ -24,7 +24,7 @@ pub fn new_all(alloc: Global) -> Result<Vec<Proposer>, NoMemory>
     Ok(all)
 }
 
-/// A proposer is offered a draft. If memory runs out, nothing changes.
+/// Proposer `p` is offered a draft. Returns what it sends. If memory runs out, nothing changes.
 #[tactic(auto, using(crate::proofs::Changing::changed_at, crate::proofs::Changing::sent_from))]
 pub fn offer(
     proposers: &mut [Proposer],

@@ -3,7 +3,8 @@ ghost use Rattle.std.specs.Prelude.{◌≡◌, ◌<◌, ◌^◌, ◌∷◌, [], 
 ghost use Rattle.std.specs.Option.{option_map, option_copied};
 ghost use Rattle.gp_history.specs.Sequence.{history_of};
 ghost use Rattle.gp_msg.specs.Messages.{message_of};
-ghost use Rattle.gp_run.specs.Messages.{messages, messages_in};
+ghost use Rattle.gp_run.specs.Messages.{messages};
+ghost use Rattle.gp_msg.specs.Records.{messages_in};
 ghost use Rattle.gp_run.specs.Legal.{Legal};
 ghost use Rattle.gp_run.specs.Agreement.{Agrees};
 ghost use Rattle.gp_run.specs.Learned.{learned_at};
@@ -24,8 +25,8 @@ use gp_round::Config;
 use std::alloc::Global;
 use std::marker::Model;
 
-/// All nodes of a configuration, with the records of what they did. The records of a world are a legal
-/// run, whatever events it was given, and what learners show in it agrees.
+/// All nodes of a configuration, with the records of what they did. The records of a world are a
+/// legal run, whatever events it was given, and what learners show in it agrees.
 #[derive(Drop, Debug)]
 pub struct World {
     config: Config,
@@ -56,9 +57,10 @@ impl World {
         })
     }
 
-    /// An event happens: one record is added, and the answer is the number of messages after it. An
-    /// event that does not fit is refused for the first cause in the order of `StepRefused`. After a
-    /// refusal, and if memory runs out, the world is as before.
+    /// An event happens: one record is added. Returns the number of messages that were sent up to
+    /// then. An event that does not fit is refused for the first cause in the order of
+    /// `StepRefused`. After a refusal, and if memory runs out, the world is unchanged. A world
+    /// takes at most 2^31 events.
     pub fn step(&mut self, event: Event) -> Result<u64, StepRefused>
         requires { length self.old.records < 2 ^ 31 }
         ensures added { OnOk result (AddsRecordOf self.old self.new event) }
@@ -66,7 +68,8 @@ impl World {
             ≡ entry_after self.old.config (entries_of self.old) event ∷ entries_of self.old) }
         ensures count { IfOk result (λ n. n ≡ length (messages (entries_of self.new))) }
 
-        // An event that does not fit is refused for its first cause. One that fits fails only if memory runs out.
+        // An event that does not fit is refused for its first cause. One that fits fails only if
+        // memory runs out.
         ensures why { MatchResult result (λ _. refusal_in self.old event ≡ None) (λ e. IsAnswerTo (refusal_in self.old event) e) }
         ensures unchanged { OnErr result (self.new ≡ self.old) }
 
@@ -77,7 +80,7 @@ impl World {
         Ok(self.happen(event)?)
     }
 
-    /// Message k, from 0, of all that were sent, if there are as many. It takes no memory.
+    /// Message k, counted from 0, of all that were sent, or `None` if it was not sent.
     pub fn message(&self, k: u64) -> Option<&Msg>
         ensures message { option_copied result ≡ slice_get (messages_in self.now.records) k }
         ensures history { option_map message_of (option_copied result) ≡ slice_get (messages (entries_of self.now)) k }
@@ -85,15 +88,14 @@ impl World {
         self.log.message(k)
     }
 
-    /// The number of messages that were sent. It takes no memory.
+    /// The number of messages that were sent.
     pub fn messages(&self) -> u64
         ensures { result ≡ length (messages (entries_of self.now)) }
     {
         self.log.messages()
     }
 
-    /// The history that a learner shows: what it learned since it last fell, over all epochs. It takes no
-    /// memory.
+    /// The history that a learner shows: what it learned since its last crash, over all epochs.
     pub fn learned(&self, learner: u32) -> &History
         requires { learner < self.now.config.learners }
         ensures learned { history_of result.now ≡ learned_at self.now.config learner (entries_of self.now) }
@@ -102,7 +104,7 @@ impl World {
         self.nodes.learned(learner)
     }
 
-    /// The records of what happened, the oldest first. It takes no memory.
+    /// The records of what happened, the oldest first.
     pub fn records(&self) -> &[Record]
         ensures value { result.now ≡ self.now.records }
         ensures legal { Legal self.now.config (entries_of self.now) }
@@ -111,21 +113,21 @@ impl World {
         &self.log.records
     }
 
-    /// The configuration. It takes no memory.
+    /// The configuration.
     pub fn config(&self) -> &Config
         ensures { result.now ≡ self.now.config }
     {
         &self.config
     }
 
-    /// The greatest count of a round in a message or a node, and 0 if there is none. It takes no memory.
+    /// The greatest count of a round in a message or a node, and 0 if there is none.
     pub fn top_count(&self) -> u32
         ensures { result ≡ top_count self.now.config (entries_of self.now) }
     {
         self.log.top.max(self.nodes.top_count())
     }
 
-    /// The records alone. It takes no memory.
+    /// Returns the records alone, the oldest first.
     pub fn into_records(self) -> Records
         ensures value { result ≡ self.records }
         ensures legal { Legal self.config (entries_of self) }

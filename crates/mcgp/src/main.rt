@@ -1,5 +1,5 @@
-//! `mcgp`: runs the command that its arguments name, over standard input, standard output and the files
-//! of the folder `mcgp-data`.
+//! `mcgp`: runs the subcommand that its arguments name, over standard input, standard output and
+//! the files of the folder `mcgp-data`.
 #![tactic(auto)]
 
 use gp_cli::{Ended, file_disks, run_program};

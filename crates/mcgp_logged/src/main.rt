@@ -1,4 +1,4 @@
-//! `mcgp` once more, to run it on a file that holds a log.
+//! Another copy of `mcgp`, for a run on a file that holds a log.
 #![tactic(auto)]
 
 use gp_cli::{Ended, file_disks, run_program};

@@ -1,4 +1,4 @@
-//! `mcgp` once more, to run it on a script that is played to its end.
+//! Another copy of `mcgp`, for a run on a script that is played to its end.
 #![tactic(auto)]
 
 use gp_cli::{Ended, file_disks, run_program};

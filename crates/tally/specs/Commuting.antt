@@ -16,13 +16,13 @@ use Rattle.tally.specs.declared.tally.Tally.{Tally}
 use Rattle.tally.specs.Uses.{use_in}
 use Rattle.tally.specs.Rules.{after_use, reply_to_use, tally_rules}
 
--- ---- uses that do not clash commute
+-- ---- uses that do not conflict commute
 
 -- both orders give one tally, and the second has the same reply without the first
 abbrev Swap : Tally → Option Access → Option Access → Type 0
 Swap tally x y = (after_use (after_use tally x) y ≡ after_use (after_use tally y) x) × (reply_to_use (after_use tally x) y ≡ reply_to_use tally y)
 
--- if both are uses, they do not clash
+-- if both are uses, they do not conflict
 abbrev AreApart : Option Access → Option Access → Type 0
 AreApart x y = (p q : Access) → x ≡ Some p → y ≡ Some q → is_clash p q ≡ false
 
@@ -34,7 +34,7 @@ uses_commute tally (Some Read) (Some Read) apart = (refl, refl)
 uses_commute tally (Some Add) (Some Add) apart = (refl, refl)
 uses_commute tally (Some p) (Some q) apart = absurd (let none = apart p q refl refl in cc)
 
--- ---- commands that do not conflict have uses that do not clash
+-- ---- commands that do not conflict have uses that do not conflict
 
 -- the only touch, which shows the use
 record Touches (foot : List Touch) (use_of : Access) : Type 0 where
@@ -52,7 +52,7 @@ touches [] p e = absurd cc
 touches (t ∷ []) p e = touches_by t p (bytes_eq t.key (codes "n")) refl e
 touches (t ∷ u ∷ us) p e = absurd cc
 
--- touches of one key clash as their accesses do
+-- touches of one key conflict as their accesses do
 one_key : (t u : Touch) → t.key ≡ codes "n" → u.key ≡ codes "n" → touches_clash t u ≡ is_clash t.access u.access
 one_key t u at n =
     let equal : eq_by_cmp key_cmp (codes "n") (codes "n") ≡ true = (eq_by_cmp_equiv key_cmp_total).refl (codes "n") in
@@ -62,7 +62,7 @@ or_false : (b : Bool) → (b || false) ≡ b
 or_false true = refl
 or_false false = refl
 
--- some touch of the first clashes with one of the second
+-- some touch of the first conflicts with one of the second
 abbrev do_clash : List Touch → List Touch → Bool
 do_clash first second = list_any (λ t. list_any (touches_clash t) second) first
 

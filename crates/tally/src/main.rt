@@ -1,18 +1,18 @@
-//! A machine of one's own: a tally that clients raise and reset, run by replicas of one history.
+//! An example of a state machine: a tally that clients raise and reset, run by replicas of one
+//! history.
 #![tactic(auto)]
 
-mod identities;
 mod tally;
 
-use crate::identities::has_distinct_ids;
 use crate::tally::{tally_of, touch};
 use gp_command::{Access, Command, CommandId, Draft, NoMemory};
 use gp_history::Hist;
 use gp_index::History;
+use gp_replica::has_distinct_ids;
 use std::alloc::Global;
 use std::io::{self, ErrorKind};
 
-// What clients do: who, which of the client's commands, and how it works on the tally.
+// What a client does: the client, the number of the command, and how it accesses the tally.
 type Row = (u32, u32, Access);
 
 // Two clients raise the tally, one reads it, the other resets it, and the first raises it again.

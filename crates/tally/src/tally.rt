@@ -68,7 +68,7 @@ impl Machine for Tally {
     }
 }
 
-/// The tally after a learned history, whatever sequence stands for it.
+/// The tally after a learned history. It is the same for all sequences that represent the history.
 pub fn tally_of(alloc: Global, learned: &History) -> Result<Tally, NoMemory>
     requires { HasDistinctIds (history_of learned.now) }
     ensures { IfOk result (λ tally. tally ≡ state_of tally_rules (history_of learned.now)) }

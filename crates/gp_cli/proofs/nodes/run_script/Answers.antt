@@ -2,7 +2,7 @@ use Rattle.std.proofs.Common.{Some, sym, subst}
 use Rattle.gp_offers.specs.Answers.{Reads}
 use Rattle.gp_offers.specs.Offering.{OffersReading, offers_reading}
 use Rattle.gp_cli.specs.declared.subcommand.Subcommand.TheVariants.{Run}
-use Rattle.gp_cli.specs.Outside.{disks_seen}
+use Rattle.gp_cli.specs.Outside.{disk_states}
 use Rattle.gp_cli.specs.Run.{IsOffersCause}
 use Rattle.gp_cli.specs.Serving.{KeepsUnused}
 use Rattle.gp_cli.proofs.NodesCauses.{kept_same}
@@ -10,8 +10,8 @@ use Rattle.gp_cli.proofs.nodes.run_script.Goals as goal
 
 pub returns-in-Ok-clause-others : goal.returns-in-Ok-clause-others
 returns-in-Ok-clause-others g c =
-    let old = disks_seen g.D.Disk.content g.D.Disk.faults c.args.disks.items in
-    let new = disks_seen g.D.Disk.content g.D.Disk.faults c.run_offers.result.disks.items in
+    let old = disk_states g.D.Disk.content g.D.Disk.faults c.args.disks.items in
+    let new = disk_states g.D.Disk.content g.D.Disk.faults c.run_offers.result.disks.items in
     let P : OffersReading → Type 0 = λ read. KeepsUnused (Some (Run c.args.policy c.args.limit c.args.viewed)) (IsOffersCause c.args.policy c.args.limit c.args.viewed read old new) c.args.disks.items c.run_offers.result.disks.items in
     subst P (sym c.in-Ok.ensures.reads) c.run_offers.ensures.others
 

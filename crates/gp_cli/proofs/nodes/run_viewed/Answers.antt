@@ -2,7 +2,7 @@ use Rattle.std.proofs.Common.{List, ◌<◌, ◌≤◌, Some, sym, ap, subst, ar
 use Rattle.gp_msg.specs.declared.record.Record.{Record}
 use Rattle.gp_offers.specs.Offering.{Offered}
 use Rattle.gp_cli.specs.declared.ran.Trail.{Trail}
-use Rattle.gp_cli.specs.Outside.{seen, disks_seen}
+use Rattle.gp_cli.specs.Outside.{device, disk_states}
 use Rattle.gp_cli.specs.Run.{HasRun, IsOffersCause}
 use Rattle.gp_cli.specs.Serving.{EndsBy}
 use Rattle.gp_cli.specs.Viewed.{TellsViewed}
@@ -16,8 +16,8 @@ use Rattle.gp_cli.proofs.nodes.run_viewed.Goals as goal
 -- how it was told, by the records of the trail
 abbrev Told : (g : given.Over) (c : goal.After-tell_viewed-status g) → List Record → Type 0
 Told g c list =
-    let before = seen (g.K.Sink.written c.args.sink.now) (g.K.Sink.faults c.args.sink.now) in
-    let now = seen (g.K.Sink.written c.tell_viewed-status.new.sink) (g.K.Sink.faults c.tell_viewed-status.new.sink) in
+    let before = device (g.K.Sink.written c.args.sink.now) (g.K.Sink.faults c.args.sink.now) in
+    let now = device (g.K.Sink.written c.tell_viewed-status.new.sink) (g.K.Sink.faults c.tell_viewed-status.new.sink) in
     TellsViewed c.args.key c.run_nodes-run.result.end c.args.offers.now.config list before now c.tell_viewed-status.result
 
 told : (g : given.Over) (c : goal.After-tell_viewed-status g) → Told g c (records_in (trail_of c.run_nodes-run.result.posted))
@@ -26,12 +26,12 @@ told g c = subst (λ (t : Trail). Told g c (records_in t)) c.of-trail.ensures (s
 has : (g : given.Over) (c : goal.After-tell_viewed-status g)
     → let run = c.run_nodes-run.result in
     let offers = c.args.offers.now in
-    HasRun c.args.policy c.args.limit (Some c.args.key) (disks_seen g.D.Disk.content g.D.Disk.faults c.args.disks.items) (disks_seen g.D.Disk.content g.D.Disk.faults run.disks.items) offers (told g c).why offers.config (records_in (trail_of run.posted)) (told g c).text
+    HasRun c.args.policy c.args.limit (Some c.args.key) (disk_states g.D.Disk.content g.D.Disk.faults c.args.disks.items) (disk_states g.D.Disk.content g.D.Disk.faults run.disks.items) offers (told g c).why offers.config (records_in (trail_of run.posted)) (told g c).text
 has g c =
     let run = c.run_nodes-run.result in
     let says = c.run_nodes-run.ensures in
-    let before = seen (g.K.Sink.written c.args.sink.now) (g.K.Sink.faults c.args.sink.now) in
-    let now = seen (g.K.Sink.written c.tell_viewed-status.new.sink) (g.K.Sink.faults c.tell_viewed-status.new.sink) in
+    let before = device (g.K.Sink.written c.args.sink.now) (g.K.Sink.faults c.args.sink.now) in
+    let now = device (g.K.Sink.written c.tell_viewed-status.new.sink) (g.K.Sink.faults c.tell_viewed-status.new.sink) in
     has_viewed g.D.Disk.content g.D.Disk.faults c.args.policy c.args.limit c.args.key c.args.offers.now c.args.disks.items run.disks.items run.posted before now c.tell_viewed-status.result says.posted run.end
     (has_run g.D.Disk.content g.D.Disk.faults c.args.policy c.args.limit (Some c.args.key) c.args.offers.now c.args.disks.items run.disks.items run.end run.posted says.posted says.none says.learned says.quiet says.cause says.parts)
     (told g c)
@@ -41,10 +41,10 @@ returns-clause-ends g c =
     let run = c.run_nodes-run.result in
     let says = c.run_nodes-run.ensures in
     let offers = c.args.offers.now in
-    let before = seen (g.K.Sink.written c.args.sink.now) (g.K.Sink.faults c.args.sink.now) in
-    let now = seen (g.K.Sink.written c.tell_viewed-status.new.sink) (g.K.Sink.faults c.tell_viewed-status.new.sink) in
-    let old = disks_seen g.D.Disk.content g.D.Disk.faults c.args.disks.items in
-    let new = disks_seen g.D.Disk.content g.D.Disk.faults run.disks.items in
+    let before = device (g.K.Sink.written c.args.sink.now) (g.K.Sink.faults c.args.sink.now) in
+    let now = device (g.K.Sink.written c.tell_viewed-status.new.sink) (g.K.Sink.faults c.tell_viewed-status.new.sink) in
+    let old = disk_states g.D.Disk.content g.D.Disk.faults c.args.disks.items in
+    let new = disk_states g.D.Disk.content g.D.Disk.faults run.disks.items in
     let right = c.requires.right in
     let range = right.range in
     let some : 0 < offers.config.acceptors = let three = range.three_acceptors in omega (arith, three) in
@@ -57,7 +57,7 @@ returns-clause-others g c =
     let run = c.run_nodes-run.result in
     let says = c.run_nodes-run.ensures in
     let t = told g c in
-    nodes_keep c.args.policy c.args.limit (Some c.args.key) c.args.offers.now (disks_seen g.D.Disk.content g.D.Disk.faults c.args.disks.items) (disks_seen g.D.Disk.content g.D.Disk.faults run.disks.items) t.why (records_in (trail_of run.posted)) t.text g.D.Disk.faults c.args.disks.items run.disks.items (has g c) says.others says.none_fell
+    nodes_keep c.args.policy c.args.limit (Some c.args.key) c.args.offers.now (disk_states g.D.Disk.content g.D.Disk.faults c.args.disks.items) (disk_states g.D.Disk.content g.D.Disk.faults run.disks.items) t.why (records_in (trail_of run.posted)) t.text g.D.Disk.faults c.args.disks.items run.disks.items (has g c) says.others says.none_fell
 
 pub returns-clause-disks_never_fall : goal.returns-clause-disks_never_fall
 returns-clause-disks_never_fall g c =
@@ -67,8 +67,8 @@ returns-clause-disks_never_fall g c =
 
 pub returns-in_default-clause-ends : goal.returns-in_default-clause-ends
 returns-in_default-clause-ends g c =
-    let old = disks_seen g.D.Disk.content g.D.Disk.faults c.args.disks.items in
-    let new = disks_seen g.D.Disk.content g.D.Disk.faults c.without_nodes.result.disks.items in
+    let old = disk_states g.D.Disk.content g.D.Disk.faults c.args.disks.items in
+    let new = disk_states g.D.Disk.content g.D.Disk.faults c.without_nodes.result.disks.items in
     starved (IsOffersCause c.args.policy c.args.limit (Some c.args.key) (Offered c.args.offers.now) old new) _ _ _ tt c.without_nodes.ensures.status (ap records_in c.without_nodes.ensures.trail)
 
 pub returns-in_default-clause-others : goal.returns-in_default-clause-others

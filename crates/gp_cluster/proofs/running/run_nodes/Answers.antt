@@ -1,8 +1,8 @@
 use Rattle.std.proofs.Common.{◌≡◌, ◌≤◌, List, map, sym, ap, ◌∙◌, subst, arith}
 use Rattle.std.specs.Prelude.{IfSome}
-use Rattle.gp_run.specs.Runs.{entries_in}
+use Rattle.gp_run.specs.Runs.{newest_first}
 use Rattle.gp_seats.specs.Seats.{IsBlank}
-use Rattle.gp_shelf.specs.Lists.{disk_in, kept_of, shelved, KeepsOthers}
+use Rattle.gp_shelf.specs.Lists.{disk_in, unlent_of, shelved, KeepsOthers}
 use Rattle.gp_shelf.specs.Making.{SomeRose, NoneFell}
 use Rattle.gp_shelf.specs.Places.{logged}
 use Rattle.gp_shelf.proofs.Zips.{AllZip-same}
@@ -22,34 +22,34 @@ give_back-disks-requires g c = record { as_many = shelving.count_last c.args.pol
 
 pub returns-in-Ok-lend-clause-quiet : goal.returns-in-Ok-lend-clause-quiet
 returns-in-Ok-lend-clause-quiet g c l calm =
-    let back : c.give_back-disks.result.items ≡ shelved c.args.config (kept_of c.args.config c.args.disks.items) (map disk_in c.run_logs-end.result.logs.items)
-    = c.give_back-disks.ensures.disks ∙ (λ i. shelved (c.in-Ok-lend.ensures.config i) (c.in-Ok-lend.ensures.kept i) (map disk_in c.run_logs-end.result.logs.items)) in
+    let back : c.give_back-disks.result.items ≡ shelved c.args.config (unlent_of c.args.config c.args.disks.items) (map disk_in c.run_logs-end.result.logs.items)
+    = c.give_back-disks.ensures.disks ∙ (λ i. shelved (c.in-Ok-lend.ensures.config i) (c.in-Ok-lend.ensures.unlent i) (map disk_in c.run_logs-end.result.logs.items)) in
     shelving.quiet c.args.policy g.D.Disk.content g.D.Disk.image g.D.Disk.faults c.args.config c.args.limit c.args.offers.now c.args.disks.items c.in-Ok-lend.field-0.logs.items c.run_logs-end.result.logs.items c.run_logs-end.result.posted c.run_logs-end.result.end c.know.ensures.acceptors.1 c.know.ensures.coordinators.1 c.requires.twelve c.in-Ok-lend.ensures.logs c.run_logs-end.ensures.run l (subst (λ (ds : List g.row.D.Denot). ¬ SomeRose g.D.Disk.faults c.args.disks.items ds) back calm)
 
 pub returns-in-Ok-lend-clause-cause : goal.returns-in-Ok-lend-clause-cause
 returns-in-Ok-lend-clause-cause g c =
-    let back : c.give_back-disks.result.items ≡ shelved c.args.config (kept_of c.args.config c.args.disks.items) (map disk_in c.run_logs-end.result.logs.items)
-    = c.give_back-disks.ensures.disks ∙ (λ i. shelved (c.in-Ok-lend.ensures.config i) (c.in-Ok-lend.ensures.kept i) (map disk_in c.run_logs-end.result.logs.items)) in
+    let back : c.give_back-disks.result.items ≡ shelved c.args.config (unlent_of c.args.config c.args.disks.items) (map disk_in c.run_logs-end.result.logs.items)
+    = c.give_back-disks.ensures.disks ∙ (λ i. shelved (c.in-Ok-lend.ensures.config i) (c.in-Ok-lend.ensures.unlent i) (map disk_in c.run_logs-end.result.logs.items)) in
     subst (λ (ds : List g.row.D.Denot). EndCause g.D.Disk.faults c.args.config c.args.limit c.args.disks.items ds c.run_logs-end.result.posted c.run_logs-end.result.end) (sym back)
     (shelving.cause c.args.policy g.D.Disk.content g.D.Disk.image g.D.Disk.faults c.args.config c.args.limit c.args.offers.now c.args.disks.items c.in-Ok-lend.field-0.logs.items c.run_logs-end.result.logs.items c.run_logs-end.result.posted c.run_logs-end.result.end c.know.ensures.acceptors.1 c.know.ensures.coordinators.1 c.requires.twelve c.in-Ok-lend.ensures.logs c.run_logs-end.ensures.run)
 
 pub returns-in-Ok-lend-clause-parts : goal.returns-in-Ok-lend-clause-parts
 returns-in-Ok-lend-clause-parts g c l =
-    let back : c.give_back-disks.result.items ≡ shelved c.args.config (kept_of c.args.config c.args.disks.items) (map disk_in c.run_logs-end.result.logs.items)
-    = c.give_back-disks.ensures.disks ∙ (λ i. shelved (c.in-Ok-lend.ensures.config i) (c.in-Ok-lend.ensures.kept i) (map disk_in c.run_logs-end.result.logs.items)) in
-    subst (λ (ds : List g.row.D.Denot). IfSome c.run_logs-end.result.posted (λ list. HoldParts g.D.Disk.content c.args.config c.args.limit (entries_in list) ds)) (sym back)
+    let back : c.give_back-disks.result.items ≡ shelved c.args.config (unlent_of c.args.config c.args.disks.items) (map disk_in c.run_logs-end.result.logs.items)
+    = c.give_back-disks.ensures.disks ∙ (λ i. shelved (c.in-Ok-lend.ensures.config i) (c.in-Ok-lend.ensures.unlent i) (map disk_in c.run_logs-end.result.logs.items)) in
+    subst (λ (ds : List g.row.D.Denot). IfSome c.run_logs-end.result.posted (λ list. HoldParts g.D.Disk.content c.args.config c.args.limit (newest_first list) ds)) (sym back)
     (shelving.parts c.args.policy g.D.Disk.content g.D.Disk.image g.D.Disk.faults c.args.config c.args.limit c.args.offers.now c.args.disks.items c.in-Ok-lend.field-0.logs.items c.run_logs-end.result.logs.items c.run_logs-end.result.posted c.run_logs-end.result.end c.know.ensures.acceptors.1 c.know.ensures.coordinators.1 c.requires.twelve c.in-Ok-lend.ensures.logs c.run_logs-end.ensures.run l)
 
 pub returns-in-Ok-lend-clause-others : goal.returns-in-Ok-lend-clause-others
 returns-in-Ok-lend-clause-others g c i other =
-    let back : c.give_back-disks.result.items ≡ shelved c.args.config (kept_of c.args.config c.args.disks.items) (map disk_in c.run_logs-end.result.logs.items)
-    = c.give_back-disks.ensures.disks ∙ (λ i. shelved (c.in-Ok-lend.ensures.config i) (c.in-Ok-lend.ensures.kept i) (map disk_in c.run_logs-end.result.logs.items)) in
+    let back : c.give_back-disks.result.items ≡ shelved c.args.config (unlent_of c.args.config c.args.disks.items) (map disk_in c.run_logs-end.result.logs.items)
+    = c.give_back-disks.ensures.disks ∙ (λ i. shelved (c.in-Ok-lend.ensures.config i) (c.in-Ok-lend.ensures.unlent i) (map disk_in c.run_logs-end.result.logs.items)) in
     subst (λ (ds : List g.row.D.Denot). KeepsOthers c.args.config c.args.disks.items ds) (sym back)
     (shelving.others c.args.policy g.D.Disk.content g.D.Disk.image g.D.Disk.faults c.args.config c.args.limit c.args.offers.now c.args.disks.items c.in-Ok-lend.field-0.logs.items c.run_logs-end.result.logs.items c.run_logs-end.result.posted c.run_logs-end.result.end c.know.ensures.acceptors.1 c.know.ensures.coordinators.1 c.requires.twelve c.in-Ok-lend.ensures.logs c.run_logs-end.ensures.run) i other
 
 pub returns-in-Ok-lend-clause-none_fell : goal.returns-in-Ok-lend-clause-none_fell
 returns-in-Ok-lend-clause-none_fell g c =
-    let back : c.give_back-disks.result.items ≡ shelved c.args.config (kept_of c.args.config c.args.disks.items) (map disk_in c.run_logs-end.result.logs.items)
-    = c.give_back-disks.ensures.disks ∙ (λ i. shelved (c.in-Ok-lend.ensures.config i) (c.in-Ok-lend.ensures.kept i) (map disk_in c.run_logs-end.result.logs.items)) in
+    let back : c.give_back-disks.result.items ≡ shelved c.args.config (unlent_of c.args.config c.args.disks.items) (map disk_in c.run_logs-end.result.logs.items)
+    = c.give_back-disks.ensures.disks ∙ (λ i. shelved (c.in-Ok-lend.ensures.config i) (c.in-Ok-lend.ensures.unlent i) (map disk_in c.run_logs-end.result.logs.items)) in
     subst (λ (ds : List g.row.D.Denot). NoneFell g.D.Disk.faults c.args.disks.items ds) (sym back)
     (shelving.none_fell_there c.args.policy g.D.Disk.content g.D.Disk.image g.D.Disk.faults c.args.config c.args.limit c.args.offers.now c.args.disks.items c.in-Ok-lend.field-0.logs.items c.run_logs-end.result.logs.items c.run_logs-end.result.posted c.run_logs-end.result.end c.know.ensures.acceptors.1 c.know.ensures.coordinators.1 c.requires.twelve c.in-Ok-lend.ensures.logs c.run_logs-end.ensures.run)

@@ -6,3 +6,6 @@ returns-in_err-catch_up-clause-more c = goes_on c.args.replica.now c.catch_up.ne
 
 pub returns-clause-more : goal.returns-clause-more
 returns-clause-more c = goes_on c.args.replica.now c.catch_up.new.self c.catch_up.ensures.order.start
+
+pub catch_up-requires-clause-identities : goal.catch_up-requires-clause-identities
+catch_up-requires-clause-identities c = c.has_distinct_ids.ensures.distinct c.if-not-has_distinct_ids.false

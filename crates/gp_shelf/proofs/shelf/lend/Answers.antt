@@ -3,7 +3,7 @@ use Rattle.std.proofs.lemmas.Slice.Zip.{AllZip-long}
 use Rattle.gp_round.specs.Counts.{Counts}
 use Rattle.gp_shelf.specs.declared.making.LendFault.{LendFault}
 use Rattle.gp_shelf.specs.Places.{logged}
-use Rattle.gp_shelf.specs.Lists.{lent_of, kept_of, shelved, KeepsOthers}
+use Rattle.gp_shelf.specs.Lists.{lent_of, unlent_of, shelved, KeepsOthers}
 use Rattle.gp_shelf.specs.Making.{IsMade, ComesBack}
 use Rattle.gp_shelf.proofs.Segments.{length-lent, others_stay}
 use Rattle.gp_shelf.proofs.Zips.{AllZip-same, fell_there}
@@ -44,26 +44,26 @@ returns-in-Err-clause-others g c =
     let many : length c.make.new.disks.items ≡ logged c.args.config =
     AllZip-long (λ was is. g.D.Disk.faults was ≤ g.D.Disk.faults is) c.divide.new.lent.items c.make.new.disks.items c.in-Err.ensures.back.0
     ∙ ap length c.divide.ensures.lent ∙ length-lent c.args.config c.args.disks.items c.requires.twelve a b in
-    let placed = c.shelve-disks.ensures ∙ ap (λ kept. shelved c.args.config kept c.make.new.disks.items) c.divide.ensures.kept in
+    let placed = c.shelve-disks.ensures ∙ ap (λ unlent. shelved c.args.config unlent c.make.new.disks.items) c.divide.ensures.unlent in
     subst (KeepsOthers c.args.config c.args.disks.items) (sym placed) (others_stay c.args.config c.args.disks.items c.make.new.disks.items a b c.requires.twelve many)
 
 -- what came of all disks, by what came of those of nodes
-all_back : {D : Type 0} (faults : D → ℕ) (n : Counts) (disks lent kept back all : List D) (why : LendFault) → n.acceptors ≤ 7 → n.coordinators ≤ 5 → length disks ≡ 12
-    → lent ≡ lent_of n disks → kept ≡ kept_of n disks → all ≡ shelved n kept back → ComesBack faults lent back why → ComesBack faults disks all why
-all_back faults n disks lent kept back all why a c twelve is_lent is_kept is_all p =
-    subst (λ xs. ComesBack faults disks xs why) (sym (is_all ∙ ap (λ k. shelved n k back) is_kept))
+all_back : {D : Type 0} (faults : D → ℕ) (n : Counts) (disks lent unlent back all : List D) (why : LendFault) → n.acceptors ≤ 7 → n.coordinators ≤ 5 → length disks ≡ 12
+    → lent ≡ lent_of n disks → unlent ≡ unlent_of n disks → all ≡ shelved n unlent back → ComesBack faults lent back why → ComesBack faults disks all why
+all_back faults n disks lent unlent back all why a c twelve is_lent is_unlent is_all p =
+    subst (λ xs. ComesBack faults disks xs why) (sym (is_all ∙ ap (λ k. shelved n k back) is_unlent))
     (fell_there faults n disks back why a c twelve (subst (λ xs. ComesBack faults xs back why) is_lent p))
 
 pub returns-in-Err-clause-none_fell : goal.returns-in-Err-clause-none_fell
 returns-in-Err-clause-none_fell g c =
-    (all_back g.D.Disk.faults c.args.config c.args.disks.items c.divide.new.lent.items c.divide.new.kept.items c.make.new.disks.items c.shelve-disks.result.items c.in-Err.why
+    (all_back g.D.Disk.faults c.args.config c.args.disks.items c.divide.new.lent.items c.divide.new.unlent.items c.make.new.disks.items c.shelve-disks.result.items c.in-Err.why
     (few_acceptors _ _ c.acceptors.ensures.value c.acceptors.ensures.most)
     (few_coordinators _ _ c.coordinators.ensures.value c.coordinators.ensures.most)
-    c.requires.twelve c.divide.ensures.lent c.divide.ensures.kept c.shelve-disks.ensures c.in-Err.ensures.back).0
+    c.requires.twelve c.divide.ensures.lent c.divide.ensures.unlent c.shelve-disks.ensures c.in-Err.ensures.back).0
 
 pub returns-in-Err-clause-cause : goal.returns-in-Err-clause-cause
 returns-in-Err-clause-cause g c =
-    (all_back g.D.Disk.faults c.args.config c.args.disks.items c.divide.new.lent.items c.divide.new.kept.items c.make.new.disks.items c.shelve-disks.result.items c.in-Err.why
+    (all_back g.D.Disk.faults c.args.config c.args.disks.items c.divide.new.lent.items c.divide.new.unlent.items c.make.new.disks.items c.shelve-disks.result.items c.in-Err.why
     (few_acceptors _ _ c.acceptors.ensures.value c.acceptors.ensures.most)
     (few_coordinators _ _ c.coordinators.ensures.value c.coordinators.ensures.most)
-    c.requires.twelve c.divide.ensures.lent c.divide.ensures.kept c.shelve-disks.ensures c.in-Err.ensures.back).1
+    c.requires.twelve c.divide.ensures.lent c.divide.ensures.unlent c.shelve-disks.ensures c.in-Err.ensures.back).1

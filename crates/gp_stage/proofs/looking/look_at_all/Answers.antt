@@ -4,7 +4,7 @@ use Rattle.gp_msg.specs.Reads.{kind_of}
 use Rattle.gp_run.specs.TopCount.{top_of_messages}
 use Rattle.gp_wire.specs.Lists.{Has}
 use Rattle.gp_wire.specs.Known.{PassState, records}
-use Rattle.gp_wire.specs.Messages.{messages_in}
+use Rattle.gp_msg.specs.Records.{messages_in}
 use Rattle.gp_world.proofs.Showing.{ord_max-nat}
 use Rattle.gp_stage.proofs.Places.{within}
 use Rattle.gp_stage.proofs.Glancing.{looked, looked_on, same_on, holds_on, inside_after, last_kinds, last_tops, next_kinds, next_tops}

@@ -2,7 +2,7 @@ use Rattle.std.proofs.Common.{◌≡◌, map, take}
 use Rattle.gp_msg.specs.Messages.{message_of}
 use Rattle.gp_msg.specs.Reads.{kind_of}
 use Rattle.gp_run.specs.TopCount.{top_of_messages}
-use Rattle.gp_wire.specs.Messages.{messages_in}
+use Rattle.gp_msg.specs.Records.{messages_in}
 use Rattle.gp_wire.specs.Known.{records}
 use Rattle.gp_cell.specs.Cells.{IsSameBut}
 use Rattle.gp_stage.specs.Gathered.{HasLooked}

@@ -4,7 +4,7 @@ use Rattle.std.specs.Option.{option_map}
 use Rattle.gp_msg.specs.declared.message.MsgKind.{MsgKind}
 use Rattle.gp_msg.specs.Reads.{kind_of}
 use Rattle.gp_wire.specs.Known.{records}
-use Rattle.gp_wire.specs.Messages.{messages_in}
+use Rattle.gp_msg.specs.Records.{messages_in}
 use Rattle.gp_stage.proofs.Places.{set_length}
 use Rattle.gp_stage.proofs.Founding.{up_still}
 use Rattle.gp_stage.proofs.Learning.{look_own, look_holds, held_looked, same_looked, list_looked, top_looked, kinds_none, kinds_some, sent_none, sent_some}

@@ -12,3 +12,6 @@ returns-in_err-catch_up g c = goes_on c.args.replica.now c.catch_up.new.self c.c
 
 pub returns : goal.returns
 returns g c = goes_on c.args.replica.now c.catch_up.new.self c.catch_up.ensures.order.start
+
+pub catch_up-requires-clause-identities : goal.catch_up-requires-clause-identities
+catch_up-requires-clause-identities g c = c.has_distinct_ids.ensures.distinct c.if-not-has_distinct_ids.false

@@ -1,7 +1,7 @@
 use Rattle.std.proofs.Common.{◌≡◌, None, Some, sym, ap, ◌∙◌, subst}
 use Rattle.std.specs.Prelude.{slice_get}
 use Rattle.gp_wire.specs.Known.{records}
-use Rattle.gp_wire.specs.Messages.{messages_in}
+use Rattle.gp_msg.specs.Records.{messages_in}
 use Rattle.gp_cell.proofs.Going.{later_goes}
 use Rattle.gp_cell.proofs.Posting.{had_later}
 use Rattle.gp_caller.specs.Sights.{SightState, Saw}

@@ -1,7 +1,7 @@
 use Rattle.std.proofs.Common.{◌≡◌, ◌+◌, ◌++◌, List, length, sym, subst, ap, ◌∙◌, arith}
 use Rattle.gp_msg.specs.Messages.{Stamped, entry_of}
 use Rattle.gp_run.specs.Messages.{messages}
-use Rattle.gp_run.specs.Runs.{entries_in}
+use Rattle.gp_run.specs.Runs.{newest_first}
 use Rattle.gp_wire.specs.Lists.{Has}
 use Rattle.gp_wire.specs.Known.{HoldsAll, records}
 use Rattle.gp_rules.specs.Own.{own}
@@ -27,8 +27,8 @@ invariant_of-self g c =
     let s = c.self.inside in
     let holds = subst (λ (x : CellState g.row.D.Denot). Has x.pass.node x.pass.holds) (sym c.self.view_is) c.requires.holds in
     let mine = c.requires.node ∙ sym (ap (λ (x : CellState g.row.D.Denot). x.node) c.self.view_is) in
-    let may = subst (λ (x : CellState g.row.D.Denot). IsLawful x.config (entries_in (records x.pass)) (entry_of c.args.made)) (sym c.self.view_is) c.requires.lawful in
-    let plan = subst (λ (x : CellState g.row.D.Denot). (more : List Stamped) → c.args.next ≡ (acts x.node x.core (messages (entries_in (records x.pass)) ++ more) c.args.made.event).0) (sym c.self.view_is) c.requires.next in
+    let may = subst (λ (x : CellState g.row.D.Denot). IsLawful x.config (newest_first (records x.pass)) (entry_of c.args.made)) (sym c.self.view_is) c.requires.lawful in
+    let plan = subst (λ (x : CellState g.row.D.Denot). (more : List Stamped) → c.args.next ≡ (acts x.node x.core (messages (newest_first (records x.pass)) ++ more) c.args.made.event).0) (sym c.self.view_is) c.requires.next in
     let kept = subst (λ (x : CellState g.row.D.Denot). Keeps (part_in (opening x.config x.node)) (part_in c.args.next) x.log) (sym c.self.view_is) c.requires.kept in
     sound_posted s.config s.node s.core c.args.next s.log s.pass c.append.new.pass c.args.made s.posted s.down c.come_up.new.down c.self.invariant holds c.in-Ok.ensures.posted mine may plan kept c.come_up.ensures
 
@@ -46,7 +46,7 @@ returns-in-Ok-clause-posted g c =
     let posted = subst (λ (x : CellState g.row.D.Denot). PostsOne x.config x.node (records x.pass) (records c.append.new.pass) c.args.made.event) c.self.view_is
     (posts_one s.config s.node s.pass c.append.new.pass c.args.made (subst (λ (x : CellState g.row.D.Denot). Has x.node x.pass.holds) (sym c.self.view_is) mine) c.in-Ok.ensures.posted
     (c.requires.node ∙ sym (ap (λ (x : CellState g.row.D.Denot). x.node) c.self.view_is))
-    (subst (λ (x : CellState g.row.D.Denot). IsLawful x.config (entries_in (records x.pass)) (entry_of c.args.made)) (sym c.self.view_is) c.requires.lawful)) in posted
+    (subst (λ (x : CellState g.row.D.Denot). IsLawful x.config (newest_first (records x.pass)) (entry_of c.args.made)) (sym c.self.view_is) c.requires.lawful)) in posted
 
 pub returns-in-Err-clause-nothing : goal.returns-in-Err-clause-nothing
 returns-in-Err-clause-nothing g c =

@@ -1,7 +1,7 @@
 use Rattle.std.proofs.Common.{◌+◌, ◌*◌, ◌<◌, ◌≤◌, ⊎_elim, refl, sym, ◌∙◌, subst, arith}
 use Rattle.std.proofs.lemmas.Bool.{leb-true}
 use Rattle.std.proofs.lemmas.Option.{slice_get_read}
-use Rattle.gp_run.specs.Runs.{entries_in}
+use Rattle.gp_run.specs.Runs.{newest_first}
 use Rattle.gp_stage.specs.Held.{HeldCells, whole_list}
 use Rattle.gp_stage.specs.Bounds.{CanSettle}
 use Rattle.gp_stage.proofs.Places.{within}
@@ -12,7 +12,7 @@ use Rattle.gp_stage.proofs.cells.CellStage.can_settle.Goals.{then-messages-le-MO
 pub returns-then-self-messages-le-MOST_ROUNDS : goal.returns-then-self-messages-le-MOST_ROUNDS
 returns-then-self-messages-le-MOST_ROUNDS g c room =
     let i = c.self.inside in let k = c.self.invariant in let a = c.acceptors.ensures in let o = c.coordinators.ensures in let l = c.learners.ensures in
-    subst (λ (h : HeldCells g.row.D.Denot). CanSettle h.config (entries_in (whole_list h))) c.self.view_is
+    subst (λ (h : HeldCells g.row.D.Denot). CanSettle h.config (newest_first (whole_list h))) c.self.view_is
     (within_bounds i.wire i.config i.cells.items i.holder i.kinds.items i.sent_top i.top k c.index.result.now c.len-messages.result c.seen-entries.result
     (slice_get_read i.cells.items _ i.holder c.index.result.now refl (within i.cells.items i.holder k.held.lead k.held.lead_is) c.index.ensures)
     (record {

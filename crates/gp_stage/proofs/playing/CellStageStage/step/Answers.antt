@@ -1,7 +1,7 @@
 use Rattle.std.proofs.Common.{◌≡◌, true, ◌∷◌, ◌++◌, length, drop, slice_get, take, sym, ap, ◌∙◌, subst, inl, arith, Err}
 use Rattle.gp_run.specs.Legal.{fits}
 use Rattle.gp_msg.specs.Nodes.{node_of}
-use Rattle.gp_run.specs.Runs.{entries_in, entry_after}
+use Rattle.gp_run.specs.Runs.{newest_first, entry_after}
 use Rattle.gp_work.specs.Moves.{event_of}
 use Rattle.gp_driver.specs.Stages.{AllBut, Anyone, FailsByNode}
 use Rattle.gp_stage.specs.Held.{HeldCells, HasCell, AreUp, whole_list}
@@ -24,7 +24,7 @@ returns-then-is_err-clause-idle g c = nodes_kept g.D.Disk.faults Anyone c.args.s
 pub unreachable-requires : goal.unreachable-requires
 unreachable-requires g c = let i = c.self.inside in
     c.in_default.ensures.none (subst (λ l. HasCell c.move_of-node.result.0 l) (sym c.deref.ensures.value) (subst (λ n. HasCell n i.cells.items) (sym c.move_of-node.ensures.node)
-    (has_cell i.wire i.config i.cells.items i.holder c.self.invariant.held c.args.event (subst (λ (h : HeldCells g.row.D.Denot). fits h.config (entries_in (whole_list h)) c.args.event ≡ true) (sym c.self.view_is) c.requires.fits))))
+    (has_cell i.wire i.config i.cells.items i.holder c.self.invariant.held c.args.event (subst (λ (h : HeldCells g.row.D.Denot). fits h.config (newest_first (whole_list h)) c.args.event ≡ true) (sym c.self.view_is) c.requires.fits))))
 
 pub play_at-stepped-requires-clause-here : goal.play_at-stepped-requires-clause-here
 play_at-stepped-requires-clause-here g c = let f = c.in-Some.ensures.found in
@@ -34,7 +34,7 @@ pub play_at-stepped-requires-clause-can : goal.play_at-stepped-requires-clause-c
 play_at-stepped-requires-clause-can g c = let i = c.self.inside in let f = c.in-Some.ensures.found in let m = c.move_of-node.ensures in
     subst (λ l. CanPlay i.wire.rules.config l i.holder c.in-Some.at c.move_of-node.result.1) (sym c.deref_mut.ensures.value)
     (can_play i.wire i.config i.cells.items i.holder c.self.invariant.held c.args.event
-    (subst (λ (h : HeldCells g.row.D.Denot). fits h.config (entries_in (whole_list h)) c.args.event ≡ true) (sym c.self.view_is) c.requires.fits)
+    (subst (λ (h : HeldCells g.row.D.Denot). fits h.config (newest_first (whole_list h)) c.args.event ≡ true) (sym c.self.view_is) c.requires.fits)
     c.move_of-node.result.0 c.move_of-node.result.1 m.event m.node c.in-Some.at f.0 (ap (λ l. slice_get l c.in-Some.at) (sym c.deref.ensures.value) ∙ f.1) f.2
     (subst (λ (h : HeldCells g.row.D.Denot). AreUp h.cells) (sym c.self.view_is) c.requires.ready))
 
@@ -85,7 +85,7 @@ returns-in-Ok-clause-entry g c = let i = c.self.inside in let k = c.keep_up-sent
     told_entry g.D.Disk.faults i.wire i.config i.cells.items c.deref_mut.result.now c.play_at-stepped.new.cells c.deref_mut.ensures.value i.cells.len i.cells.ok.0 i.holder c.in-Some.at c.move_of-node.result.1
     c.in-Ok.messages c.in-Ok.ensures _ c.deref_mut-in-Ok.result.now c.deref_mut-in-Ok.ensures.value c.keep_up-sent.new.cells k.same _ k.list
     c.args.event f.0 (ap (λ l. slice_get l c.in-Some.at) (sym c.deref.ensures.value) ∙ f.1) (ap (λ n. event_of n c.move_of-node.result.1) f.2 ∙ m.event) c.self.invariant.held.config_is
-    ∙ ap (λ (h : HeldCells g.row.D.Denot). entry_after h.config (entries_in (whole_list h)) c.args.event ∷ entries_in (whole_list h)) c.self.view_is
+    ∙ ap (λ (h : HeldCells g.row.D.Denot). entry_after h.config (newest_first (whole_list h)) c.args.event ∷ newest_first (whole_list h)) c.self.view_is
 
 pub returns-in-Ok-clause-count : goal.returns-in-Ok-clause-count
 returns-in-Ok-clause-count g c = let i = c.self.inside in let k = c.keep_up-sent.ensures in
@@ -113,11 +113,11 @@ returns-in-Ok-clause-nodes g c = let i = c.self.inside in let k = c.keep_up-sent
 
 pub returns-after-fault-clause-unchanged : goal.returns-after-fault-clause-unchanged
 returns-after-fault-clause-unchanged g c = let i = c.self.inside in
-    let still = ap entries_in (fault_list g.D.Disk.faults i.wire i.config i.cells.items c.deref_mut.result.now c.play_at-stepped.new.cells c.deref_mut.ensures.value i.cells.len i.cells.ok.0 i.holder c.in-Some.at c.move_of-node.result.1
-    c.in-Err.fault c.in-Err.ensures (drop (length c.play_at-stepped.new.cells) i.cells.items)) ∙ ap (λ (h : HeldCells g.row.D.Denot). entries_in (whole_list h)) c.self.view_is in
+    let still = ap newest_first (fault_list g.D.Disk.faults i.wire i.config i.cells.items c.deref_mut.result.now c.play_at-stepped.new.cells c.deref_mut.ensures.value i.cells.len i.cells.ok.0 i.holder c.in-Some.at c.move_of-node.result.1
+    c.in-Err.fault c.in-Err.ensures (drop (length c.play_at-stepped.new.cells) i.cells.items)) ∙ ap (λ (h : HeldCells g.row.D.Denot). newest_first (whole_list h)) c.self.view_is in
     elim c.match-fault.branch [
-      | in-Full w ↦ ap (λ (h : HeldCells g.row.D.Denot). entries_in (whole_list h)) w.self-is ∙ still
-      | in_default-fault w ↦ ap (λ (h : HeldCells g.row.D.Denot). entries_in (whole_list h)) w.self-is ∙ still
+      | in-Full w ↦ ap (λ (h : HeldCells g.row.D.Denot). newest_first (whole_list h)) w.self-is ∙ still
+      | in_default-fault w ↦ ap (λ (h : HeldCells g.row.D.Denot). newest_first (whole_list h)) w.self-is ∙ still
     ]
 
 pub returns-after-fault-clause-config : goal.returns-after-fault-clause-config

@@ -1,5 +1,5 @@
 use Rattle.std.proofs.Common.{rules, ◌≡◌, [], ◌∷◌, ◌++◌, length, map, max, sym, ap, ◌∙◌}
-use Rattle.gp_run.specs.Messages.{messages_in}
+use Rattle.gp_msg.specs.Records.{messages_in}
 use Rattle.gp_msg.specs.Messages.{message_of}
 use Rattle.gp_run.specs.TopCount.{top_of_messages}
 use Rattle.gp_world.specs.Places.{messages_at, all_there}
