@@ -10,7 +10,8 @@ use std::thread::Threads;
 const PUTS: &[u8] =
     b"nodes 3 2 1\noffer p0 put a 1\noffer p0 put a 2\noffer p0 put a 3\noffer p0 put a 4\noffer p0 put a 5\n";
 
-// What a read of reader 0 or 1 shows behind the number of the reader, by how many of the puts it saw.
+// What a read of reader 0 or 1 shows after the number of the reader, by how many of the puts it
+// saw.
 const LOOKS: [&[u8]; 6] = [
     b" seen 0 value none",
     b" seen 1 value 1",
@@ -56,7 +57,7 @@ fn run_viewed<W: Threads + Wait + Sync>(
     }))
 }
 
-// The last line that begins so.
+// The last line that begins with these bytes.
 fn last_of<'a>(text: &'a [u8], begin: &[u8]) -> &'a [u8] {
     let mut last: &'a [u8] = b"";
     for line in text.split(|byte| *byte == b'\n') {
@@ -65,6 +66,14 @@ fn last_of<'a>(text: &'a [u8], begin: &[u8]) -> &'a [u8] {
         }
     }
     last
+}
+
+// How many reads of a reader are printed.
+fn reads_of(looks: &[u8], reader: &[u8]) -> usize {
+    looks
+        .split(|byte| *byte == b'\n')
+        .filter(|line| line.starts_with(reader))
+        .count()
 }
 
 // How many of the puts a read saw that shows this, if any shows it.
@@ -97,6 +106,20 @@ fn the_last_read_of_each_reader_sees_all(rt: HostRuntime) -> Result<(), Fail> {
             assert!(rt; viewed.looks.starts_with(b"order: "));
             assert!(rt; last_of(&viewed.looks, b"r0") == b"r0 seen 8 value 1".as_slice());
             assert!(rt; last_of(&viewed.looks, b"r1") == b"r1 seen 8 value 1".as_slice());
+        }
+        None => assert!(rt; false),
+    }
+    Ok(())
+}
+
+// A reader reads at least once while the nodes work, and once after that.
+#[test]
+fn each_reader_reads_while_the_nodes_work(rt: HostRuntime) -> Result<(), Fail> {
+    let alloc = rt.alloc();
+    match run_viewed(&rt, alloc, "a", PUTS)? {
+        Some(viewed) => {
+            assert!(rt; reads_of(&viewed.looks, b"r0 ") >= 2);
+            assert!(rt; reads_of(&viewed.looks, b"r1 ") >= 2);
         }
         None => assert!(rt; false),
     }
