@@ -8,4 +8,5 @@ mod sequence_history;
 pub mod walks;
 
 pub use hist::{Hist, Unpushed};
+pub use sequence::{place_of, stands_at};
 pub use sequence_history::SeqHistory;

@@ -13,8 +13,8 @@ pub fn is_among(c: &Command, commands: &[Command]) -> bool
     commands.iter().any(|d| c == d)
 }
 
-/// The place of a command, or `None` if it is not there. `near` is a hint for the search, and does
-/// not affect the result.
+/// The place of a command, or `None` if it is not there. The search goes outward from the place
+/// `near`, which does not affect the result.
 pub fn place_of(c: &Command, commands: &[Command], near: usize) -> Option<usize>
     requires { IsTrue (no_repeat commands.now) }
     ensures { result ≡ place_in commands.now c.now }
@@ -50,7 +50,8 @@ fn place_at_distance(
     None
 }
 
-fn stands_at(c: &Command, commands: &[Command], place: usize) -> bool
+/// Whether a command is at this place.
+pub fn stands_at(c: &Command, commands: &[Command], place: usize) -> bool
     ensures { result ≡ stands_at c.now commands.now place }
 {
     match commands.get(place) {

@@ -6,7 +6,6 @@ ghost use Rattle.gp_command.specs.declared.command.Command.{Command};
 ghost use Rattle.gp_command.specs.Conflict.{same};
 ghost use Rattle.gp_command.specs.Order.{command_cmp};
 ghost use Rattle.gp_history.specs.Sequence.{no_repeat, place_in};
-ghost use Rattle.gp_history.specs.Walks.{stands_at};
 ghost use Rattle.gp_index.specs.Index.{IsIndex, IsGap, named};
 
 use gp_command::Command;
@@ -44,14 +43,4 @@ pub fn search(c: &Command, commands: &[Command], order: &[u32]) -> Result<usize,
         return Ok(order[at] as usize);
     }
     Err(at)
-}
-
-/// Whether a command is at this place.
-pub fn stands_at(c: &Command, commands: &[Command], place: usize) -> bool
-    ensures { result ≡ stands_at c.now commands.now place }
-{
-    match commands.get(place) {
-        Some(d) => c == d,
-        None => false,
-    }
 }

@@ -7,9 +7,9 @@ ghost use Rattle.gp_history.specs.Sequence.{history_of, no_repeat, place_in};
 ghost use Rattle.gp_index.specs.Epochs.{checkpoints, epoch_start};
 ghost use Rattle.gp_index.specs.Index.{IsIndex, IsParts, IsGap};
 
-use crate::index::{search, stands_at};
+use crate::index::search;
 use gp_command::{Command, NoMemory};
-use gp_history::Unpushed;
+use gp_history::{Unpushed, stands_at};
 use std::alloc::Global;
 use std::marker::Model;
 

@@ -1,12 +1,12 @@
 //! The prefix test for parts of the sequences of histories.
-ghost use Rattle.std.specs.Prelude.{◌≡◌, ◌↔◌, ◌≤◌, ◌+◌, ◌<◌, ℕ, length, IsTrue, IfSome, IfNone, Some, false};
+ghost use Rattle.std.specs.Prelude.{◌≡◌, ◌↔◌, ◌<◌, length, IsTrue, Some};
 ghost use Rattle.std.specs.List.{list_all};
 ghost use Rattle.gp_history.specs.History.{IsPrefix};
 ghost use Rattle.gp_history.specs.Sequence.{history_of, no_repeat, place_in};
-ghost use Rattle.gp_history.specs.Walks.{behind, fits, stands_at};
+ghost use Rattle.gp_history.specs.Walks.{behind, fits};
 
-use crate::index::stands_at;
 use gp_command::{Command, conflicts};
+use gp_history::place_of;
 
 /// Whether the history of the first is a prefix of the history of the second.
 #[tactic(auto, using(gp_history::proofs::PrefixTest::fits_is_prefix))]
@@ -66,40 +66,4 @@ fn is_behind(a: &[Command], i: usize, b: &[Command], j: usize, d: &Command) -> b
         }
     }
     true
-}
-
-// The place of a command. The search goes outward from the place `near`.
-fn place_of(c: &Command, commands: &[Command], near: usize) -> Option<usize>
-    requires { IsTrue (no_repeat commands.now) }
-    ensures { result ≡ place_in commands.now c.now }
-{
-    let start = near.min(commands.len());
-    for distance in 0..commands.len() {
-        if let Some(place) = place_at_distance(c, commands, start, distance) {
-            return Some(place);
-        }
-    }
-    None
-}
-
-// The place of a command, if that is `start + distance` or `start - distance - 1`.
-fn place_at_distance(
-    c: &Command,
-    commands: &[Command],
-    start: usize,
-    distance: usize,
-) -> Option<usize>
-    requires within { start ≤ length commands.now }
-    requires near { distance ≤ length commands.now }
-    ensures found { IfSome result (λ place. IsTrue (stands_at c.now commands.now place)) }
-    ensures not_behind { IfNone result (stands_at c.now commands.now (start + distance) ≡ false) }
-    ensures not_ahead { IfNone result ((i : ℕ) → i + distance + 1 ≡ start → stands_at c.now commands.now i ≡ false) }
-{
-    if stands_at(c, commands, start + distance) {
-        return Some(start + distance);
-    }
-    if distance < start && stands_at(c, commands, start - distance - 1) {
-        return Some(start - distance - 1);
-    }
-    None
 }

@@ -1,9 +1,8 @@
 //! Whether the commands of a history have distinct identities.
-ghost use Rattle.std.specs.Prelude.{◌≡◌, ◌↔◌, ◌<◌, ◌≤◌, ℕ, IsTrue, false, Some, length, slice_get};
-ghost use Rattle.gp_command.specs.declared.command.Command.{Command};
+ghost use Rattle.std.specs.Prelude.{◌≡◌, ◌↔◌, ◌≤◌, IsTrue, false, length};
 ghost use Rattle.gp_history.specs.Sequence.{history_of};
 ghost use Rattle.gp_replica.specs.Runs.{HasDistinctIds};
-ghost use Rattle.gp_replica.specs.Identities.{HasIdAt, HasIdBefore};
+ghost use Rattle.gp_replica.specs.Identities.{HasIdBefore};
 
 use gp_command::CommandId;
 use gp_history::Hist;
