@@ -68,12 +68,16 @@ OldOrAdded limit es e s = HoldsEntries limit es s ⊎ HoldsEntries limit (es ++ 
 abbrev pub OldOrRenewed : ℕ → List LogEntry → LogEntry → List ℕ → Type 0
 OldOrRenewed limit es e s = HoldsEntries limit es s ⊎ HoldsEntries limit (e ∷ []) s
 
--- after `Disk` and `NoMemory` the log is not ready, and after `Full` it is unchanged
+-- it shows what it showed, and is not ready
+abbrev pub StaysUnready : {D : Type 0} → LogState D → LogState D → Type 0
+StaysUnready old new = new ≡ record { disk = new.disk; limit = old.limit; entries = old.entries; is_old = old.is_old; size = old.size; ready = false }
+
+-- after `Full` the log is unchanged; after `Disk` and `NoMemory` it shows what it showed, and is not ready
 abbrev pub StaysWhole : {D T : Type 0} → LogState D → LogState D → Result T AppendFault → Type 0
 StaysWhole old new (Ok x) = new.ready ≡ true
 StaysWhole old new (Err (Full size need)) = new ≡ old
-StaysWhole old new (Err Disk) = new.ready ≡ false
-StaysWhole old new (Err NoMemory) = new.ready ≡ false
+StaysWhole old new (Err Disk) = StaysUnready old new
+StaysWhole old new (Err NoMemory) = StaysUnready old new
 
 -- an entry is of version 1
 abbrev pub has_old : List LogEntry → Bool

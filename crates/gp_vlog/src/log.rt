@@ -8,7 +8,7 @@ ghost use Rattle.gp_vlog.specs.Causes.{IsFullWhere, HasCause, HasOpenCause, IsNo
 ghost use Rattle.gp_vlog.specs.Files.{is_second, is_limit};
 ghost use Rattle.gp_vlog.specs.Opened.{disk_of, outcome_of};
 ghost use Rattle.gp_vlog.specs.Reading.{BreaksAt};
-ghost use Rattle.gp_vlog.specs.Logs.{IsReady, KeepsRules, OldOrAdded, OldOrRenewed, StaysWhole, entry_for, has_old, log_entries, last};
+ghost use Rattle.gp_vlog.specs.Logs.{IsReady, KeepsRules, OldOrAdded, OldOrRenewed, StaysUnready, StaysWhole, entry_for, has_old, log_entries, last};
 
 use crate::device::{begin, load, write_and_mark};
 use crate::fault::{AppendFault, OpenFault};
@@ -128,11 +128,12 @@ impl<D: Disk> Log<D> {
     /// Reads the log again from its disk, as `open` does, and makes it ready.
     ///
     /// A limit other than that of this log counts as out of range, so the limit of a log never
-    /// changes. The errors are those of `open`. After each of them the log is not ready.
+    /// changes. The errors are those of `open`. After each of them the log shows what it showed, and
+    /// is not ready.
     pub fn reopen(&mut self) -> Result<(), OpenFault>
         ensures ready { OnOk result ((self.new.ready ≡ true) × IsReady D.content D.image self.new) }
         ensures rules { OnOk result (All KeepsRules self.new.entries) }
-        ensures refused { OnErr result (self.new.ready ≡ false) }
+        ensures refused { OnErr result (StaysUnready self.old self.new) }
         ensures broken { IfErr result (BreaksAt (nat_eq self.old.limit) (D.content self.old.disk)) }
         ensures limit { self.new.limit ≡ self.old.limit }
         ensures content { D.content self.new.disk ≡ D.content self.old.disk }
@@ -208,7 +209,7 @@ impl<D: Disk> Log<D> {
     /// It returns `Full` exactly if the size and the need of the entry together exceed the limit,
     /// unless memory runs out, and the log is then unchanged. It returns `Disk` only if the number
     /// of faults of the disk has increased, and `NoMemory` if memory runs out. After these two the
-    /// log is not ready, even if nothing was written.
+    /// log shows the entries that it showed, and is not ready, even if nothing was written.
     pub fn append(&mut self, entry: &Durable) -> Result<(), AppendFault>
         requires ready { self.old.ready ≡ true }
         requires new { self.old.is_old ≡ false }
@@ -257,11 +258,12 @@ impl<D: Disk> Log<D> {
         let outcome = planned(self.alloc, None, entry, 17, self.limit);
         self.ready = is_full(&outcome);
         let plan = outcome?;
+        let mut entries = Vec::new(self.alloc);
+        entries.push(plan.entry)?;
         let other = first_gate(self.limit, !self.second);
         let switch = switch_to(!self.second);
         write_and_mark(&mut self.disk, other, &plan.bytes, 12, switch)?;
-        self.entries.clear();
-        self.entries.push(plan.entry)?;
+        self.entries = entries;
         self.first_version = false;
         self.second = !self.second;
         self.closed = plan.need;

@@ -41,14 +41,8 @@ returns-in_err-push-clause-any_moment g c =
     let es = log_entries i.first_version i.entries.items in
     let sized : IsSized i.limit = record { low = k.low; high = k.high } in
     let holds = k.revealed (ap (λ (v : LogState _). v.ready) c.self.view_is ∙ c.requires.ready) in
-    let plan_is = rw c.in_ok-plan.was at c.planned-outcome.ensures.plan in
-    let room = rw c.in_ok-plan.was at c.planned-outcome.ensures.room in
-    let need = plan_is.need in
-    let fits : 17 + (5 + length plan_is.body) ≤ i.limit = omega (arith, room, need) in
-    let piece_is = c.deref.ensures.value ∙ plan_is.bytes in
-    let moments = rw c.first_gate-other.ensures.value at c.write_and_mark.ensures.any_moment in
     renewed_seen g.D.Disk.content g.D.Disk.image g.D.Disk.moment g.D.Disk.since i.limit i.second es i.closed sized _ _ _ e c.self.view_is
-    (renewing g.D.Disk.content g.D.Disk.image g.D.Disk.moment g.D.Disk.since i.limit i.second es i.closed sized i.disk c.write_and_mark.new.disk plan_is.body _ e holds piece_is plan_is.means fits moments)
+    (unwritten g.D.Disk.content g.D.Disk.image g.D.Disk.moment g.D.Disk.since i.limit i.second es i.closed sized i.disk (OldOrRenewed i.limit es e) holds (g.met.D.Disk.only_now i.disk) (λ b q. inl q))
 
 pub returns-clause-any_moment : goal.returns-clause-any_moment
 returns-clause-any_moment g c =
