@@ -1,5 +1,5 @@
 -- A pass that goes on.
-use Rattle.std.proofs.Common.{◌≡◌, ℕ, [], ◌∷◌, ◌++◌, map, sym, ap, ◌∙◌, subst, append_assoc, arith, Option, Some, None, ◌+◌, length, length-append, List}
+use Rattle.std.proofs.Common.{◌≡◌, ℕ, [], ◌∷◌, ◌++◌, map, sym, ap, ◌∙◌, subst, append_assoc, arith, Option, Some, None, ◌+◌, length, length-append}
 use Rattle.std.proofs.lemmas.List.{map-append, length-map}
 use Rattle.gp_round.specs.Counts.{Counts}
 use Rattle.gp_msg.specs.declared.node.Node.{Node}

@@ -153,10 +153,7 @@ impl<D: Disk> Cell<D> {
         ensures count { CountsRiseFaults (faults_of D.faults self.old.log) (faults_of D.faults self.new.log) result }
         ensures limit { limit_of self.new.log ≡ limit_of self.old.log }
     {
-        let found = match self.reopen_log() {
-            Ok(found) => found,
-            Err(fault) => return Err(fault),
-        };
+        let found = self.reopen_log()?;
         let plan = match self.prepare(rt, wire, mv) {
             Ok(plan) => plan,
             Err(fault) => {

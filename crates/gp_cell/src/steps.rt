@@ -68,10 +68,7 @@ impl<D: Disk> Cell<D> {
         ensures waiting { IfErr result (λ f. f ≡ StepFault.Waiting → IsBeyond (length (messages_in (records self.new.pass))) mv.now) }
         ensures cause { IfErr result IsReadFault }
     {
-        let message = match read_named(rt, wire, &mut self.pass, mv) {
-            Ok(message) => message,
-            Err(fault) => return Err(fault),
-        };
+        let message = read_named(rt, wire, &mut self.pass, mv)?;
         let made = self.think(mv, message.as_ref());
         drop(message);
         match made {

@@ -51,10 +51,8 @@ pub fn take_all<S: Stage, W: Wait>(
     let mut taken: u64 = 0;
     for k in start..end {
         if is_kind(rt, stage, kind, k) {
-            match stage.step(rt, Event::Take { node, message: k }) {
-                Ok(_) => taken += 1,
-                Err(fault) => return Err(fault),
-            }
+            stage.step(rt, Event::Take { node, message: k })?;
+            taken += 1;
         }
     }
     Ok(taken)

@@ -100,10 +100,7 @@ fn make_all<N, P: Process<N>, W: Wait, G: Gate>(
     let mut left = moves.items;
     left.reverse();
     while let Some(mv) = left.pop() {
-        match make(rt, net, job, mv, gate) {
-            Ok(()) => {}
-            Err(fault) => return Err(fault),
-        }
+        make(rt, net, job, mv, gate)?;
     }
     Ok(())
 }
@@ -208,10 +205,7 @@ fn take_upward<N, P: Process<N>, W: Wait, G: Gate>(
     let node = job.cell.node();
     for i in 0..kinds.len() {
         let wanted = takes_now(node, later, kinds[i]);
-        match take_if(rt, net, job, job.cursor + i as u64, wanted, gate) {
-            Ok(()) => {}
-            Err(fault) => return Err(fault),
-        }
+        take_if(rt, net, job, job.cursor + i as u64, wanted, gate)?;
     }
     Ok(())
 }
@@ -238,10 +232,7 @@ fn take_downward<N, P: Process<N>, W: Wait, G: Gate>(
     let node = job.cell.node();
     for i in (0..kinds.len()).rev() {
         let wanted = takes_late(node, kinds[i]);
-        match take_if(rt, net, job, job.cursor + i as u64, wanted, gate) {
-            Ok(()) => {}
-            Err(fault) => return Err(fault),
-        }
+        take_if(rt, net, job, job.cursor + i as u64, wanted, gate)?;
     }
     Ok(())
 }
@@ -276,10 +267,8 @@ fn take_batch<N, P: Process<N>, W: Wait, G: Gate>(
     if !is_odd(job.cell.node()) {
         return take_upward(rt, net, job, kinds, false, gate);
     }
-    match take_upward(rt, net, job, kinds, true, gate) {
-        Ok(()) => take_downward(rt, net, job, kinds, gate),
-        Err(fault) => Err(fault),
-    }
+    take_upward(rt, net, job, kinds, true, gate)?;
+    take_downward(rt, net, job, kinds, gate)
 }
 
 // Takes the messages from the cursor on, batch by batch, until there are no more.
@@ -308,10 +297,8 @@ fn take_all<N, P: Process<N>, W: Wait, G: Gate>(
         if kinds.is_empty() {
             return Ok(());
         }
-        match take_batch(rt, net, job, &kinds, gate) {
-            Ok(()) => job.cursor += kinds.len() as u64,
-            Err(fault) => return Err(fault),
-        }
+        take_batch(rt, net, job, &kinds, gate)?;
+        job.cursor += kinds.len() as u64;
     }
     unreachable!()
 }
@@ -337,10 +324,8 @@ fn run<N, P: Process<N>, W: Wait, G: Gate>(
     ensures cause { IfErr result (Caused job.old.risen (P.state job.old.cell).faults (P.state job.new.cell).faults (P.too_great job.new.cell)) }
 {
     let first = mem::replace(&mut job.first, Moves::new(alloc));
-    match make_all(rt, net, job, first, gate) {
-        Ok(()) => take_all(rt, alloc, net, job, gate),
-        Err(fault) => Err(fault),
-    }
+    make_all(rt, net, job, first, gate)?;
+    take_all(rt, alloc, net, job, gate)
 }
 
 /// Does a job. It makes the moves of `first`, and then takes the messages, from `cursor` on, that

@@ -1,5 +1,6 @@
 -- One turn of the loop leads on to the same run.
 use Rattle.std.proofs.Common.{◌+◌, take, length, sym, ap, subst, ◌∙◌, arith, rules}
+use Rattle.std.proofs.lemmas.Result.{err_from_is_err_and}
 use Rattle.gp_run.specs.Messages.{messages}
 use Rattle.gp_run.specs.Runs.{run_onto}
 use Rattle.gp_driver.specs.Sweeps.{places, takes}
@@ -7,7 +8,7 @@ use Rattle.gp_driver.specs.Stages.{AllBut}
 use Rattle.gp_driver.proofs.TakingAll.{Taking, has_room, next_taken, next_left}
 use Rattle.gp_driver.proofs.Going.{failed_on, WithNodes, nodes_on, all_idle, nodes_still}
 use Rattle.gp_driver.proofs.sweep.take_all.Goals as goal
-use Rattle.gp_driver.proofs.sweep.take_all.Goals.{then-is_kind+in-Ok, else-is_kind}
+use Rattle.gp_driver.proofs.sweep.take_all.Goals.{then-is_kind+in_ok-step, else-is_kind}
 
 pub step-requires-clause-room : goal.step-requires-clause-room
 step-requires-clause-room g c =
@@ -28,12 +29,12 @@ loop-k-preserved g c =
     let t = c.loop-k.invariant.known in
     let target = run_onto (g.S.Stage.state c.args.stage.now).config (g.S.Stage.state c.args.stage.now).run (takes c.args.node (places c.args.kind c.args.start (take c.args.end (messages (g.S.Stage.state c.args.stage.now).run)))) in
     elim c.if-is_kind.branch [
-      | then-is_kind+in-Ok w ↦
+      | then-is_kind+in_ok-step w ↦
           subst (λ (n : _). WithNodes (Taking (g.S.Stage.state c.args.stage.now).config (g.S.Stage.state c.if-is_kind.stage).config (g.S.Stage.state c.args.stage.now).run (g.S.Stage.state c.if-is_kind.stage).run target (g.S.Stage.state c.args.stage.now).faults (g.S.Stage.state c.if-is_kind.stage).faults (g.S.Stage.state c.if-is_kind.stage).is_ready c.args.node c.args.kind c.args.end (c.loop-k.k + 1) n) (AllBut c.args.node) (g.S.Stage.state c.args.stage.now).nodes (g.S.Stage.state c.if-is_kind.stage).nodes) (sym w.taken-is)
           (subst (λ (s : g.row.S.Denot). WithNodes (Taking (g.S.Stage.state c.args.stage.now).config (g.S.Stage.state s).config (g.S.Stage.state c.args.stage.now).run (g.S.Stage.state s).run target (g.S.Stage.state c.args.stage.now).faults (g.S.Stage.state s).faults (g.S.Stage.state s).is_ready c.args.node c.args.kind c.args.end (c.loop-k.k + 1) (c.loop-k.taken + 1)) (AllBut c.args.node) (g.S.Stage.state c.args.stage.now).nodes (g.S.Stage.state s).nodes) (sym w.stage-is)
           (record {
-            known = next_taken _ _ _ _ _ _ _ _ _ _ _ _ _ c.loop-k-test.true t _ _ _ _ _ _ _ (sym c.is_kind.ensures.there ∙ w.if-is_kind.true) c.is_kind.ensures.config c.is_kind.ensures.run c.is_kind.ensures.later w.in-Ok.ensures.entry w.in-Ok.ensures.config w.in-Ok.ensures.later w.in-Ok.ensures.ready;
-            nodes = nodes_on _ _ _ _ (nodes_on _ _ _ _ c.loop-k.invariant.nodes (all_idle _ _ _ c.is_kind.ensures.nodes)) w.in-Ok.ensures.nodes;
+            known = next_taken _ _ _ _ _ _ _ _ _ _ _ _ _ c.loop-k-test.true t _ _ _ _ _ _ _ (sym c.is_kind.ensures.there ∙ w.if-is_kind.true) c.is_kind.ensures.config c.is_kind.ensures.run c.is_kind.ensures.later w.in_ok-step.ensures.entry w.in_ok-step.ensures.config w.in_ok-step.ensures.later w.in_ok-step.ensures.ready;
+            nodes = nodes_on _ _ _ _ (nodes_on _ _ _ _ c.loop-k.invariant.nodes (all_idle _ _ _ c.is_kind.ensures.nodes)) w.in_ok-step.ensures.nodes;
           }))
       | else-is_kind w ↦
           subst (λ (n : _). WithNodes (Taking (g.S.Stage.state c.args.stage.now).config (g.S.Stage.state c.if-is_kind.stage).config (g.S.Stage.state c.args.stage.now).run (g.S.Stage.state c.if-is_kind.stage).run target (g.S.Stage.state c.args.stage.now).faults (g.S.Stage.state c.if-is_kind.stage).faults (g.S.Stage.state c.if-is_kind.stage).is_ready c.args.node c.args.kind c.args.end (c.loop-k.k + 1) n) (AllBut c.args.node) (g.S.Stage.state c.args.stage.now).nodes (g.S.Stage.state c.if-is_kind.stage).nodes) (sym w.taken-is)
@@ -47,8 +48,10 @@ loop-k-preserved g c =
 pub loop-k-init : goal.loop-k-init
 loop-k-init g c = record { known = search rules; nodes = nodes_still _ _ }
 
-pub returns-in-Err-clause-nodes : goal.returns-in-Err-clause-nodes
-returns-in-Err-clause-nodes g c = nodes_on _ _ _ _ (nodes_on _ _ _ _ c.loop-k.invariant.nodes (all_idle _ _ _ c.is_kind.ensures.nodes)) c.in-Err.ensures.nodes
+pub returns-in_err-step-clause-nodes : goal.returns-in_err-step-clause-nodes
+returns-in_err-step-clause-nodes g c = nodes_on _ _ _ _ (nodes_on _ _ _ _ c.loop-k.invariant.nodes (all_idle _ _ _ c.is_kind.ensures.nodes)) c.in_err-step.ensures.nodes
 
-pub returns-in-Err-clause-failed : goal.returns-in-Err-clause-failed
-returns-in-Err-clause-failed g c = failed_on _ _ _ _ _ (nodes_on _ _ _ _ c.loop-k.invariant.nodes (all_idle _ _ _ c.is_kind.ensures.nodes)) c.in-Err.ensures.failed
+pub returns-in_err-step-clause-failed : goal.returns-in_err-step-clause-failed
+returns-in_err-step-clause-failed g c =
+    let p = err_from_is_err_and c.from_residual.result c.from_residual.ensures.1 in
+    rw (p.1, p.2) (failed_on _ _ _ _ _ (nodes_on _ _ _ _ c.loop-k.invariant.nodes (all_idle _ _ _ c.is_kind.ensures.nodes)) c.in_err-step.ensures.failed)

@@ -26,29 +26,29 @@ think-made-requires-clause-room g c =
     let room = subst (λ (x : CellState g.row.D.Denot). HasRoom (length (own x.node (records x.pass))) c.args.mv.now) (sym c.self.view_is) c.requires.room in
     subst (λ rs. HasRoom (length rs) c.args.mv.now) (sym (own_later s.node s.pass c.read_named.new.pass mine c.read_named.ensures.knows)) room
 
+pub returns-in_err-message-clause-own : goal.returns-in_err-message-clause-own
+returns-in_err-message-clause-own g c =
+    let s = c.self.inside in
+    let mine = subst (λ m. Has m s.pass.holds) c.self.invariant.node_is (subst (λ (x : CellState g.row.D.Denot). Has x.pass.node x.pass.holds) (sym c.self.view_is) c.requires.holds) in
+    own_later s.node s.pass c.read_named.new.pass mine c.read_named.ensures.knows ∙ ap (λ (x : CellState g.row.D.Denot). own x.node (records x.pass)) c.self.view_is
+
+pub returns-in-Ok-clause-own : goal.returns-in-Ok-clause-own
+returns-in-Ok-clause-own g c =
+    let s = c.self.inside in
+    let mine = subst (λ m. Has m s.pass.holds) c.self.invariant.node_is (subst (λ (x : CellState g.row.D.Denot). Has x.pass.node x.pass.holds) (sym c.self.view_is) c.requires.holds) in
+    own_later s.node s.pass c.read_named.new.pass mine c.read_named.ensures.knows ∙ ap (λ (x : CellState g.row.D.Denot). own x.node (records x.pass)) c.self.view_is
+
 pub returns-in-Err-clause-own : goal.returns-in-Err-clause-own
 returns-in-Err-clause-own g c =
     let s = c.self.inside in
     let mine = subst (λ m. Has m s.pass.holds) c.self.invariant.node_is (subst (λ (x : CellState g.row.D.Denot). Has x.pass.node x.pass.holds) (sym c.self.view_is) c.requires.holds) in
     own_later s.node s.pass c.read_named.new.pass mine c.read_named.ensures.knows ∙ ap (λ (x : CellState g.row.D.Denot). own x.node (records x.pass)) c.self.view_is
 
-pub returns-in-Ok-made-clause-own : goal.returns-in-Ok-made-clause-own
-returns-in-Ok-made-clause-own g c =
-    let s = c.self.inside in
-    let mine = subst (λ m. Has m s.pass.holds) c.self.invariant.node_is (subst (λ (x : CellState g.row.D.Denot). Has x.pass.node x.pass.holds) (sym c.self.view_is) c.requires.holds) in
-    own_later s.node s.pass c.read_named.new.pass mine c.read_named.ensures.knows ∙ ap (λ (x : CellState g.row.D.Denot). own x.node (records x.pass)) c.self.view_is
+pub returns-in_err-message-clause-whole : goal.returns-in_err-message-clause-whole
+returns-in_err-message-clause-whole g c = subst (λ (x : CellState g.row.D.Denot). HoldsAll x.pass → length c.read_named.new.pass.seen ≡ length x.pass.seen) c.self.view_is c.read_named.ensures.whole
 
-pub returns-in-Err-made-clause-own : goal.returns-in-Err-made-clause-own
-returns-in-Err-made-clause-own g c =
-    let s = c.self.inside in
-    let mine = subst (λ m. Has m s.pass.holds) c.self.invariant.node_is (subst (λ (x : CellState g.row.D.Denot). Has x.pass.node x.pass.holds) (sym c.self.view_is) c.requires.holds) in
-    own_later s.node s.pass c.read_named.new.pass mine c.read_named.ensures.knows ∙ ap (λ (x : CellState g.row.D.Denot). own x.node (records x.pass)) c.self.view_is
+pub returns-in-Ok-clause-whole : goal.returns-in-Ok-clause-whole
+returns-in-Ok-clause-whole g c = subst (λ (x : CellState g.row.D.Denot). HoldsAll x.pass → length c.read_named.new.pass.seen ≡ length x.pass.seen) c.self.view_is c.read_named.ensures.whole
 
 pub returns-in-Err-clause-whole : goal.returns-in-Err-clause-whole
 returns-in-Err-clause-whole g c = subst (λ (x : CellState g.row.D.Denot). HoldsAll x.pass → length c.read_named.new.pass.seen ≡ length x.pass.seen) c.self.view_is c.read_named.ensures.whole
-
-pub returns-in-Ok-made-clause-whole : goal.returns-in-Ok-made-clause-whole
-returns-in-Ok-made-clause-whole g c = subst (λ (x : CellState g.row.D.Denot). HoldsAll x.pass → length c.read_named.new.pass.seen ≡ length x.pass.seen) c.self.view_is c.read_named.ensures.whole
-
-pub returns-in-Err-made-clause-whole : goal.returns-in-Err-made-clause-whole
-returns-in-Err-made-clause-whole g c = subst (λ (x : CellState g.row.D.Denot). HoldsAll x.pass → length c.read_named.new.pass.seen ≡ length x.pass.seen) c.self.view_is c.read_named.ensures.whole
