@@ -1,5 +1,5 @@
 //! Nodes that run in threads.
-use crate::stage::{disks_with, served_with};
+use crate::stage::{content_of, disks_with, served_with};
 use gp_cli::{Ran, Trail};
 use gp_edge::MemDisk;
 use std::alloc::Global;
@@ -121,6 +121,20 @@ fn a_log_has_no_room_for_all_commands(rt: HostRuntime) -> Result<(), Fail> {
             .written()
             .starts_with(b"log full: size 17 need ")
     );
+    Ok(())
+}
+
+// All commands need 202 bytes, which fit under the limit only if no other entry is there.
+#[test]
+fn a_log_without_room_for_one_more_entry_is_renewed(rt: HostRuntime) -> Result<(), Fail> {
+    let alloc = rt.alloc();
+    let disks = disks_with(alloc, 0, b"", &[])?;
+    let finished = served_with(&rt, alloc, &["run", "220"], EIGHT, disks)?;
+    assert!(rt; finished.ran.status == 0);
+    let printed = parts_of(alloc, finished.sink.written())?;
+    assert!(rt; show_eight(alloc, &printed.report)?);
+    // an entry was written into the second area
+    assert!(rt; content_of(&finished, 0).len() > 220);
     Ok(())
 }
 
