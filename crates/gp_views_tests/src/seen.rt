@@ -17,6 +17,7 @@ struct Findings {
     absent: Option<u64>,
     after: bool,
     in_order: bool,
+    in_order_alone: bool,
     counts: (u64, u64),
 }
 
@@ -46,6 +47,7 @@ fn find<R: Wait>(
         absent,
         after: second.has_seen(&again),
         in_order: first.is_no_later(second),
+        in_order_alone: second.is_no_later(second),
         counts: (first.seen(), second.seen()),
     })
 }
@@ -75,6 +77,7 @@ fn a_reader_sees_what_it_was_told_of(rt: HostRuntime) -> Result<(), Fail> {
         absent: None,
         after: true,
         in_order: true,
+        in_order_alone: true,
         counts: (0, 4),
     };
     assert_eq!(rt; found, Some(want));
