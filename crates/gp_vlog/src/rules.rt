@@ -1,5 +1,5 @@
 //! The rules of what an entry holds.
-ghost use Rattle.std.specs.Prelude.{All, ◌≡◌, true};
+ghost use Rattle.std.specs.Prelude.{All, IsTrue, ◌↔◌};
 ghost use Rattle.gp_command.specs.Spelling.{IsNumbered};
 ghost use Rattle.gp_vlog.specs.Logs.{KeepsRules};
 
@@ -11,10 +11,10 @@ use gp_msg::Durable;
 
 /// A test of the rules of a log for a durable part: its rounds are round zero or may be begun by a
 /// coordinator, a vote is of no later round than the acceptor's, and each command has the identity
-/// of an offer. If the result is true, a log may hold the part. Only a caller that does not know
-/// this of its entries needs the test.
+/// of an offer. A log may hold the parts for which the result is true. Only a caller that does not
+/// know this of its entries needs the test.
 pub fn keeps_rules(part: &Durable) -> bool
-    ensures { result ≡ true → KeepsRules part.now }
+    ensures { IsTrue result ↔ KeepsRules part.now }
 {
     match part {
         Durable::Acceptor {
@@ -39,7 +39,7 @@ pub fn keeps_rules(part: &Durable) -> bool
 }
 
 fn are_numbered(vote: &History) -> bool
-    ensures { result ≡ true → All (λ c. IsNumbered c.id) vote.now }
+    ensures { IsTrue result ↔ All (λ c. IsNumbered c.id) vote.now }
 {
     for i in 0..vote.len() {
         let id = vote.at(i).id();
