@@ -5,6 +5,7 @@ use Rattle.gp_command.specs.declared.command.Command.{Command}
 use Rattle.gp_history.specs.History.{has}
 use Rattle.gp_history.proofs.Tests.{any-append}
 use Rattle.gp_round.specs.Counts.{Counts}
+use Rattle.gp_round.specs.declared.config.TheConstants.{LAST_COUNT}
 use Rattle.gp_msg.specs.Messages.{Final, Entry}
 use Rattle.gp_run.specs.Messages.{messages}
 use Rattle.gp_run.specs.Legal.{Legal}
@@ -37,12 +38,12 @@ pub record Finishes (config : Counts) (n : ℕ) (es : List Entry) : Type 0 where
   pub can : (m : ℕ) → CanPass config (n + m) es
 
 module _ (config : Counts) (some : 0 < config.acceptors) (lead : 0 < config.coordinators) (one : 0 < config.learners) (agrees : (es : List Entry) → Legal config es → Agrees config es) where
-  made : (es : List Entry) (e : ℕ) → IsReady config es e → top_count config es < 1000000 → PassMade config es e
+  made : (es : List Entry) (e : ℕ) → IsReady config es e → top_count config es < LAST_COUNT → PassMade config es e
   made es e ready room = one_pass config es e some lead ready.legal room ready.leads ready.answers ready.hears one
 
   -- ---- the last pass
 
-  module _ (n : ℕ) (es : List Entry) (e : ℕ) (room : top_count config es < 1000000) (ready : IsReady config es e) (m : PassMade config es e) (s : PassShows config es m.value) where
+  module _ (n : ℕ) (es : List Entry) (e : ℕ) (room : top_count config es < LAST_COUNT) (ready : IsReady config es e) (m : PassMade config es e) (s : PassShows config es m.value) where
     or_nothing : (b : Bool) → (b || false) ≡ b
     or_nothing true = refl
     or_nothing false = refl
@@ -85,7 +86,7 @@ module _ (config : Counts) (some : 0 < config.acceptors) (lead : 0 < config.coor
 
   -- ---- one pass more
 
-  module _ (n : ℕ) (es : List Entry) (e : ℕ) (room : top_count config es < 1000000) (m : PassMade config es e) (c : PassCloses config es e m.value) (w : ClosedWell config es (closed config c.first.first (pass config es)) e) (rest : Finishes config n (closed config c.first.first (pass config es))) where
+  module _ (n : ℕ) (es : List Entry) (e : ℕ) (room : top_count config es < LAST_COUNT) (m : PassMade config es e) (c : PassCloses config es e m.value) (w : ClosedWell config es (closed config c.first.first (pass config es)) e) (rest : Finishes config n (closed config c.first.first (pass config es))) where
     next_is : (k : ℕ) → passes config (suc k) es ≡ passes config k (closed config c.first.first (pass config es))
     next_is k = ap (λ ks. at_first ks (pass config es) (λ i. passes config k (closed config i (pass config es)))) c.first.is
 
@@ -129,7 +130,7 @@ module _ (config : Counts) (some : 0 < config.acceptors) (lead : 0 < config.coor
   -- ---- all passes
 
   -- from an epoch in which nothing was voted, as many passes as checkpoints are open, and one more
-  pub fresh_finishes : (n : ℕ) (es : List Entry) (e : ℕ) → IsReady config es e → IsFresh config es → opens (is_closed (messages es)) (messages es) < n → top_count config es + n ≤ 1000000 → Finishes config n es
+  pub fresh_finishes : (n : ℕ) (es : List Entry) (e : ℕ) → IsReady config es e → IsFresh config es → opens (is_closed (messages es)) (messages es) < n → top_count config es + n ≤ LAST_COUNT → Finishes config n es
   fresh_finishes zero es e ready fresh h room = absurd (omega (arith, h))
   fresh_finishes (suc n) es e ready fresh h room =
       let m = made es e ready (omega (arith, room)) in
@@ -145,7 +146,7 @@ module _ (config : Counts) (some : 0 < config.acceptors) (lead : 0 < config.coor
       ]
 
   -- from any epoch, as many passes as checkpoints were offered, and one more
-  pub finishes : (es : List Entry) (e : ℕ) → IsReady config es e → top_count config es + suc (checkpoints (messages es)) ≤ 1000000 → Finishes config (suc (checkpoints (messages es))) es
+  pub finishes : (es : List Entry) (e : ℕ) → IsReady config es e → top_count config es + suc (checkpoints (messages es)) ≤ LAST_COUNT → Finishes config (suc (checkpoints (messages es))) es
   finishes es e ready room =
       let m = made es e ready (omega (arith, room)) in
       elim m.outcome [

@@ -11,6 +11,7 @@ use Rattle.gp_command.specs.Conflict.{same}
 use Rattle.gp_history.specs.History.{History, IsHistory, has, empty}
 use Rattle.gp_round.specs.Counts.{Counts}
 use Rattle.gp_round.specs.Rounds.{earlier}
+use Rattle.gp_round.specs.declared.config.TheConstants.{LAST_COUNT}
 use Rattle.gp_safe.specs.Choice.{Reply}
 use Rattle.gp_msg.specs.Messages.{Asked, Answered, Sent, Voted, Stamped, Offered, InEpoch, Final, Entry}
 use Rattle.gp_msg.specs.declared.node.Node.TheVariants.{Coordinator, Acceptor, Learner}
@@ -100,7 +101,7 @@ pub record PassMade (config : Counts) (es : List Entry) (e : ℕ) : Type 0 where
   pub answers : (a : ℕ) → a < config.acceptors → (acceptor_at config a (pass config es)).epoch ≡ e
   pub outcome : PassShows config es value ⊎ PassCloses config es e value
 
-module _ (config : Counts) (es : List Entry) (e : ℕ) (some : 0 < config.acceptors) (lead : 0 < config.coordinators) (legal : Legal config es) (room : top_count config es < 1000000)
+module _ (config : Counts) (es : List Entry) (e : ℕ) (some : 0 < config.acceptors) (lead : 0 < config.coordinators) (legal : Legal config es) (room : top_count config es < LAST_COUNT)
     (leads : (coordinator_at config 0 es).epoch ≡ e) (answers : (a : ℕ) → a < config.acceptors → (acceptor_at config a es).epoch ≡ e) (hears : (l : ℕ) → l < config.learners → (learner_at config l es).epoch ≡ e)
   where
     abbrev k : ℕ
@@ -156,7 +157,7 @@ module _ (config : Counts) (es : List Entry) (e : ℕ) (some : 0 < config.accept
         })
 
     begin_fits : fits config es (Begin 0 (single k)) ≡ true
-    begin_fits = λ i. le-leb 1 k (omega arith) i && le-leb k 1000000 (omega (arith, room)) i && lt-ltb 0 config.coordinators lead i && true
+    begin_fits = λ i. le-leb 1 k (omega arith) i && le-leb k LAST_COUNT (omega (arith, room)) i && lt-ltb 0 config.coordinators lead i && true
 
     legal1 : Legal config (settling.begun config es)
     legal1 = (legal, record { own_node = refl; event_fits = begin_fits; own_messages = refl })

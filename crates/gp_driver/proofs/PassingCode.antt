@@ -6,6 +6,7 @@ use Rattle.std.proofs.lemmas.List.{length-append}
 use Rattle.gp_round.specs.Counts.{Counts}
 use Rattle.gp_round.specs.Configs.{is_owner}
 use Rattle.gp_round.specs.declared.round.Mode.TheVariants.{Single}
+use Rattle.gp_round.specs.declared.config.TheConstants.{LAST_COUNT}
 use Rattle.gp_msg.specs.declared.node.Node.{Node}
 use Rattle.gp_msg.specs.declared.node.Node.TheVariants.{Coordinator, Acceptor, Learner}
 use Rattle.gp_msg.specs.declared.event.Event.TheVariants.{Begin}
@@ -46,8 +47,8 @@ module _ (config : Counts) (es : List Entry) where
   pub has_begun : (top : ℕ) → top ≡ top_count config es → entry_after config es (Begin 0 (record { count = top + 1; mode = Single; lead = 0 })) ∷ es ≡ begun config es
   has_begun top e = λ i. entry_after config es (Begin 0 (record { count = (add-one top ∙ ap suc e) i; mode = Single; lead = 0 })) ∷ es
 
-  pub may_begin : (top : ℕ) → top ≡ top_count config es → top_count config es < 1000000 → 0 < config.coordinators → is_owner config.coordinators 0 (record { count = top + 1; mode = Single; lead = 0 }) ≡ true
-  may_begin top e l lead = λ i. le-leb 1 (top + 1) (omega arith) i && le-leb (top + 1) 1000000 (omega (arith, e, l)) i && lt-ltb 0 config.coordinators lead i && true
+  pub may_begin : (top : ℕ) → top ≡ top_count config es → top_count config es < LAST_COUNT → 0 < config.coordinators → is_owner config.coordinators 0 (record { count = top + 1; mode = Single; lead = 0 }) ≡ true
+  may_begin top e l lead = λ i. le-leb 1 (top + 1) (omega arith) i && le-leb (top + 1) LAST_COUNT (omega (arith, e, l)) i && lt-ltb 0 config.coordinators lead i && true
 
   pub room4 : length es4 ≤ length (pass config es)
   room4 = longer config Learner config.learners Kind.P2b (length (messages es)) es4

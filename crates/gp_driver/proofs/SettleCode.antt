@@ -9,6 +9,7 @@ use Rattle.gp_msg.specs.declared.message.MsgKind.TheVariants as Kind
 use Rattle.gp_run.specs.Messages.{messages}
 use Rattle.gp_run.specs.Legal.{Legal}
 use Rattle.gp_round.specs.Ranges.{AreInRange}
+use Rattle.gp_round.specs.declared.config.TheConstants.{LAST_COUNT}
 use Rattle.gp_run.specs.TopCount.{top_count}
 use Rattle.gp_driver.specs.Settled.{Settles}
 use Rattle.gp_driver.specs.Sweeps.{is_of, places_from, places, first_place, sweep}
@@ -67,7 +68,7 @@ turned config config_now es now target f0 f1 ready left events s c2 zs g1 ready2
 pub range_of : (c d : Counts) → c ≡ d → AreInRange c.acceptors c.coordinators c.learners → AreInRange d.acceptors d.coordinators d.learners
 range_of c d e h = subst (λ (x : Counts). AreInRange x.acceptors x.coordinators x.learners) e h
 
-pub brings : (config : Counts) → AreInRange config.acceptors config.coordinators config.learners → (es : List Entry) → Legal config es → top_count config es + checkpoints (messages es) ≤ 999999 → Settles config es
+pub brings : (config : Counts) → AreInRange config.acceptors config.coordinators config.learners → (es : List Entry) → Legal config es → top_count config es + checkpoints (messages es) < LAST_COUNT → Settles config es
 brings config range es legal rounds =
     let a = range.three_acceptors in
     let b = range.one_coordinator in

@@ -1,6 +1,7 @@
 -- Settling brings every command that was offered to every learner.
-use Rattle.std.proofs.Common.{◌≡◌, suc, ◌+◌, ◌<◌, ◌≤◌, false, List, sym, ◌∙◌, subst, arith}
+use Rattle.std.proofs.Common.{◌≡◌, suc, ◌+◌, ◌<◌, false, List, sym, ◌∙◌, subst, arith}
 use Rattle.gp_round.specs.Counts.{Counts}
+use Rattle.gp_round.specs.declared.config.TheConstants.{LAST_COUNT}
 use Rattle.gp_msg.specs.Messages.{Entry}
 use Rattle.gp_run.specs.Messages.{messages}
 use Rattle.gp_run.specs.Legal.{Legal}
@@ -14,7 +15,7 @@ use Rattle.gp_driver.proofs.Offers.{offered_there}
 use Rattle.gp_driver.proofs.Passes.{Finishes, finishes}
 use Rattle.gp_driver.proofs.Preparing.{is_prepared}
 
-pub settles : (config : Counts) → 0 < config.acceptors → 0 < config.coordinators → 0 < config.learners → (es : List Entry) → Legal config es → top_count config es + checkpoints (messages es) ≤ 999999 → Settles config es
+pub settles : (config : Counts) → 0 < config.acceptors → 0 < config.coordinators → 0 < config.learners → (es : List Entry) → Legal config es → top_count config es + checkpoints (messages es) < LAST_COUNT → Settles config es
 unfolding settle settling_passes
 settles config some lead one es legal room =
     let p = is_prepared config lead es legal in

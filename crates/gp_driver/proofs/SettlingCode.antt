@@ -3,6 +3,7 @@ use Rattle.std.proofs.Common.{◌≡◌, ℕ, zero, suc, ◌+◌, ◌-◌, ◌<�
 use Rattle.std.specs.Prelude.{slice_get, take, drop, filter}
 use Rattle.std.proofs.lemmas.List.{length-append}
 use Rattle.gp_round.specs.Counts.{Counts}
+use Rattle.gp_round.specs.declared.config.TheConstants.{LAST_COUNT}
 use Rattle.gp_msg.specs.declared.node.Node.TheVariants.{Coordinator, Acceptor, Learner}
 use Rattle.gp_msg.specs.Messages.{Stamped, Offered, InEpoch, Final, Entry}
 use Rattle.gp_msg.specs.declared.message.MsgKind.TheVariants as Kind
@@ -186,7 +187,7 @@ passes_start config es n ready f can r = subst (λ m. Settling config config es 
 })
 
 module _ (config config_now : Counts) (es now target : List Entry) (f0 f1 : ℕ) (ready : Type 0) (left events : ℕ) (s : Settling config config_now es now target f0 f1 ready (suc left) events) where
-  pub can_pass : top_count config now < 1000000
+  pub can_pass : top_count config now < LAST_COUNT
   can_pass = s.can.0
 
   pub pass_room : length (pass config now) ≤ length target

@@ -3,6 +3,7 @@ use Rattle.std.specs.Prelude.{ℕ, zero, suc, ◌<◌, ◌+◌, ◌-◌, ◌*◌
 use Rattle.gp_round.specs.Counts.{Counts}
 use Rattle.gp_round.specs.declared.round.Mode.TheVariants.{Single}
 use Rattle.gp_round.specs.declared.round.Round.{Round}
+use Rattle.gp_round.specs.declared.config.TheConstants.{LAST_COUNT}
 use Rattle.gp_msg.specs.declared.node.Node.TheVariants.{Coordinator, Acceptor, Learner}
 use Rattle.gp_msg.specs.declared.event.Event.TheVariants.{Begin}
 use Rattle.gp_msg.specs.Messages.{Stamped, Offered, InEpoch, Final, Entry}
@@ -69,7 +70,7 @@ passes config (suc n) es = at_first (finals_of_pass config es) (pass config es) 
 -- each of these passes can begin its round
 abbrev pub CanPass : Counts → ℕ → List Entry → Type 0
 CanPass config zero es = Unit {0}
-CanPass config (suc n) es = (top_count config es < 1000000) × at_first (finals_of_pass config es) (Unit {0}) (λ k. CanPass config n (closed config k (pass config es)))
+CanPass config (suc n) es = (top_count config es < LAST_COUNT) × at_first (finals_of_pass config es) (Unit {0}) (λ k. CanPass config n (closed config k (pass config es)))
 
 -- the number of these passes
 abbrev pub passes_made : Counts → ℕ → List Entry → ℕ

@@ -1,8 +1,9 @@
 //! Laws of the drivers. Each function does nothing, and its contract is the law.
-ghost use Rattle.std.specs.Prelude.{◌≡◌, ◌+◌, ◌*◌, ◌≤◌, ℕ, List, Result, IfErr, length};
+ghost use Rattle.std.specs.Prelude.{◌≡◌, ◌+◌, ◌*◌, ◌<◌, ◌≤◌, ℕ, List, Result, IfErr, length};
 ghost use Rattle.gp_command.specs.declared.draft.Draft.{Draft};
 ghost use Rattle.gp_round.specs.Counts.{Counts};
 ghost use Rattle.gp_round.specs.Ranges.{AreInRange};
+ghost use Rattle.gp_round.specs.declared.config.TheConstants.{LAST_COUNT};
 ghost use Rattle.gp_msg.specs.Messages.{Stamped, Entry};
 ghost use Rattle.gp_run.specs.Messages.{messages};
 ghost use Rattle.gp_run.specs.Legal.{Legal};
@@ -22,7 +23,7 @@ ghost use Rattle.gp_driver.specs.declared.stage.StageFault.TheVariants.{NoMemory
 /// exact number of events.
 pub fn settling_brings_all_that_was_offered()
     ensures { (config : Counts) (es : List Entry) → AreInRange config.acceptors config.coordinators config.learners
-        → Legal config es → top_count config es + checkpoints (messages es) ≤ 999999 → Settles config es }
+        → Legal config es → top_count config es + checkpoints (messages es) < LAST_COUNT → Settles config es }
 {}
 
 /// In a multi round of three coordinators, one of which does nothing, every learner learns each

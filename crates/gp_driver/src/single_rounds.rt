@@ -1,5 +1,6 @@
 //! Settling: single rounds of coordinator 0, until every learner holds every offered command.
 ghost use Rattle.std.specs.Prelude.{◌≡◌, ◌<◌, ◌≤◌, ◌+◌, ◌∷◌, [], ◌^◌, List, true, length};
+ghost use Rattle.gp_round.specs.declared.config.TheConstants.{LAST_COUNT};
 ghost use Rattle.gp_msg.specs.Messages.{Entry};
 ghost use Rattle.gp_msg.specs.declared.message.MsgKind.TheVariants as Kind;
 ghost use Rattle.gp_run.specs.Messages.{messages};
@@ -45,7 +46,7 @@ fn pass_once<S: Stage, W: Wait>(rt: &W, stage: &mut S, config: &Config) -> Resul
     requires ready { (S.state stage.old).is_ready }
     requires config { config.now ≡ (S.state stage.old).config }
     requires lead { 0 < (S.state stage.old).config.coordinators }
-    requires round { top_count (S.state stage.old).config (S.state stage.old).run < 1000000 }
+    requires round { top_count (S.state stage.old).config (S.state stage.old).run < LAST_COUNT }
     requires room { length (pass (S.state stage.old).config (S.state stage.old).run) ≤ 2 ^ 31 }
     ensures driven { HasDriven (S.state stage.old) (S.state stage.new)
         (pass (S.state stage.old).config (S.state stage.old).run) result }
@@ -167,7 +168,7 @@ pub fn settle<S: Stage, W: Wait>(rt: &W, stage: &mut S) -> Result<u64, StageFaul
     requires ready { (S.state stage.old).is_ready }
     requires legal { Legal (S.state stage.old).config (S.state stage.old).run }
     requires rounds { top_count (S.state stage.old).config (S.state stage.old).run
-        + checkpoints (messages (S.state stage.old).run) ≤ 999999 }
+        + checkpoints (messages (S.state stage.old).run) < LAST_COUNT }
     requires room { length (settle (S.state stage.old).config (S.state stage.old).run) ≤ 2 ^ 31 }
     ensures driven { HasDriven (S.state stage.old) (S.state stage.new)
         (settle (S.state stage.old).config (S.state stage.old).run) result }

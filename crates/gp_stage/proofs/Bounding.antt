@@ -1,7 +1,8 @@
 -- When a run can be settled.
-use Rattle.std.proofs.Common.{◌+◌, ◌*◌, ◌≤◌, ◌^◌, List, length, arith}
+use Rattle.std.proofs.Common.{◌+◌, ◌*◌, ◌<◌, ◌≤◌, ◌^◌, List, length, arith}
 use Rattle.gp_round.specs.Counts.{Counts}
 use Rattle.gp_round.specs.Ranges.{AreInRange}
+use Rattle.gp_round.specs.declared.config.TheConstants.{LAST_COUNT}
 use Rattle.gp_msg.specs.Messages.{Entry}
 use Rattle.gp_run.specs.Messages.{messages}
 use Rattle.gp_run.specs.Legal.{Legal}
@@ -12,10 +13,10 @@ use Rattle.gp_driver.proofs.Lengths.{settled_length, checkpoints_among}
 use Rattle.gp_stage.specs.Bounds.{CanSettle}
 
 pub can_settle : (config : Counts) (es : List Entry) → AreInRange config.acceptors config.coordinators config.learners → Legal config es
-    → top_count config es + length (messages es) ≤ 999999 → length es + 71 * length (messages es) + 50 ≤ 2 ^ 31 → CanSettle config es
+    → top_count config es + length (messages es) < LAST_COUNT → length es + 71 * length (messages es) + 50 ≤ 2 ^ 31 → CanSettle config es
 can_settle config es range legal rounds room =
     let c = checkpoints_among (messages es) in
-    let few : top_count config es + checkpoints (messages es) ≤ 999999 = omega (arith, c, rounds) in
+    let few : top_count config es + checkpoints (messages es) < LAST_COUNT = omega (arith, c, rounds) in
     let l = settled_length config range es (brings config range es legal few) in record {
       range = range;
       legal = legal;

@@ -18,6 +18,7 @@ use Rattle.gp_wire.specs.Known.{WireState, records, record_of}
 use Rattle.gp_msg.specs.Records.{messages_in}
 use Rattle.gp_rules.specs.declared.rules.PaxosRules.{PaxosRules}
 use Rattle.gp_cell.specs.Cells.{CellState}
+use Rattle.gp_stage.specs.declared.settling.TheConstants.{MOST_ROUNDS}
 use Rattle.gp_stage.specs.Held.{seen_by}
 use Rattle.gp_stage.specs.Kept.{IsKept}
 use Rattle.gp_stage.specs.Bounds.{CanSettle}
@@ -38,7 +39,7 @@ module _ {D : Type 0} (wire : WireState PaxosRules) (config : Counts) (cells : L
       ∙ sym (kind_told (slice_get (messages_in (seen_by (slice_get cells holder))) i)) ∙ ap (option_map kind_of) (sym (message-entries (seen_by (slice_get cells holder)) i))
 
   pub within_bounds : (c : CellState D) (count entries : ℕ) → slice_get cells holder ≡ Some c → AreInRange config.acceptors config.coordinators config.learners → count ≡ length kinds → entries ≡ length c.pass.seen
-      → top + count ≤ 999999 → entries + 71 * count + 50 ≤ 2 ^ 31 → CanSettle config (newest_first (seen_by (slice_get cells holder)))
+      → top + count ≤ MOST_ROUNDS → entries + 71 * count + 50 ≤ 2 ^ 31 → CanSettle config (newest_first (seen_by (slice_get cells holder)))
   within_bounds c count entries at range many long rounds room =
       let e : entries ≡ length (newest_first (seen_by (slice_get cells holder))) = long ∙ sym (length-map c.pass.seen record_of) ∙ sym (length-reverse (records c.pass)) ∙ sym (length-map (reverse (records c.pass)) entry_of)
       ∙ ap (λ o. length (newest_first (seen_by o))) (sym at) in

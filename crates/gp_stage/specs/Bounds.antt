@@ -1,7 +1,8 @@
 -- Runs that can be settled.
-use Rattle.std.specs.Prelude.{◌≤◌, ◌+◌, ◌^◌, List, length}
+use Rattle.std.specs.Prelude.{◌<◌, ◌≤◌, ◌+◌, ◌^◌, List, length}
 use Rattle.gp_round.specs.Counts.{Counts}
 use Rattle.gp_round.specs.Ranges.{AreInRange}
+use Rattle.gp_round.specs.declared.config.TheConstants.{LAST_COUNT}
 use Rattle.gp_msg.specs.Messages.{Entry}
 use Rattle.gp_run.specs.Messages.{messages}
 use Rattle.gp_run.specs.Legal.{Legal}
@@ -12,5 +13,5 @@ use Rattle.gp_driver.specs.Settling.{checkpoints, settle}
 pub record CanSettle (config : Counts) (es : List Entry) : Type 0 where
   pub range : AreInRange config.acceptors config.coordinators config.learners
   pub legal : Legal config es
-  pub rounds : top_count config es + checkpoints (messages es) ≤ 999999
+  pub rounds : top_count config es + checkpoints (messages es) < LAST_COUNT
   pub room : length (settle config es) ≤ 2 ^ 31

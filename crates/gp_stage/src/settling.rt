@@ -10,11 +10,12 @@ ghost use Rattle.gp_stage.specs.Bounds.{CanSettle};
 use crate::cells::CellStage;
 use gp_driver::{StageFault, settle};
 use gp_edge::{Disk, Gate};
+use gp_round::LAST_COUNT;
 use std::sync::Wait;
 
 /// `settle_cells` settles a run only if the greatest count of a round in it and the number of its
 /// messages add up to at most this.
-pub const MOST_ROUNDS: u64 = 999_999;
+pub const MOST_ROUNDS: u64 = LAST_COUNT as u64 - 1;
 
 /// `settle_cells` settles a run only if its bound for the number of entries of the settled run is
 /// at most this.

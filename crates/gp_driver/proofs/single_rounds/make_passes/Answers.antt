@@ -1,5 +1,6 @@
 -- Each turn of the loop is a pass, and the passes that are left lead to the run that is meant.
 use Rattle.std.proofs.Common.{◌<◌, length, sym, ap, subst, ◌∙◌, arith}
+use Rattle.gp_round.specs.declared.config.TheConstants.{LAST_COUNT}
 use Rattle.gp_run.specs.TopCount.{top_count}
 use Rattle.std.proofs.lemmas.Result.{err_from_is_err_and}
 use Rattle.gp_driver.specs.Settling.{pass}
@@ -18,7 +19,7 @@ pub pass_once-requires-clause-round : goal.pass_once-requires-clause-round
 pass_once-requires-clause-round g c =
     let t = one_left _ _ _ _ _ _ _ _ _ _ _ c.loop-pass-test.true c.loop-pass.invariant.known in
     let a = can_pass _ _ _ _ _ _ _ _ _ _ t in
-    subst (λ d. top_count d (g.S.Stage.state c.loop-pass.stage).run < 1000000) (sym t.same_config) a
+    subst (λ d. top_count d (g.S.Stage.state c.loop-pass.stage).run < LAST_COUNT) (sym t.same_config) a
 
 pub pass_once-requires-clause-room : goal.pass_once-requires-clause-room
 pass_once-requires-clause-room g c =

@@ -2,6 +2,7 @@ use Rattle.std.proofs.Common.{◌+◌, ◌*◌, ◌<◌, ◌≤◌, ⊎_elim, re
 use Rattle.std.proofs.lemmas.Bool.{leb-true}
 use Rattle.std.proofs.lemmas.Option.{slice_get_read}
 use Rattle.gp_run.specs.Runs.{newest_first}
+use Rattle.gp_stage.specs.declared.settling.TheConstants.{MOST_ROUNDS}
 use Rattle.gp_stage.specs.Held.{HeldCells, whole_list}
 use Rattle.gp_stage.specs.Bounds.{CanSettle}
 use Rattle.gp_stage.proofs.Places.{within}
@@ -25,11 +26,11 @@ returns-then-self-messages-le-MOST_ROUNDS g c room =
     })
     (c.len-messages.ensures ∙ i.kinds.ok.0) c.seen-entries.ensures
     (elim c.if-entries-le-MOST_ENTRIES.branch [
-      | then-entries-le-MOST_ENTRIES w ↦ leb-true (i.top + c.len-messages.result) 999999 (sym w.value-is ∙ c.if-self-messages-le-MOST_ROUNDS.true)
+      | then-entries-le-MOST_ENTRIES w ↦ leb-true (i.top + c.len-messages.result) MOST_ROUNDS (sym w.value-is ∙ c.if-self-messages-le-MOST_ROUNDS.true)
       | else-entries-le-MOST_ENTRIES w ↦ let t = sym w.value-is ∙ c.if-self-messages-le-MOST_ROUNDS.true in absurd (elim c.if-messages-le-MOST_ROUNDS.branch [
         | then-messages-le-MOST_ROUNDS u ↦ let few = leb-true c.seen-entries.result 2147483648 (sym u.t-18-is ∙ t) in let l = u.if-messages-le-MOST_ROUNDS.true in
-            ⊎_elim (λ (x : (c.len-messages.result ≤ 999999) × (2147483648 < c.seen-entries.result)). omega (arith, few, x)) (λ (x : 999999 < c.len-messages.result). omega (arith, l, x)) w.if-entries-le-MOST_ENTRIES.either
-        | else-messages-le-MOST_ROUNDS u ↦ let l = leb-true c.len-messages.result 999999 (sym u.t-18-is ∙ t) in let f = u.if-messages-le-MOST_ROUNDS.false in omega (arith, l, f)
+            ⊎_elim (λ (x : (c.len-messages.result ≤ MOST_ROUNDS) × (2147483648 < c.seen-entries.result)). omega (arith, few, x)) (λ (x : MOST_ROUNDS < c.len-messages.result). omega (arith, l, x)) w.if-entries-le-MOST_ENTRIES.either
+        | else-messages-le-MOST_ROUNDS u ↦ let l = leb-true c.len-messages.result MOST_ROUNDS (sym u.t-18-is ∙ t) in let f = u.if-messages-le-MOST_ROUNDS.false in omega (arith, l, f)
       ])
     ])
     (leb-true (c.seen-entries.result + 71 * c.len-messages.result + 50) 2147483648 room))
