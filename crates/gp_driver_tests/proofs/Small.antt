@@ -1,6 +1,7 @@
 -- Small worlds, and few drafts, take few events.
-use Rattle.std.proofs.Common.{◌≡◌, ℕ, ◌+◌, ◌≤◌, ◌^◌, List, length, ap, arith}
+use Rattle.std.proofs.Common.{◌≡◌, ℕ, ◌+◌, ◌<◌, ◌≤◌, ◌^◌, List, length, ap, arith}
 use Rattle.gp_command.specs.declared.draft.Draft.{Draft}
+use Rattle.gp_round.specs.declared.config.TheConstants.{LAST_COUNT}
 use Rattle.gp_round.specs.Counts.{Counts}
 use Rattle.gp_round.specs.Ranges.{AreInRange}
 use Rattle.gp_msg.specs.declared.record.Record.{Record}
@@ -16,7 +17,7 @@ use Rattle.gp_driver.proofs.Worlds.{as_many}
 use Rattle.gp_driver.proofs.SettleCode.{range_of, brings}
 use Rattle.gp_driver.proofs.DrivingCode.{drives}
 
-pub few_rounds : (w : WorldState) (m t : ℕ) → m ≡ length (messages (entries_of w)) → m ≤ 100000 → t ≡ top_count w.config (entries_of w) → t ≤ 100000 → top_count w.config (entries_of w) + checkpoints (messages (entries_of w)) ≤ 999999
+pub few_rounds : (w : WorldState) (m t : ℕ) → m ≡ length (messages (entries_of w)) → m ≤ 100000 → t ≡ top_count w.config (entries_of w) → t ≤ 100000 → top_count w.config (entries_of w) + checkpoints (messages (entries_of w)) < LAST_COUNT
 few_rounds w m t em lm et lt = let n = checkpoints_among (messages (entries_of w)) in omega (arith, n, em, lm, et, lt)
 
 pub few_settled : (w : WorldState) (d : Counts) (rs : List Record) (r m t : ℕ) → AreInRange d.acceptors d.coordinators d.learners → d ≡ w.config → Legal w.config (entries_of w)

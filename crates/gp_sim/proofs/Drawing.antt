@@ -4,6 +4,7 @@ use Rattle.std.specs.Prelude.{IsNone, IfSome}
 use Rattle.std.specs.Option.{option_to_list}
 use Rattle.std.proofs.lemmas.Bool.{lt-ltb}
 use Rattle.gp_round.specs.Ranges.{AreInRange}
+use Rattle.gp_round.specs.declared.config.TheConstants.{LAST_COUNT}
 use Rattle.gp_msg.specs.declared.node.Node.{Node}
 use Rattle.gp_msg.specs.declared.node.Node.TheVariants.{Proposer, Coordinator, Acceptor, Learner}
 use Rattle.gp_msg.specs.declared.event.Event.{Event}
@@ -171,14 +172,14 @@ simulates seed commands few =
 
 -- what settling needs of the drawn run
 module _ (seed commands : ℕ) (config : Counts) (es : List Entry) where
-  pub rounds_left : commands ≤ 256 → config ≡ sim_config → es ≡ drawn seed commands → top_count config es + checkpoints (messages es) ≤ 999999
+  pub rounds_left : commands ≤ 256 → config ≡ sim_config → es ≡ drawn seed commands → top_count config es + checkpoints (messages es) < LAST_COUNT
   rounds_left few own is =
       let h = simulates seed commands few in
       let top = h.rounds in
       let short = h.short in
       let m = messages_few (drawn seed commands) h.legal in
       let some = checkpoints_among (messages (drawn seed commands)) in
-      let P : Counts → List Entry → Type 0 = λ c run. top_count c run + checkpoints (messages run) ≤ 999999 in
+      let P : Counts → List Entry → Type 0 = λ c run. top_count c run + checkpoints (messages run) < LAST_COUNT in
       subst (λ (c : Counts). P c es) (sym own) (subst (P sim_config) (sym is) (omega (arith, top, some, m, short, few)))
 
   pub settled_short : commands ≤ 256 → config ≡ sim_config → es ≡ drawn seed commands → length (settle config es) ≤ 2147483648
