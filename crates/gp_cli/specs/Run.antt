@@ -11,6 +11,7 @@ use Rattle.gp_shelf.specs.Making.{SomeRose}
 use Rattle.gp_ending.specs.declared.ends.RunEnd.{RunEnd}
 use Rattle.gp_ending.specs.declared.ends.RunEnd.TheVariants as end
 use Rattle.gp_cluster.specs.declared.policy.RoundPolicy.{RoundPolicy}
+use Rattle.gp_onlookers.specs.declared.looks.Look.{Look}
 use Rattle.gp_retelling.specs.Texts.{run_text, IsViewsText}
 use Rattle.gp_cluster.specs.Runs.{IsRunOf, HasLearnedAll, IsQuietOrSettled, EndCause, HoldParts}
 use Rattle.gp_cli.specs.declared.runs.TheConstants.{MOST_READ}
@@ -41,7 +42,7 @@ pub record HasLearned (policy : RoundPolicy) (limit : ℕ) (old new : List Devic
 -- what is printed of a run in which all was learned: its trace and report, followed, if readers viewed a key, by the order in which a replica of learner 0 ran what that learner learned, and by what each reader saw of the key along that order
 abbrev pub IsLearnedText : Option (List ℕ) → Counts → List Record → List ℕ → Type 0
 IsLearnedText None config list text = text ≡ run_text config list
-IsLearnedText (Some key) config list text = IsViewsText key config list text
+IsLearnedText (Some key) config list text = (first : List Look) × (second : List Look) × IsViewsText key config list first second text
 
 -- what is printed of a run that ended in this way
 abbrev pub IsEndText : Option (List ℕ) → RunEnd → Counts → List Record → List ℕ → Type 0

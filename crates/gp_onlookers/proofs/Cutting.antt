@@ -105,19 +105,22 @@ module _ (key : List ℕ) (order seen : List Command) (more : Extends seen order
         let same : seen ≡ order = no_more seen order more (omega (arith, less, end_seen)) in
         ap (λ (c : Bool). cond c end (look_after key seen)) t ∙ ap (look_after key) same
 
-  cut_looks : (before looks cut : List Look) → HasLooked key seen looks → looks ≡ before ++ look_after key seen ∷ [] → cut ≡ map (cut_at end) looks → AreLooks key order cut
-  cut_looks before looks cut h last is = subst (AreLooks key order) (sym is) (record {
+  cut_looks : (before looks cut : List Look) → HasLooked key seen looks → looks ≡ before ++ look_after key seen ∷ [] → cut ≡ map (cut_at end) looks → AreLooks key order before cut
+  cut_looks before looks cut h last is = subst (AreLooks key order before) (sym is) (record {
     along = record {
       each = λ k d low.
           let within : k < length looks = omega (arith, low, length-map looks (cut_at end)) in
           subst (IsLook key order) (sym (get_or-map (cut_at end) looks k d d within)) (cut_is (get_or looks k d) (h.each k d within));
       ascending = cut_ascending end looks h.ascending;
     };
-    last = (map (cut_at end) before, ap (map (cut_at end)) last ∙ (map-append (cut_at end) before (look_after key seen ∷ []) ∙ ap (λ (e : Look). map (cut_at end) before ++ e ∷ []) cut_last));
+    all = ap (map (cut_at end)) last
+        ∙ (map-append (cut_at end) before (look_after key seen ∷ [])
+        ∙ (ap (λ (e : Look). map (cut_at end) before ++ e ∷ []) cut_last
+        ∙ ap (λ (e : Look). map (cut_at e) before ++ look_after key order ∷ []) is_end));
   })
 
 -- the same of a watcher that was told of the order
-pub watched_cut : (key : List ℕ) (order : List Command) (now : WatcherView) (before looks cut : List Look) (end : Look) → now.key ≡ key → HasLooked now.key now.seen now.looks → Extends now.seen order → end ≡ look_after key order → now.looks ≡ before ++ look_after now.key now.seen ∷ [] → looks ≡ now.looks → cut ≡ map (cut_at end) looks → AreLooks key order cut
+pub watched_cut : (key : List ℕ) (order : List Command) (now : WatcherView) (before looks cut : List Look) (end : Look) → now.key ≡ key → HasLooked now.key now.seen now.looks → Extends now.seen order → end ≡ look_after key order → now.looks ≡ before ++ look_after now.key now.seen ∷ [] → looks ≡ now.looks → cut ≡ map (cut_at end) looks → AreLooks key order before cut
 watched_cut key order now before looks cut end e has more is_end last same is =
     let here : HasLooked key now.seen now.looks = subst (λ (k : List ℕ). HasLooked k now.seen now.looks) e has in
     let at_end : now.looks ≡ before ++ look_after key now.seen ∷ [] = last ∙ ap (λ (k : List ℕ). before ++ look_after k now.seen ∷ []) e in

@@ -67,3 +67,7 @@ module _ (key : List ℕ) where
 
   pub looks_kept : (before after : List Command) (looks now : List Look) (look : Look) → HasLooked key before looks → Extends after before → look ≡ look_after key after → now ≡ looks ++ look ∷ [] → HasLooked key after now
   looks_kept before after looks now look h p same is = subst (HasLooked key after) (sym (is ∙ ap (λ (l : Look). looks ++ l ∷ []) same)) (looks_more before after looks h p)
+
+  -- a look that could not be kept
+  pub looks_left : (before after : List Command) (looks now : List Look) → HasLooked key before looks → Extends after before → now ≡ looks → HasLooked key after now
+  looks_left before after looks now h p is = subst (HasLooked key after) (sym is) (looks_stay before after looks h p)

@@ -1,22 +1,24 @@
 -- What contracts see of publishers and watchers.
-use Rattle.std.specs.Prelude.{◌≡◌, ℕ, List}
+use Rattle.std.specs.Prelude.{◌≡◌, ℕ, Bool, false, List}
 use Rattle.logbook.specs.Pages.{Book}
 use Rattle.gp_command.specs.declared.command.Command.{Command}
 use Rattle.gp_phase.specs.Beside.{Topics}
 use Rattle.gp_onlookers.specs.declared.looks.Look.{Look}
 
--- the feed of a publisher, and the commands that its replica ran
+-- the feed of a publisher, the commands that its replica ran, and whether it was refused memory
 pub record PublisherView : Type 0 where
   pub feed : Book
   pub ran : List Command
+  pub failed : Bool
 
--- the key, the feed of the reader, the commands that it has seen, those that it was notified of, and the looks
+-- the key, the feed of the reader, the commands that it has seen, those that it was notified of, the looks, and whether one more could not be kept
 pub record WatcherView : Type 0 where
   pub key : List ℕ
   pub feed : Book
   pub seen : List Command
   pub told : List Command
   pub looks : List Look
+  pub failed : Bool
 
 -- what a watcher is about: the key, and the feed of its reader
 pub record WatcherTopic : Type 0 where
@@ -30,3 +32,9 @@ topic_of watcher = record { key = watcher.key; feed = watcher.feed }
 pub record AreWatching (key : List ℕ) (topics : Topics Book WatcherTopic) : Type 0 where
   pub first : topics.first ≡ record { key = key; feed = topics.main }
   pub second : topics.second ≡ record { key = key; feed = topics.main }
+
+-- the publisher was never refused memory, and each look was kept
+pub record HasFailedNowhere (publisher : PublisherView) (first second : WatcherView) : Type 0 where
+  pub published : publisher.failed ≡ false
+  pub first_kept : first.failed ≡ false
+  pub second_kept : second.failed ≡ false

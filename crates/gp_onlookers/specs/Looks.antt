@@ -25,20 +25,24 @@ pub record HasLooked (key : List ℕ) (order : List Command) (looks : List Look)
   pub each : All (IsLook key order) looks
   pub ascending : IsNonDecreasingBy (λ (look : Look). look.seen) looks
 
--- the same, and the last has seen the whole order
-pub record AreLooks (key : List ℕ) (order : List Command) (looks : List Look) : Type 0 where
-  pub along : HasLooked key order looks
-  pub last : (before : List Look) × (looks ≡ before ++ look_after key order ∷ [])
-
 -- the first look replaces one that has seen more
 abbrev pub cut_at : Look → Look → Look
 cut_at end look = cond (nat_lt end.seen look.seen) end look
 
--- the commands of the history were run in one order, none of them twice, and both readers looked along that order
-pub record AreSeen (key : List ℕ) (h : History) (looks : Looks) : Type 0 where
+-- these looks, cut at the end of the order, and a last one that has seen the whole order
+abbrev pub looks_to_end : List ℕ → List Command → List Look → List Look
+looks_to_end key order before = map (cut_at (look_after key order)) before ++ look_after key order ∷ []
+
+-- all looks of a reader, which are along the order: those before, and the last one
+pub record AreLooks (key : List ℕ) (order : List Command) (before looks : List Look) : Type 0 where
+  pub along : HasLooked key order looks
+  pub all : looks ≡ looks_to_end key order before
+
+-- the commands of the history were run in one order, none of them twice, and both readers, with these looks before, looked along that order
+pub record AreSeen (key : List ℕ) (h : History) (first_before second_before : List Look) (looks : Looks) : Type 0 where
   pub order : List Command
   pub history : history_of order ≡ h
   pub distinct : no_repeat order ≡ true
   pub identities : looks.order.items ≡ map (λ (c : Command). c.id) order
-  pub first : AreLooks key order looks.first.items
-  pub second : AreLooks key order looks.second.items
+  pub first : AreLooks key order first_before looks.first.items
+  pub second : AreLooks key order second_before looks.second.items

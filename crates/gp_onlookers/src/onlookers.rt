@@ -1,9 +1,9 @@
 //! A publisher, and two watchers of one key.
-ghost use Rattle.std.specs.Prelude.{◌≡◌, IfOk, IsTrue};
+ghost use Rattle.std.specs.Prelude.{◌≡◌, [], false, IfOk, OnOk, IsTrue};
 ghost use Rattle.gp_history.specs.Sequence.{history_of, no_repeat};
 ghost use Rattle.gp_phase.specs.Beside.{topics};
 ghost use Rattle.gp_views.specs.Lists.{Extends};
-ghost use Rattle.gp_onlookers.specs.Ends.{AreWatching, topic_of};
+ghost use Rattle.gp_onlookers.specs.Ends.{AreWatching, HasFailedNowhere, topic_of};
 ghost use Rattle.gp_onlookers.specs.Looks.{look_after, AreSeen};
 
 use crate::catching::{catch_up, ids_of};
@@ -24,9 +24,11 @@ use std::sync::Wait;
 /// `last_looks` or `close`.
 pub type Onlookers = Trio<Publisher, Watcher>;
 
-/// New onlookers at the key.
+/// New onlookers at the key, which have not looked yet.
 pub fn watch<R: Wait>(rt: &R, alloc: Global, key: Key) -> Result<Onlookers, NoMemory>
-    ensures { IfOk result (λ o. AreWatching key (topics (λ p. p.feed) topic_of o)) }
+    ensures watching { IfOk result (λ o. AreWatching key (topics (λ p. p.feed) topic_of o)) }
+    ensures looks { IfOk result (λ o. (o.first.looks ≡ []) × (o.second.looks ≡ [])) }
+    ensures whole { IfOk result (λ o. HasFailedNowhere o.main o.first o.second) }
 {
     let replica = Replica::new(alloc)?;
     let (feed, mut readers) = Feed::new(rt, alloc, 2)?;
@@ -70,7 +72,9 @@ pub fn last_looks<R: Wait>(
     learned: &History,
 ) -> Result<Looks, NoMemory>
     requires { AreWatching key (topics (λ p. p.feed) topic_of onlookers) }
-    ensures { IfOk result (λ looks. AreSeen key (history_of learned.now) looks) }
+    ensures seen { IfOk result (λ looks.
+        AreSeen key (history_of learned.now) onlookers.first.looks onlookers.second.looks looks) }
+    ensures whole { OnOk result (HasFailedNowhere onlookers.main onlookers.first onlookers.second) }
 {
     let Trio {
         main: Publisher {
@@ -111,7 +115,9 @@ fn looks_of_both<R: Wait>(
     requires list { Extends replica.old feed.old.list }
     requires feed { (watchers.0.feed ≡ feed.old.feed) × (watchers.1.feed ≡ feed.old.feed) }
     requires key { (watchers.0.key ≡ key) × (watchers.1.key ≡ key) }
-    ensures { IfOk result (λ looks. AreSeen key (history_of learned.now) looks) }
+    ensures seen { IfOk result (λ looks.
+        AreSeen key (history_of learned.now) watchers.0.looks watchers.1.looks looks) }
+    ensures whole { OnOk result ((watchers.0.failed ≡ false) × (watchers.1.failed ≡ false)) }
 {
     let (first, second) = watchers;
     catch_up(replica, learned)?;

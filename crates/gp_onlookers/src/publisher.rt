@@ -31,7 +31,7 @@ impl Model for Publisher {
 
     ghost Value = { PublisherView };
 
-    ghost view = { λ p. record { feed = p.feed.feed; ran = p.replica } };
+    ghost view = { λ p. record { feed = p.feed.feed; ran = p.replica; failed = p.failed } };
 
     ghost invariant = { λ p. Extends p.replica p.feed.list };
 }

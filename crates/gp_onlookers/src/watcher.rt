@@ -1,5 +1,5 @@
 //! A reader of one key, which keeps what it saw.
-ghost use Rattle.std.specs.Prelude.{◌≡◌, [], ◌∷◌, ◌++◌, IfOk, OnOk, map};
+ghost use Rattle.std.specs.Prelude.{◌≡◌, [], ◌∷◌, ◌++◌, false, IfOk, OnOk, map};
 ghost use Rattle.gp_views.specs.Lists.{Extends};
 ghost use Rattle.gp_onlookers.specs.Looks.{look_after, cut_at, AreLooks};
 ghost use Rattle.gp_onlookers.specs.Steps.{HasLookedOnce};
@@ -39,6 +39,7 @@ impl Model for Watcher {
       seen = w.reader.seen;
       told = w.reader.told;
       looks = w.looks.items;
+      failed = w.failed;
     } };
 
     ghost invariant = { λ w. HasLooked w.key w.reader.seen w.looks.items };
@@ -47,7 +48,7 @@ impl Model for Watcher {
 impl Watcher {
     /// A watcher that has not looked yet.
     pub fn new(alloc: Global, reader: Reader, key: Key) -> Watcher
-        ensures { result ≡ record { key = key; feed = reader.feed; seen = reader.seen; told = reader.told; looks = [] } }
+        ensures { result ≡ record { key = key; feed = reader.feed; seen = reader.seen; told = reader.told; looks = []; failed = false } }
     {
         Watcher {
             reader,
@@ -66,14 +67,19 @@ impl Watcher {
 
     /// Reads the key once and keeps what it saw. The reader has then seen all that it was notified
     /// of, and no fewer commands than at any look before. Returns `NoMemory` if the look cannot be
-    /// kept.
+    /// kept; `last_looks` then returns it too.
     pub fn look<R: Wait>(&mut self, rt: &R) -> Result<(), NoMemory>
         ensures { HasLookedOnce self.old result self.new }
     {
         let value = self.reader.read(rt, self.key);
         let seen = self.reader.seen();
-        self.looks.push(Look { seen, value })?;
-        Ok(())
+        match self.looks.push(Look { seen, value }) {
+            Ok(()) => Ok(()),
+            Err(_) => {
+                self.failed = true;
+                Err(NoMemory)
+            }
+        }
     }
 
     // Has the reader learn the note, and looks.
@@ -83,6 +89,7 @@ impl Watcher {
         ensures key { self.new.key ≡ self.old.key }
         ensures as_told { Extends self.new.seen told.list }
         ensures kept { OnOk result (self.new.looks ≡ self.old.looks ++ look_after self.new.key self.new.seen ∷ []) }
+        ensures still { OnOk result (self.new.failed ≡ self.old.failed) }
     {
         self.reader.learn(told);
         self.look(rt)
@@ -99,7 +106,8 @@ impl Watcher {
     ) -> Result<Vec<Look>, NoMemory>
         requires feed { told.feed ≡ self.feed }
         requires end { end ≡ look_after self.key told.list }
-        ensures { IfOk result (λ looks. AreLooks self.key told.list looks.items) }
+        ensures looks { IfOk result (λ looks. AreLooks self.key told.list self.looks looks.items) }
+        ensures whole { OnOk result (self.failed ≡ false) }
     {
         self.look_as_told(rt, told)?;
         let Watcher {
@@ -129,9 +137,7 @@ impl<D: Disk> Beside<Wire<PaxosRules>, Cell<D>> for Watcher {
     }
 
     fn act<W: Wait>(&mut self, rt: &W) {
-        if self.look(rt).is_err() {
-            self.failed = true;
-        }
+        let _kept = self.look(rt);
     }
 }
 

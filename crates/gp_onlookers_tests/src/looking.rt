@@ -99,6 +99,32 @@ fn the_last_look_is_at_the_end_of_the_order(rt: HostRuntime) -> Result<(), Fail>
     Ok(())
 }
 
+// Only the first looks, twice.
+fn look_twice<R: Wait>(rt: &R, onlookers: &mut Onlookers) -> bool
+    ensures { topics (λ p. p.feed) topic_of onlookers.new ≡ topics (λ p. p.feed) topic_of onlookers.old }
+{
+    let once = onlookers.first.look(rt);
+    let twice = onlookers.first.look(rt);
+    once.is_ok() && twice.is_ok()
+}
+
+#[test]
+fn each_reader_has_its_own_looks(rt: HostRuntime) -> Result<(), Fail> {
+    let key = Key::new(A)?;
+    let learned = history(rt.alloc(), &[(1, A, 5)])?;
+    let mut onlookers = watch(&rt, rt.alloc(), key)?;
+    let looked = look_twice(&rt, &mut onlookers);
+    let looks = last_looks(&rt, rt.alloc(), key, onlookers, &learned)?;
+    let last = Look {
+        seen: 1,
+        value: Some(5),
+    };
+    assert!(rt; looked);
+    assert!(rt; *looks.first.as_slice() == *[NOTHING_SEEN, NOTHING_SEEN, last].as_slice());
+    assert!(rt; *looks.second.as_slice() == *[last].as_slice());
+    Ok(())
+}
+
 #[test]
 fn two_commands_of_one_identity_are_refused(rt: HostRuntime) -> Result<(), Fail> {
     let learned = history(rt.alloc(), &[(1, A, 5), (2, B, 6), (2, B, 7)])?;

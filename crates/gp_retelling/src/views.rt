@@ -1,10 +1,10 @@
 //! The text of `views`: what `run` prints, followed by what readers of a key saw while nodes ran.
-ghost use Rattle.std.specs.Prelude.{IfOk};
+ghost use Rattle.std.specs.Prelude.{IfOk, OnOk};
 ghost use Rattle.gp_run.specs.Learned.{learned_at};
 ghost use Rattle.gp_run.specs.Legal.{Legal};
 ghost use Rattle.gp_run.specs.Runs.{newest_first};
 ghost use Rattle.gp_phase.specs.Beside.{topics};
-ghost use Rattle.gp_onlookers.specs.Ends.{AreWatching, topic_of};
+ghost use Rattle.gp_onlookers.specs.Ends.{AreWatching, HasFailedNowhere, topic_of};
 ghost use Rattle.gp_onlookers.specs.Looks.{AreSeen};
 ghost use Rattle.gp_retelling.specs.Texts.{IsViewsText};
 
@@ -28,7 +28,9 @@ fn looks_along<W: Wait>(
 ) -> Result<Looks, NoMemory>
     requires legal { Legal config.now (newest_first records.now) }
     requires watching { AreWatching key (topics (λ p. p.feed) topic_of onlookers) }
-    ensures { IfOk result (λ looks. AreSeen key (learned_at config.now 0 (newest_first records.now)) looks) }
+    ensures seen { IfOk result (λ looks. AreSeen key (learned_at config.now 0 (newest_first records.now))
+        onlookers.first.looks onlookers.second.looks looks) }
+    ensures whole { OnOk result (HasFailedNowhere onlookers.main onlookers.first onlookers.second) }
 {
     let _learners = config.learners();
     match world_of(alloc, *config, records) {
@@ -41,9 +43,9 @@ fn looks_along<W: Wait>(
 }
 
 /// What `run` prints for these records, followed by the order in which a replica ran what learner 0
-/// learned, and by what each of the onlookers saw of the key, the last time at the end of that
-/// order. The records are a legal run of the configuration. The onlookers end, also if memory runs
-/// out.
+/// learned, and by what each of the onlookers saw of the key at each look, the last time at the end
+/// of that order. The records are a legal run of the configuration. The onlookers end, also after an
+/// error. Returns `NoMemory` if memory runs out, or if a publish or a look was refused before.
 pub fn views_text<W: Wait>(
     rt: &W,
     alloc: Global,
@@ -54,7 +56,9 @@ pub fn views_text<W: Wait>(
 ) -> Result<Vec<u8>, NoMemory>
     requires legal { Legal config.now (newest_first records.now) }
     requires watching { AreWatching key (topics (λ p. p.feed) topic_of onlookers) }
-    ensures { IfOk result (λ text. IsViewsText key config.now records.now text.items) }
+    ensures text { IfOk result (λ text.
+        IsViewsText key config.now records.now onlookers.first.looks onlookers.second.looks text.items) }
+    ensures whole { OnOk result (HasFailedNowhere onlookers.main onlookers.first onlookers.second) }
 {
     let looks = looks_along(rt, alloc, config, key, records, onlookers)?;
     let mut text = run_text(alloc, config, records)?;

@@ -11,6 +11,6 @@ returns-in-Ok-clause-told g c =
       why = end.Learned;
       as_ended = inl (sym c.in-Learned.is);
       text = c.in-Ok.text.items;
-      says = c.in-Ok.ensures;
+      says = (c.args.onlookers.first.looks, c.args.onlookers.second.looks, c.in-Ok.ensures.text);
       told = subst (λ (text : List ℕ). Told before now text 0 5 c.tell.result) c.deref.ensures.value c.tell.ensures.told;
     }

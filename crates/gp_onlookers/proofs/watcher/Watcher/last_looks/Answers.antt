@@ -4,8 +4,8 @@ use Rattle.gp_onlookers.specs.Looks.{HasLooked}
 use Rattle.gp_onlookers.proofs.Cutting.{watched_cut}
 use Rattle.gp_onlookers.proofs.watcher.Watcher.last_looks.Goals as goal
 
-pub returns : goal.returns
-returns g c =
+pub returns-clause-looks : goal.returns-clause-looks
+returns-clause-looks g c =
     let looked = c.look_as_told.ensures in
     let now : WatcherView = c.look_as_told.new.self in
     let has : HasLooked now.key now.seen now.looks = subst (λ (w : WatcherView). HasLooked w.key w.seen w.looks) c.self.view_is c.self.invariant in
