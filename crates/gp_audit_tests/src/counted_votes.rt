@@ -49,12 +49,19 @@ fn is_vote(
     }
 }
 
-// Whether learner 0 took such a vote after its last crash, up to a record.
-fn has_voted(world: &World, voter: u32, epoch: u32, round: Round, id: CommandId, at: u64) -> bool {
+// Whether learner 0 took such a vote after its last crash, in the first `count` records.
+fn has_voted(
+    world: &World,
+    voter: u32,
+    epoch: u32,
+    round: Round,
+    id: CommandId,
+    count: u64,
+) -> bool {
     let mut voted = false;
     let mut place = 0u64;
     for record in world.records() {
-        if place <= at {
+        if place < count {
             match &record.event {
                 Event::Fall { node, .. } if *node == L0 => voted = false,
                 event => {
@@ -69,21 +76,27 @@ fn has_voted(world: &World, voter: u32, epoch: u32, round: Round, id: CommandId,
     voted
 }
 
-// Whether each member of the quorum voted for the command, and they are more than half.
+// Whether each member of the quorum voted for the command, they are more than half, and the record
+// of the certificate has the vote of the last of them.
 fn is_counted(world: &World, proof: &Proof) -> bool {
     let Cause::Quorum { epoch, round, mask } = proof.cause else {
         return false;
     };
+    let through = proof.at.saturating_add(1);
     let mut members = 0u8;
+    let mut before = 0u8;
     for voter in 0..3 {
         if is_member(mask, voter) {
-            if !has_voted(world, voter, epoch, round, proof.id, proof.at) {
+            if !has_voted(world, voter, epoch, round, proof.id, through) {
                 return false;
             }
             members = members.saturating_add(1);
+            if has_voted(world, voter, epoch, round, proof.id, proof.at) {
+                before = before.saturating_add(1);
+            }
         }
     }
-    members == 2
+    members == 2 && before == 1
 }
 
 // Whether each certificate of learner 0 counts, and there are this many.

@@ -7,3 +7,5 @@ mod certificates;
 mod counted_votes;
 #[cfg(test)]
 mod scene;
+#[cfg(test)]
+mod summaries;

@@ -1,5 +1,5 @@
 //! Nodes with one disk that fails at one call.
-use crate::nodes::{EIGHT, count, parts_of};
+use crate::nodes::{EIGHT, count, is_posted, parts_of};
 use crate::stage::{disks_with, served_with};
 use std::alloc::Global;
 use std::sync::Wait;
@@ -40,6 +40,21 @@ fn one_failing_call_ends_the_run_or_lets_the_acceptor_fall_once(
             assert!(rt; status == 0);
             assert!(rt; falls == 1 || call >= SURE && falls == 0);
         }
+    }
+    Ok(())
+}
+
+// The node of the disk crashes, and its disk fails again when it recovers.
+#[test]
+fn a_recovery_that_fails_ends_the_run(rt: HostRuntime) -> Result<(), Fail> {
+    let alloc = rt.alloc();
+    for number in [0u64, 7] {
+        let disks = disks_with(alloc, number, b"", &[MAKING, MAKING + 1])?;
+        let finished = served_with(&rt, alloc, &["run"], EIGHT, disks)?;
+        assert!(rt; finished.ran.status == 6);
+        assert!(rt; finished.sink.written() == b"disk fault\n".as_slice());
+        assert!(rt; is_posted(&finished.ran));
+        assert!(rt; !finished.ran.trail.records().is_empty());
     }
     Ok(())
 }

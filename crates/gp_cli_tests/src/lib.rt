@@ -16,6 +16,8 @@ mod driven_runs;
 #[cfg(test)]
 mod failing_disks;
 #[cfg(test)]
+mod files;
+#[cfg(test)]
 mod logs;
 #[cfg(test)]
 mod many_runs;

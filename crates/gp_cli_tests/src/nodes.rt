@@ -71,8 +71,8 @@ pub fn shows(alloc: Global, report: &[u8], learner: &[u8], lines: &[&[u8]]) -> R
     Ok(true)
 }
 
-// Whether nodes in threads posted the records.
-fn is_posted(ran: &Ran<MemDisk>) -> bool {
+/// Whether nodes in threads posted the records.
+pub fn is_posted(ran: &Ran<MemDisk>) -> bool {
     match ran.trail {
         Trail::Posted(_) => true,
         Trail::Folded(_) => false,
@@ -145,6 +145,13 @@ fn a_clash_is_answered_by_a_single_round(rt: HostRuntime) -> Result<(), Fail> {
     let finished = served_with(&rt, alloc, &["run"], TWO, disks)?;
     assert!(rt; finished.ran.status == 0);
     let printed = parts_of(alloc, finished.sink.written())?;
+
+    // the offers come before the first round
+    assert!(rt;
+        printed
+            .trace
+            .starts_with(b"nodes 3 2 1\noffer p0 put a 1\noffer p0 put a 2\n")
+    );
     for line in [
         b"begin c0 1 multi".as_slice(),
         b"begin c0 2 single",

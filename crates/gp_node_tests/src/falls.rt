@@ -1,12 +1,13 @@
 //! A coordinator whose disk fails in its first move, so that it crashes.
 use crate::alone::{Alone, make_alone};
-use gp_edge::Idle;
+use gp_edge::Gate;
 use gp_msg::{Event, Kept, Node};
 use gp_node::{Move, StepFault, finish};
 use gp_round::{Config, Mode, Round};
 use std::alloc::Global;
 use std::process::Abort;
 use std::sync::Wait;
+use std::sync::atomic::{AtomicU64, Ordering};
 use std::test::Fail;
 
 // The round that it begins.
@@ -15,6 +16,36 @@ const ROUND: Round = Round {
     mode: Mode::Single,
     lead: 0,
 };
+
+// The number that the step is given.
+const TURN: u64 = 9;
+
+// A gate that counts its calls and keeps the last number.
+#[derive(Drop)]
+struct Counting {
+    calls: AtomicU64,
+    turn: AtomicU64,
+}
+
+impl Counting {
+    fn new() -> Counting {
+        Counting {
+            calls: AtomicU64::new(0),
+            turn: AtomicU64::new(0),
+        }
+    }
+
+    fn was_called_once(&self) -> bool {
+        self.calls.load(Ordering::SeqCst) == 1 && self.turn.load(Ordering::SeqCst) == TURN
+    }
+}
+
+impl Gate for Counting {
+    fn at(&self, _node: Node, turn: u64) {
+        let _before = self.calls.fetch_add(1, Ordering::SeqCst);
+        self.turn.store(turn, Ordering::SeqCst);
+    }
+}
 
 #[test]
 fn rise_posts_a_fall(rt: HostRuntime) -> Result<(), Fail> {
@@ -35,8 +66,10 @@ fn check_fall<R: Wait + Abort>(
     let config = Config::new(3, 1, 1).or(Err("no configuration"))?;
     let node = Node::Coordinator(0);
     let Alone { wire, mut cell } = make_alone(alloc, config, node, &[failing])?;
-    let outcome = cell.step(rt, &wire, Move::Begin(ROUND), &Idle, 0);
+    let gate = Counting::new();
+    let outcome = cell.step(rt, &wire, Move::Begin(ROUND), &gate, TURN);
     assert!(rt; matches!(outcome, Err(StepFault::Disk)));
+    assert!(rt; gate.was_called_once());
     assert!(rt; cell.is_down());
     let risen = cell.rise(rt, &wire);
     assert!(rt; matches!(risen, Ok(0)));

@@ -6,6 +6,8 @@ mod alone;
 #[cfg(test)]
 mod calls;
 #[cfg(test)]
+mod counter;
+#[cfg(test)]
 mod falls;
 #[cfg(test)]
 mod phases;

@@ -11,9 +11,10 @@ use gp_command::{Draft, NoMemory};
 use gp_edge::{Idle, MemDisk};
 use gp_history::Hist;
 use gp_msg::Node;
-use gp_node::{Cell, Job, Move, Moves, PaxosRules, workers};
+use gp_node::{Cell, Job, JobFault, Move, Moves, PaxosRules, workers};
 use gp_round::{Config, Mode, Round};
 use gp_wire::{Pass, Wire};
+use gp_work::Process;
 use std::alloc::Global;
 use std::sync::Wait;
 use std::test::Fail;
@@ -41,11 +42,33 @@ fn a_learner_learns_what_is_offered(rt: HostRuntime) -> Result<(), Fail> {
     let alloc = rt.alloc();
     let config = Config::new(3, 1, 1).or(Err("no configuration"))?;
     let (wire, passes) = Wire::new(alloc, PaxosRules { config }, &NODES)?;
-    let jobs = jobs_of(alloc, config, &wire, passes)?;
+    let jobs = jobs_of(alloc, config, &wire, passes, &[])?;
     if jobs.is_empty() {
         return Err(Fail::from("no jobs"));
     }
     assert!(rt; learn(&rt, alloc, &wire, jobs));
+    Ok(())
+}
+
+// The first three calls of the coordinator's disk make its log, and the next four append the entry
+// of its first move. The disk fails there, and again when the node recovers.
+#[test]
+fn a_disk_that_fails_twice_ends_the_work_of_its_node(rt: HostRuntime) -> Result<(), Fail> {
+    let alloc = rt.alloc();
+    let config = Config::new(3, 1, 1).or(Err("no configuration"))?;
+    let (wire, passes) = Wire::new(alloc, PaxosRules { config }, &NODES)?;
+    let jobs = jobs_of(alloc, config, &wire, passes, &[3, 4])?;
+    if jobs.is_empty() {
+        return Err(Fail::from("no jobs"));
+    }
+    for job in &workers(&rt, alloc, &wire, jobs, &Idle) {
+        if job.cell.node() == Node::Coordinator(0) {
+            assert!(rt; matches!(job.fault, Some(JobFault::Disk)));
+            assert_eq!(rt; (job.risen, job.turn, job.cursor), (true, 1, 0));
+        } else {
+            assert!(rt; job.fault.is_none());
+        }
+    }
     Ok(())
 }
 
@@ -113,12 +136,13 @@ fn has_learned(jobs: &[Job<MemDisk>]) -> bool {
     false
 }
 
-// A job for each pass, whose node makes its first move.
+// A job for each pass, whose node makes its first move. These calls of the coordinator's disk fail.
 fn jobs_of(
     alloc: Global,
     config: Config,
     wire: &Wire<PaxosRules>,
     passes: Vec<Pass>,
+    failing: &[u64],
 ) -> Result<Vec<Job<MemDisk>>, NoMemory>
     requires rules { wire.now.rules.config ≡ config }
     requires fresh { Each (IsFresh wire.now) passes.items }
@@ -127,7 +151,7 @@ fn jobs_of(
     let mut left = passes;
     let mut jobs = Vec::new(alloc);
     while let Some(pass) = left.pop() {
-        jobs.push(job_of(alloc, config, wire, pass)?)?;
+        jobs.push(job_of(alloc, config, wire, pass, failing)?)?;
     }
     Ok(jobs)
 }
@@ -138,17 +162,23 @@ fn job_of(
     config: Config,
     wire: &Wire<PaxosRules>,
     pass: Pass,
+    failing: &[u64],
 ) -> Result<Job<MemDisk>, NoMemory>
     requires rules { wire.now.rules.config ≡ config }
     requires fresh { IsFresh wire.now pass }
     ensures { IfOk result (IsReady wire.now) }
 {
     let node = pass.node();
+    let failing = if node == Node::Coordinator(0) {
+        failing
+    } else {
+        &[]
+    };
     let first = first_of(alloc, config, node)?;
     if !is_there(config, node) {
         return Err(NoMemory);
     }
-    let log = log_for(alloc, config, node, &[])?;
+    let log = log_for(alloc, config, node, failing)?;
     match Cell::new(alloc, config, node, log, pass) {
         Ok(cell) => Ok(Job {
             cell,

@@ -8,17 +8,18 @@ ghost use Rattle.gp_msg.specs.declared.node.Node.TheVariants.{Proposer};
 ghost use Rattle.gp_node_tests.specs.Phases.{IsFresh, IsNewJob, IsReady};
 
 use crate::alone::log_for;
+use crate::counter::{all_acted, counters};
 use crate::phases::is_there;
-use gp_caller::{FIRST_ROUND, LEADER, RoundCaller};
+use gp_caller::{CALM, FIRST_ROUND, LEADER, RoundCaller};
 use gp_command::{Access, Draft, Key, NoMemory, Touch};
 use gp_edge::{Idle, MemDisk};
 use gp_history::Hist;
 use gp_msg::Node;
 use gp_node::{Cell, Job, Move, Moves, PaxosRules, workers};
-use gp_phase::{Call, PhasesEnd, Trio, call_first, run_phases};
+use gp_phase::{Call, PhasesEnd, call_first, run_phases};
 use gp_round::{Config, Mode, Round};
 use gp_wire::{Pass, Wire};
-use gp_work::Process;
+use gp_work::{JobFault, Process};
 use std::alloc::Global;
 use std::sync::Wait;
 use std::test::Fail;
@@ -77,9 +78,9 @@ static CASES: [Case; 6] = [
     (("", Node::Coordinator(0), &[3, 4]), false, &[FIRST], 0),
 ];
 
-// What work phases led to: whether they ended quietly, whether these were the calls, and how many
-// commands were learned.
-type Outcome = (bool, bool, usize);
+// What work phases led to: whether they ended quietly, whether a node could not recover, whether
+// these were the calls and the work beside each phase was done, and how many commands were learned.
+type Outcome = (bool, bool, bool, usize);
 
 #[test]
 fn a_clash_is_answered_by_a_single_round(rt: HostRuntime) -> Result<(), Fail> {
@@ -87,8 +88,14 @@ fn a_clash_is_answered_by_a_single_round(rt: HostRuntime) -> Result<(), Fail> {
     let config = Config::new(3, 2, 1).or(Err("no configuration"))?;
     for (scene, quiet, calls, learned) in CASES {
         let outcome = run(&rt, alloc, config, &scene, calls)?;
-        assert_eq!(rt; outcome, (quiet, true, learned), "{scene:?}");
+        assert_eq!(rt; outcome, (quiet, !quiet, true, learned), "{scene:?}");
     }
+    Ok(())
+}
+
+#[test]
+fn a_calm_has_two_looks(rt: HostRuntime) -> Result<(), Fail> {
+    assert_eq!(rt; CALM, 2);
     Ok(())
 }
 
@@ -118,7 +125,7 @@ fn run<R: Threads + Wait + Sync>(
     let mut caller = RoundCaller::new(alloc, config)?;
     call_first(rt, &wire, &mut jobs, at, &mut caller)?;
     let others = keys.len() as u64;
-    let mut beside = Trio::NOTHING;
+    let mut beside = counters();
     let phases = run_phases(
         rt,
         alloc,
@@ -132,12 +139,18 @@ fn run<R: Threads + Wait + Sync>(
     );
     Ok((
         phases.end == PhasesEnd::Quiet,
-        caller.calls() == calls,
+        phases.jobs.iter().any(is_broken),
+        caller.calls() == calls && all_acted(&beside),
         learned(&phases.jobs),
     ))
 }
 
-// Posts the offers. Returns whether all were posted.
+// Whether the disk of a node failed again when the node recovered.
+fn is_broken(job: &Job<MemDisk>) -> bool {
+    job.risen && matches!(job.fault, Some(JobFault::Disk))
+}
+
+// Posts the offers. Returns whether all were posted, each in a step of its own.
 fn offer<R: Threads + Wait + Sync>(
     rt: &R,
     alloc: Global,
@@ -167,7 +180,11 @@ fn offer<R: Threads + Wait + Sync>(
         fault: None,
     })?;
     let jobs = workers(rt, alloc, wire, jobs, &Idle);
-    Ok(jobs.iter().all(|job| job.fault.is_none()))
+    let steps = keys.len() as u64;
+    Ok(
+        jobs.iter()
+            .all(|job| job.fault.is_none() && job.turn == steps),
+    )
 }
 
 // An offer for each key, which writes it.

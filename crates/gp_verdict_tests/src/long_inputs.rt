@@ -1,5 +1,5 @@
 //! Inputs as long as they may be, and inputs that are longer.
-use crate::scenes::{NOTHING_REPORT, refuses, upholds};
+use crate::scenes::{NOTHING_REPORT, records_before, refuses, upholds};
 use gp_text::MOST_BYTES;
 use gp_verdict::{AuditReason, Reason};
 use std::alloc::Global;
@@ -86,6 +86,24 @@ fn what_is_refused_before_it_stands(rt: HostRuntime) -> Result<(), Fail> {
     // it is too long itself
     let longer = room.saturating_add(1);
     assert!(rt; refuses(alloc, &after_comment(alloc, longer, &lines)?, 8, TOO_LONG));
+    Ok(())
+}
+
+#[test]
+fn a_line_that_is_too_long_comes_with_the_records_before_it(rt: HostRuntime) -> Result<(), Fail> {
+    const ONE_OFFER: &[u8] = b"\
+nodes 3 1 1
+offer p0 get a
+--
+l0 learned 0: -
+l0 state: -
+l0 replies: -
+events 1 messages 1
+#";
+    let alloc = rt.alloc();
+    let input = filled(alloc, ONE_OFFER, MOST_BYTES + 1, b"")?;
+    assert!(rt; refuses(alloc, &input, 8, TOO_LONG));
+    assert!(rt; records_before(alloc, &input) == Some(1));
     Ok(())
 }
 

@@ -1,5 +1,7 @@
 //! Inputs that are refused at a line.
-use crate::scenes::{NOTHING, NOTHING_REPORT, ONE_PUT, ONE_PUT_REPORT, printed, refuses};
+use crate::scenes::{
+    NOTHING, NOTHING_REPORT, ONE_PUT, ONE_PUT_REPORT, printed, records_before, refuses,
+};
 use gp_verdict::{AuditReason, Reason};
 use std::alloc::Global;
 use std::test::Fail;
@@ -182,5 +184,27 @@ fn a_report_is_that_of_its_trace(rt: HostRuntime) -> Result<(), Fail> {
     let alloc = rt.alloc();
     let input = printed(alloc, ONE_PUT, NOTHING_REPORT)?;
     assert!(rt; refuses(alloc, &input, 14, AuditReason::WrongReport));
+    Ok(())
+}
+
+// An input, and how many records come with its first refused line.
+const RECORDS: [(&[u8], usize); 5] = [
+    // no configuration
+    (b"", 0),
+    // the second event is refused
+    (b"nodes 3 1 1\noffer p0 get a\ntake a0 1\n", 1),
+    // no report
+    (ONE_PUT, 11),
+    // a line that is not `--`
+    (b"nodes 3 1 1\noffer p0 get a\nshow l0\n", 1),
+    // a report that is wrong
+    (b"nodes 3 1 1\noffer p0 get a\n--\nx\n", 1),
+];
+
+#[test]
+fn a_refused_line_comes_with_the_records_before_it(rt: HostRuntime) -> Result<(), Fail> {
+    for (input, count) in RECORDS {
+        assert!(rt; records_before(rt.alloc(), input) == Some(count));
+    }
     Ok(())
 }

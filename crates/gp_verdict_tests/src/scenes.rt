@@ -55,6 +55,20 @@ pub fn upholds(alloc: Global, input: &[u8], text: &[u8]) -> bool {
     }
 }
 
+/// How many records come with the first refused line.
+pub fn records_before(alloc: Global, input: &[u8]) -> Option<usize> {
+    match audit(alloc, input) {
+        Err(
+            Unaudited::Bad {
+                line: _,
+                reason: _,
+                records,
+            },
+        ) => Some(records.as_slice().len()),
+        _ => None,
+    }
+}
+
 /// Whether the line with this number is the first that is refused, for this reason.
 pub fn refuses(alloc: Global, input: &[u8], number: u64, why: AuditReason) -> bool {
     match audit(alloc, input) {
