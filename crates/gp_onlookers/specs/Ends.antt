@@ -5,7 +5,7 @@ use Rattle.gp_command.specs.declared.command.Command.{Command}
 use Rattle.gp_phase.specs.Beside.{Topics}
 use Rattle.gp_onlookers.specs.declared.looks.Look.{Look}
 
--- the feed of a publisher, the commands that its replica ran, and whether it was refused memory
+-- the feed of a publisher, the commands that its replica ran, and whether it once could not catch up or publish
 pub record PublisherView : Type 0 where
   pub feed : Book
   pub ran : List Command
@@ -33,7 +33,7 @@ pub record AreWatching (key : List ℕ) (topics : Topics Book WatcherTopic) : Ty
   pub first : topics.first ≡ record { key = key; feed = topics.main }
   pub second : topics.second ≡ record { key = key; feed = topics.main }
 
--- the publisher was never refused memory, and each look was kept
+-- the publisher always caught up and published, and each look was kept
 pub record HasFailedNowhere (publisher : PublisherView) (first second : WatcherView) : Type 0 where
   pub published : publisher.failed ≡ false
   pub first_kept : first.failed ≡ false

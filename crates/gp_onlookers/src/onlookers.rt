@@ -61,9 +61,9 @@ pub fn close<R: Wait>(rt: &R, onlookers: Onlookers) {
 
 /// Has the replica catch up with the history, publishes what it ran, notifies both readers, and has
 /// each of them read a last time. Returns what they saw at each look, and at the last one. The feed
-/// is closed, also after an error. Returns `NoMemory` if memory runs out, if a publish or a look
-/// was refused before, and also if the history does not extend what the replica ran or has two
-/// commands with the same identity.
+/// is closed, also after an error. Returns `NoMemory` if memory runs out, if a catch-up, a publish
+/// or a look was refused before, and also if the history does not extend what the replica ran or
+/// has two commands with the same identity.
 pub fn last_looks<R: Wait>(
     rt: &R,
     alloc: Global,

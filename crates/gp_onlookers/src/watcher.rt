@@ -137,6 +137,7 @@ impl<D: Disk> Beside<Wire<PaxosRules>, Cell<D>> for Watcher {
     }
 
     fn act<W: Wait>(&mut self, rt: &W) {
+        // a look that cannot be kept marks the watcher
         let _kept = self.look(rt);
     }
 }
