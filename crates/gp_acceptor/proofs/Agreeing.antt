@@ -1,5 +1,5 @@
 -- A vote has what was agreed on in its round, and keeps it in each step.
-use Rattle.std.proofs.Common.{◌≡◌, ℕ, zero, suc, Bool, true, false, cond, not, ◌&&◌, nat_lt, List, [], ◌∷◌, Some, None, refl, sym, ap, subst, ◌∙◌}
+use Rattle.std.proofs.Common.{◌≡◌, ℕ, Bool, true, false, cond, not, ◌&&◌, nat_lt, List, [], Some, None, refl, sym, ap, subst, ◌∙◌}
 use Rattle.std.specs.Prelude.{Option}
 use Rattle.std.proofs.lemmas.Bool.{true≢false}
 use Rattle.gp_history.specs.History.{History, pushes}
@@ -12,15 +12,15 @@ use Rattle.gp_round.specs.declared.round.Mode.TheVariants.{Single, Multi, Fast}
 use Rattle.gp_round.specs.declared.round.Round.{Round}
 use Rattle.gp_round.specs.Rounds.{earlier, same_round, is_fast}
 use Rattle.gp_round.specs.Configs.{majority}
-use Rattle.gp_round.specs.Sets.{masks, bit}
-use Rattle.gp_round.proofs.Orders.{same_rounds}
+use Rattle.gp_round.specs.Sets.{masks}
+use Rattle.gp_round.proofs.Orders.{same_rounds, same_round_itself}
 use Rattle.gp_msg.specs.Messages.{Sent}
-use Rattle.gp_safe.specs.Meets.{gathered, quorum_meets, add_meet, all_joined, everyone, if_whole, with_one}
+use Rattle.gp_safe.specs.Meets.{add_meet, all_joined}
 use Rattle.gp_safe.proofs.Adding.{join_known}
+use Rattle.gp_safe.proofs.NoMeets.{no_meets}
 use Rattle.gp_acceptor.specs.State.{AcceptorState, nobody}
 use Rattle.gp_acceptor.specs.Table.{value_at, agreed, raised, holding, next_vote, with_vote, counted, acceptor_take}
 use Rattle.gp_acceptor.specs.Revotes.{with_join, HasAgreed, IsAgreed}
-use Rattle.gp_acceptor.proofs.Rejoining.{round_itself}
 use Rattle.gp_acceptor.proofs.Taking.{nobody_there}
 
 -- ---- joins with what was joined before
@@ -33,17 +33,6 @@ joined_to_itself : (u : History) → join u u ≡ u
 joined_to_itself u = join_known u u (λ c e. e)
 
 -- ---- nothing is held
-
-nothing_gathered : (p : ℕ → Bool) (n : ℕ) → if_whole (gathered (λ i. None) p n) ≡ None
-nothing_gathered p zero = refl
-nothing_gathered p (suc n) = by (p n) (nothing_gathered p n) where
-  by : (b : Bool) → if_whole (gathered (λ i. None) p n) ≡ None → if_whole (cond b (with_one None (gathered (λ i. None) p n)) (gathered (λ i. None) p n)) ≡ None
-  by true e = refl
-  by false e = e
-
-no_meets : (n : ℕ) (ms : List ℕ) → quorum_meets (λ i. None) everyone n ms ≡ []
-no_meets n [] = refl
-no_meets n (m ∷ ms) = (λ k. add_meet (nothing_gathered (λ i. bit m i && everyone i) n k) (no_meets n ms k))
 
 no_lead : (b : Bool) → all_joined (add_meet (cond b None None) []) ≡ None
 no_lead true = refl
@@ -79,7 +68,7 @@ voted_again t (Some u) e = by_cases (earlier t.voted t.round)
       IsVoted b = IsAgreed (with_vote t (cond b (Some u) (cond (same_round t.voted t.round && not (is_fast t.round.mode)) (Some (join t.vote u)) None)))
 
       here : t.voted ≡ t.round → is_fast t.round.mode ≡ false → (same_round t.voted t.round && not (is_fast t.round.mode)) ≡ true
-      here at slow = both (ap (λ r. same_round r t.round) at ∙ round_itself t.round) (ap not slow)
+      here at slow = both (ap (λ r. same_round r t.round) at ∙ same_round_itself t.round) (ap not slow)
 
 -- after a value of a coordinator
 pub agreed_with_value : (s : AcceptorState) (r : Round) (c : ℕ) (v : History) → IsAgreed s → IsAgreed (acceptor_take s (Sent r c v)).0

@@ -1,58 +1,24 @@
 -- The join of what is known with all meets at once is the join with one after another, and what an acceptor makes of it.
-use Rattle.std.proofs.Common.{◌≡◌, ℕ, Bool, true, false, cond, not, ◌&&◌, ◌||◌, nat_lt, List, [], ◌∷◌, ◌++◌, Some, None, inl, inr, refl, sym, ap, subst, ◌∙◌, arith}
+use Rattle.std.proofs.Common.{◌≡◌, ℕ, true, false, cond, not, ◌&&◌, ◌||◌, nat_lt, List, [], ◌∷◌, Some, None, inl, inr, refl, sym, ap, subst, ◌∙◌, arith}
 use Rattle.std.specs.Prelude.{Option, unwrap_or}
-use Rattle.std.specs.declared.cmp.Ordering.{Ordering}
-use Rattle.std.specs.declared.cmp.Ordering.TheVariants.{Less, Equal, Greater}
-use Rattle.std.specs.Ordering.{is_eq, is_lt, ordering_reverse}
-use Rattle.std.proofs.lemmas.Bool.{true≢false, ltb-true}
-use Rattle.std.proofs.lemmas.Cmp.{tied_itself}
+use Rattle.std.proofs.lemmas.Bool.{ltb-true}
 use Rattle.gp_command.specs.declared.command.Command.{Command}
-use Rattle.gp_history.specs.History.{History, push, pushes, empty, size}
+use Rattle.gp_history.specs.History.{History, size}
 use Rattle.gp_history.specs.Sequence.{history_of}
-use Rattle.gp_history.specs.Canonical.{canonical}
 use Rattle.gp_history.specs.Bounds.{join, joined}
 use Rattle.gp_history.proofs.Tests.{not_true, by_cases}
-use Rattle.gp_history.proofs.Joins.{history_of-empty, history_of-append, history_within}
-use Rattle.gp_bounds.proofs.Joining.{join_of_pushes}
+use Rattle.gp_history.proofs.Joins.{history_of-empty}
 use Rattle.gp_round.specs.declared.round.Round.{Round}
-use Rattle.gp_round.specs.Rounds.{earlier, same_round, is_fast, round_cmp, round_cmp_total}
-use Rattle.gp_round.proofs.Orders.{same_rounds}
+use Rattle.gp_round.specs.Rounds.{earlier, same_round, is_fast}
+use Rattle.gp_round.proofs.Orders.{same_rounds, same_round_itself, not_earlier_itself}
 use Rattle.gp_msg.specs.Messages.{Message, Voted}
 use Rattle.gp_safe.specs.Meets.{all_joined}
+use Rattle.gp_bounds.proofs.Rejoining.{join_of_joined, join_nothing}
 use Rattle.gp_acceptor.specs.State.{AcceptorState, nobody}
 use Rattle.gp_acceptor.specs.Table.{next_vote, raised, with_value, with_vote, told_vote}
 use Rattle.gp_acceptor.specs.Revotes.{with_join, Settles}
 
 -- ---- a join of joins is one join after another
-
-pushes-append : (h : History) (xs ys : List Command) → pushes h (xs ++ ys) ≡ pushes (pushes h xs) ys
-pushes-append h [] ys = refl
-pushes-append h (x ∷ xs) ys = pushes-append (push h x) xs ys
-
-joins_as_pushes : (zs xs : List Command) → join (history_of zs) (history_of xs) ≡ pushes (history_of zs) xs
-joins_as_pushes zs xs = sym (join_of_pushes (history_of zs) (history_within zs) xs)
-
-join-append : (zs xs ys : List Command) → join (history_of zs) (history_of (xs ++ ys)) ≡ pushes (join (history_of zs) (history_of xs)) ys
-join-append zs xs ys = joins_as_pushes zs (xs ++ ys) ∙ pushes-append (history_of zs) xs ys ∙ ap (λ u. pushes u ys) (sym (joins_as_pushes zs xs))
-
--- a join of a sequence's history is that of a longer sequence
-longer : (xs : List Command) (h : History) → join (history_of xs) h ≡ history_of (xs ++ canonical h)
-unfolding join
-longer xs h = sym (history_of-append xs (canonical h))
-
-one_join : (u h : History) → pushes u (canonical h) ≡ join u h
-unfolding join
-one_join u h = refl
-
-join_of_joined : (zs xs : List Command) (hs : List History) → join (history_of zs) (joined (history_of xs) hs) ≡ joined (join (history_of zs) (history_of xs)) hs
-join_of_joined zs xs [] = refl
-join_of_joined zs xs (h ∷ hs) =
-    ap (λ u. join (history_of zs) (joined u hs)) (longer xs h)
-    ∙ join_of_joined zs (xs ++ canonical h) hs
-    ∙ ap (λ u. joined u hs) (join-append zs xs (canonical h) ∙ one_join (join (history_of zs) (history_of xs)) h)
-
-join_nothing : (zs : List Command) → join (history_of zs) empty ≡ history_of zs
-join_nothing zs = ap (join (history_of zs)) (sym history_of-empty) ∙ joins_as_pushes zs []
 
 -- what is learned with the join of all that was heard is what is learned of one after another
 pub joined_at_once : (zs : List Command) (hs : List History) → joined (history_of zs) hs ≡ with_join (history_of zs) (all_joined hs)
@@ -61,24 +27,6 @@ joined_at_once zs (h ∷ hs) =
     ap (λ u. joined u (h ∷ hs)) (sym (join_nothing zs) ∙ ap (join (history_of zs)) (sym history_of-empty))
     ∙ sym (join_of_joined zs [] (h ∷ hs))
     ∙ ap (λ u. join (history_of zs) (joined u (h ∷ hs))) history_of-empty
-
--- ---- rounds
-
-is_Equal : (o : Ordering) → is_eq o ≡ true → o ≡ Equal
-is_Equal Equal h = refl
-is_Equal Less h = absurd (true≢false (sym h))
-is_Equal Greater h = absurd (true≢false (sym h))
-
-pub same_round_is : (i j : Round) → same_round i j ≡ true → i ≡ j
-same_round_is i j e =
-    let tie : round_cmp i j ≡ Equal = is_Equal (round_cmp i j) e in
-    same_rounds i j (ap is_lt tie) (ap is_lt (round_cmp_total.antisymm j i ∙ ap ordering_reverse tie))
-
-pub round_itself : (r : Round) → same_round r r ≡ true
-round_itself r = ap is_eq (tied_itself round_cmp_total r)
-
-not_before_itself : (r : Round) → earlier r r ≡ false
-not_before_itself r = ap is_lt (tied_itself round_cmp_total r)
 
 -- ---- what stays in a step
 
@@ -139,4 +87,4 @@ as_good s r c o a w low (inr x) =
     let t = with_value (raised s r) c o in
     let at : t.voted ≡ t.round = value_voted (raised s r) c o ∙ raised_voted s r ∙ x.0 ∙ sym (value_round (raised s r) c o ∙ raised_round s r low) in
     subst (λ q. ◌≡◌ {A = AcceptorState × Option Message} (with_vote t w, told_vote s.number q r s.vote w) (with_vote t (next_vote q r s.vote a), told_vote s.number q r s.vote (next_vote q r s.vote a))) (sym x.0)
-    (settle t s.number r s.vote at (value_vote (raised s r) c o ∙ raised_vote s r) (not_before_itself r) a w (round_itself r) x.1 x.2)
+    (settle t s.number r s.vote at (value_vote (raised s r) c o ∙ raised_vote s r) (not_earlier_itself r) a w (same_round_itself r) x.1 x.2)

@@ -31,10 +31,11 @@ use Rattle.gp_msg.specs.Nodes.{node_of}
 use Rattle.gp_run.specs.Messages.{messages}
 use Rattle.gp_run.specs.States.{proposer_acts, proposer_at, coordinator_kept, coordinator_acts, coordinator_at, acceptor_acts, acceptor_at, learner_acts, learner_at}
 use Rattle.gp_run.specs.Legal.{Legal, fits, sent_by}
-use Rattle.gp_run.proofs.Choices.{chosen, chosen_where, with_message, left_true, right_true}
+use Rattle.gp_run.proofs.Choices.{chosen, chosen_where, with_message}
 use Rattle.gp_cstructs.specs.CStructs.{Among}
 use Rattle.gp_cstructs.proofs.Lists.{among_append}
 use Rattle.gp_agreement.proofs.Sending.{Finals, learner_sends, one_sent}
+use Rattle.gp_round.proofs.Counting.{left_true, right_true}
 
 -- r is a multi round, round zero, or has this lead
 abbrev pub IsLedBy : ℕ → Round → Type 0

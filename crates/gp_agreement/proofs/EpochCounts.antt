@@ -30,7 +30,7 @@ use Rattle.gp_run.proofs.Choices.{with_message}
 use Rattle.gp_agreement.specs.Epochs.{leads_to}
 use Rattle.gp_agreement.proofs.Sending.{IsBallot, Ballots, IsFinal, Finals, acceptor_sends, coordinator_sends, learner_sends, one_sent}
 
-same : (n : ℕ) → n ≤ n
+pub same : (n : ℕ) → n ≤ n
 same n = omega arith
 
 later : (m n : ℕ) → m ≤ n → m ≤ suc n

@@ -18,15 +18,13 @@ use Rattle.gp_acceptor.specs.Epochs.{AcceptorInEpoch}
 use Rattle.gp_run.specs.Messages.{messages}
 use Rattle.gp_run.specs.States.{coordinator_kept, coordinator_acts, coordinator_at, acceptor_kept, acceptor_acts, acceptor_at}
 use Rattle.gp_agreement.proofs.Steps.{on_message_cases}
+use Rattle.gp_agreement.proofs.EpochCounts.{same}
 
 pub by_order : (n m : ℕ) → (n < m) ⊎ ((n ≡ m) ⊎ (m < n))
 by_order n m = by_cases (nat_lt n m) (λ b. inl (ltb-true n m b)) (λ b. elim (nat_cases n m) [ inl q ↦ inr (inl q) | inr d ↦ inr (inr (greater n m (ltb-false n m b) d)) ])
   where
     greater : (n m : ℕ) → m ≤ n → (n ≡ m → ⊥) → m < n
     greater n m le d = omega arith
-
-same : (n : ℕ) → n ≤ n
-same n = omega arith
 
 higher : (i n : ℕ) → n ≤ i → n ≤ suc i
 higher i n le = omega (arith, le)

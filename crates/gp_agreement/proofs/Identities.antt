@@ -54,7 +54,7 @@ ballots_propose_nothing n o c h q = subst (λ (u : Option Stamped). Ballots n u)
 finals_propose_nothing : (n : ℕ) (o : Option Stamped) (c : Command) → Finals n o → o ≡ Some (Offered c) → ⊥
 finals_propose_nothing n o c h q = subst (λ (u : Option Stamped). Finals n u) q h
 
-at_same : {X : Type 0} (a : ℕ) (x y : X) → cond (nat_eq a a) x y ≡ x
+pub at_same : {X : Type 0} (a : ℕ) (x y : X) → cond (nat_eq a a) x y ≡ x
 at_same a x y = ap (λ (b : Bool). cond b x y) (eq-eqb a a refl)
 
 module _ (config : Counts) (es : List Entry) where

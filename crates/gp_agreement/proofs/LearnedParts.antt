@@ -3,10 +3,9 @@ use Rattle.std.proofs.Common.{◌≡◌, ◌<◌, ℕ, suc, Bool, cond, ◌&&◌
 use Rattle.std.specs.Option.{option_to_list}
 use Rattle.std.proofs.lemmas.Bool.{eqb-true, ne_eqb}
 use Rattle.gp_command.specs.declared.command.Command.{Command}
-use Rattle.gp_history.specs.History.{History, IsHistory, IsPrefix, has, empty}
+use Rattle.gp_history.specs.History.{History, IsHistory, IsPrefix, empty}
 use Rattle.gp_history.specs.Bounds.{join}
-use Rattle.gp_history.proofs.Tests.{fst_of, never}
-use Rattle.gp_history.proofs.Joins.{empty_none}
+use Rattle.gp_history.proofs.Tests.{fst_of}
 use Rattle.gp_history.proofs.Prefix.{prefix_refl, prefix_antisymm}
 use Rattle.gp_history.proofs.Bound.{empty_is_history, join_is_history, join_grows, join_bounded}
 use Rattle.gp_round.specs.declared.round.Round.{Round}
@@ -20,10 +19,12 @@ use Rattle.gp_learner.specs.Table.{learner_take, learned_with, heard, vote_of, v
 use Rattle.gp_cstructs.specs.CStructs.{Among}
 use Rattle.gp_cstructs.specs.Learner as core
 use Rattle.gp_cstructs.specs.Loose.{run}
+use Rattle.gp_history.proofs.Many.{empty_below}
+use Rattle.gp_learner.proofs.Parts.{nothing_marked}
 use Rattle.gp_agreement.specs.Values.{Value}
 use Rattle.gp_cstructs.proofs.Lists.{cond_cases, among_left, among_right, get_among, nat_cases}
 use Rattle.gp_epoch.specs.Cut.{first_checkpoint, HasNoCheckpoint, cut}
-use Rattle.gp_epoch.proofs.Checkpoints.{found_is_first, none_has_none}
+use Rattle.gp_epoch.proofs.Checkpoints.{none_has_none}
 use Rattle.gp_epoch.proofs.Cuts.{cut_history, below_cut}
 use Rattle.gp_epoch.proofs.Joining.{join_again}
 use Rattle.gp_msg.specs.Messages.{Stamped, Offered, InEpoch, Final, Entry}
@@ -43,21 +44,8 @@ use Rattle.gp_agreement.proofs.ProjectedLearners.{now_learned}
 
 -- ---- the empty history
 
-empty_below : (h : History) → IsPrefix empty h
-empty_below h = record {
-  commands = λ c p. never (has empty c) p (empty_none c);
-  pairs = λ c d p q. never (has empty c) p (empty_none c);
-  closed = λ c d q r. never (has empty d) q (empty_none d);
-}
-
 pub join_empty : (h : History) → IsHistory h → join h empty ≡ h
 join_empty h w = sym (prefix_antisymm h (join h empty) w (join_is_history h empty w empty_is_history) (join_grows h empty w) (join_bounded h empty h w empty_is_history w (prefix_refl h w) (empty_below h)))
-
-pub empty_unmarked : first_checkpoint empty ≡ None
-empty_unmarked = by_option (first_checkpoint empty) refl where
-  by_option : (o : Option Command) → first_checkpoint empty ≡ o → first_checkpoint empty ≡ None
-  by_option None e = e
-  by_option (Some z) e = never (has empty z) (found_is_first empty empty_is_history z e).there (empty_none z)
 
 -- ---- a part has no checkpoint
 
@@ -69,7 +57,7 @@ Unmarked p = IsUnmarked p.0
 
 learning_unmarked : (s : LearnerInEpoch) (o : Option Command) → first_checkpoint s.state.learned ≡ o → Unmarked (learner.learning s o)
 learning_unmarked s None e = e
-learning_unmarked s (Some z) e = empty_unmarked
+learning_unmarked s (Some z) e = nothing_marked
 
 receives_unmarked : (s : LearnerInEpoch) (m : Stamped) → IsUnmarked s → Unmarked (learner.take s m)
 receives_unmarked s (Offered c) h = h
@@ -79,7 +67,7 @@ receives_unmarked s (InEpoch e (Answered r a q v)) h = h
 receives_unmarked s (InEpoch e (Sent r c v)) h = h
 receives_unmarked s (InEpoch e (Voted r a v)) h = cond_cases Unmarked (nat_eq e s.epoch && nat_lt a s.state.config.acceptors) _ _
     (λ b. learning_unmarked (learner.with_state s (learner_take s.state (Voted r a v))) (first_checkpoint (learner_take s.state (Voted r a v)).learned) refl) (λ b. h)
-receives_unmarked s (Final e l v) h = cond_cases IsUnmarked (nat_eq e s.epoch) _ _ (λ b. empty_unmarked) (λ b. h)
+receives_unmarked s (Final e l v) h = cond_cases IsUnmarked (nat_eq e s.epoch) _ _ (λ b. nothing_marked) (λ b. h)
 
 acts_unmarked : (l : ℕ) (s : LearnerInEpoch) (ms : List Stamped) (event : Event) → IsUnmarked s → Unmarked (learner_acts l s ms event)
 acts_unmarked l s ms (Offer p d) h = h
@@ -91,11 +79,11 @@ acts_unmarked l s ms (Take (Learner i) k) h = cond_cases Unmarked (nat_eq l i) _
 acts_unmarked l s ms (Fall (Proposer p) what) h = h
 acts_unmarked l s ms (Fall (Coordinator c) what) h = h
 acts_unmarked l s ms (Fall (Acceptor a) what) h = h
-acts_unmarked l s ms (Fall (Learner i) what) h = cond_cases Unmarked (nat_eq l i) _ _ (λ e. empty_unmarked) (λ e. h)
+acts_unmarked l s ms (Fall (Learner i) what) h = cond_cases Unmarked (nat_eq l i) _ _ (λ e. nothing_marked) (λ e. h)
 
 -- the part of a learner has no checkpoint
 pub parts_unmarked : (config : Counts) (l : ℕ) (es : List Entry) → IsUnmarked (learner_at config l es)
-parts_unmarked config l [] = empty_unmarked
+parts_unmarked config l [] = nothing_marked
 parts_unmarked config l (x ∷ es) = acts_unmarked l (learner_at config l es) (messages es) x.event (parts_unmarked config l es)
 
 -- ---- a vote extends the part

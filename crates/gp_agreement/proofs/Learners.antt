@@ -1,11 +1,8 @@
 -- A learner does what one over any c-structs does.
-use Rattle.std.proofs.Common.{◌≡◌, ℕ, Bool, true, cond, ◌&&◌, nat_eq, nat_lt, List, [], ◌∷◌, Option, Some, None, refl, sym, subst, ap, ◌∙◌, arith}
-use Rattle.std.specs.declared.cmp.Ordering.{Ordering}
-use Rattle.std.specs.declared.cmp.Ordering.TheVariants.{Equal, Less, Greater}
-use Rattle.std.specs.Ordering.{nat_cmp, is_eq, ordering_then}
+use Rattle.std.proofs.Common.{◌≡◌, ℕ, Bool, true, cond, ◌&&◌, nat_eq, nat_lt, List, [], ◌∷◌, Option, Some, None, refl, sym, subst, ap, ◌∙◌}
+use Rattle.std.specs.Ordering.{nat_cmp, is_eq}
 use Rattle.std.specs.BTreeMap.{insert_entry}
 use Rattle.std.proofs.lemmas.Bool.{eqb-true}
-use Rattle.std.proofs.lemmas.Bool.Decides.{nat_tests}
 use Rattle.gp_history.specs.History.{History, size}
 use Rattle.gp_history.proofs.Tests.{by_cases, fst_of, snd_of}
 use Rattle.gp_round.specs.declared.round.Round.{Round}
@@ -15,12 +12,13 @@ use Rattle.gp_safe.specs.Held.{newer}
 use Rattle.gp_msg.specs.Messages.{Voted}
 use Rattle.gp_learner.specs.State.{LearnerState, Votes}
 use Rattle.gp_learner.specs.Table.{opening, voter_cmp, vote_of, votes_held, votes_with, heard, learned_with, learner_take, learner_fall}
-use Rattle.gp_learner.proofs.Lookups.{lookup-insert_entry, voter_cmp_total}
+use Rattle.gp_learner.proofs.Lookups.{lookup-insert_entry, voter_cmp_total, same_number}
 use Rattle.gp_run.specs.Learned.{Vote, votes_heard}
 use Rattle.gp_cstructs.specs.Tables as any
 use Rattle.gp_cstructs.specs.Tables.{Tables, Propose, P1a, P1b, P2a, P2b}
 use Rattle.gp_cstructs.specs.Learner as core
-use Rattle.gp_cstructs.proofs.Orders.{same_tells}
+use Rattle.gp_command.proofs.Marks.{equal_then}
+use Rattle.gp_round.proofs.Orders.{same_round_is}
 use Rattle.gp_agreement.specs.Values.{Value}
 use Rattle.gp_agreement.proofs.Bundle.{tables}
 use Rattle.gp_agreement.proofs.Shown.{shown, joins, heard_same, cond_ap}
@@ -32,18 +30,10 @@ abbrev is_voter : Round → ℕ → Round → ℕ → Bool
 is_voter i b r a = same_round i r && nat_eq b a
 
 voter_tells : (i r : Round) (b a : ℕ) → is_voter i b r a ≡ true → (i ≡ r) × (b ≡ a)
-voter_tells i r b a h = (same_tells i r (fst_of (same_round i r) (nat_eq b a) h), eqb-true b a (snd_of (same_round i r) (nat_eq b a) h))
-
-both_equal : (o p : Ordering) → is_eq (ordering_then o p) ≡ (is_eq o && is_eq p)
-both_equal Equal p = refl
-both_equal Less p = refl
-both_equal Greater p = refl
-
-same_number : (i a : ℕ) → is_eq (nat_cmp i a) ≡ nat_eq i a
-same_number i a = grind (arith, nat_tests)
+voter_tells i r b a h = (same_round_is i r (fst_of (same_round i r) (nat_eq b a) h), eqb-true b a (snd_of (same_round i r) (nat_eq b a) h))
 
 same_voter : (i r : Round) (b a : ℕ) → is_eq (voter_cmp (i, b) (r, a)) ≡ is_voter i b r a
-same_voter i r b a = both_equal (round_cmp i r) (nat_cmp b a) ∙ ap (λ x. same_round i r && x) (same_number b a)
+same_voter i r b a = equal_then (round_cmp i r) (nat_cmp b a) ∙ ap (λ x. same_round i r && x) (same_number b a)
 
 -- one more vote is held
 vote_of-insert : (votes : Votes) (r : Round) (a : ℕ) (h : History) (i : Round) (b : ℕ) → vote_of (insert_entry voter_cmp votes (r, a) h) i b ≡ cond (is_voter i b r a) (Some h) (vote_of votes i b)

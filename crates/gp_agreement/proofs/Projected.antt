@@ -1,7 +1,7 @@
 -- Each legal run has a loose list for each epoch, which grows with the run.
-use Rattle.std.proofs.Common.{◌≡◌, ◌⊎◌, ◌<◌, ◌+◌, ℕ, Bool, true, false, cond, nat_eq, nat_lt, List, [], ◌∷◌, ◌++◌, Option, Some, None, slice_get, length, refl, sym, subst, ap, ◌∙◌, inl, inr, append_assoc}
+use Rattle.std.proofs.Common.{◌≡◌, ◌⊎◌, ◌<◌, ◌+◌, ℕ, true, false, cond, nat_eq, nat_lt, List, [], ◌∷◌, ◌++◌, Option, Some, None, slice_get, length, refl, sym, subst, ap, ◌∙◌, inl, inr, append_assoc}
 use Rattle.std.specs.Option.{option_to_list}
-use Rattle.std.proofs.lemmas.Bool.{ltb-true, eq-eqb}
+use Rattle.std.proofs.lemmas.Bool.{ltb-true}
 use Rattle.gp_command.specs.declared.command.Command.{Command}
 use Rattle.gp_command.specs.declared.draft.Draft.{Draft}
 use Rattle.gp_history.specs.History.{History}
@@ -36,16 +36,13 @@ use Rattle.gp_run.specs.Messages.{messages, on_message}
 use Rattle.gp_run.specs.States.{proposer_at, coordinator_kept, coordinator_acts, coordinator_at, acceptor_kept, acceptor_acts, acceptor_at, learner_acts, learner_at}
 use Rattle.gp_run.specs.Legal.{fits, sent_at, Follows, Legal}
 use Rattle.gp_run.specs.Chosen.{HadVote}
-use Rattle.gp_agreement.proofs.Identities.{own_number}
+use Rattle.gp_agreement.proofs.Identities.{own_number, at_same}
 use Rattle.gp_agreement.proofs.Pending.{pending_stands, Stands}
 use Rattle.gp_agreement.proofs.Sending.{IsBallot, Ballots, acceptor_sends, coordinator_sends}
 use Rattle.gp_agreement.proofs.Projection.{T, Projects, IsClosing, closing_on, proposer_says, proposer_stays}
 use Rattle.gp_agreement.proofs.ProjectedAcceptors as at_acceptor
 use Rattle.gp_agreement.proofs.ProjectedCoordinators as at_coordinator
 use Rattle.gp_agreement.proofs.ProjectedLearners as at_learner
-
-at_same : {X : Type 0} (a : ℕ) (x y : X) → cond (nat_eq a a) x y ≡ x
-at_same a x y = ap (λ (b : Bool). cond b x y) (eq-eqb a a refl)
 
 ballots_close_nothing : (n : ℕ) (o : Option Stamped) → Ballots n o → (i j : ℕ) (v : History) → Among (option_to_list o) (Final i j v) → ⊥
 ballots_close_nothing n None h i j v m = elim m [ ]

@@ -27,9 +27,7 @@ use Rattle.gp_run.specs.Messages.{messages}
 use Rattle.gp_run.specs.States.{learner_at}
 use Rattle.gp_agreement.proofs.Steps.{learner_own}
 use Rattle.gp_agreement.proofs.Projection.{T, M, IsLikeWith, LearnerAlike, Projects, IsClosing, AllForeign, none_foreign, final_foreign, learner_moved, learner_stays}
-
-same_epoch : {X : Type 0} (n : ℕ) (x y : X) → cond (nat_eq n n) x y ≡ x
-same_epoch n x y = ap (λ (b : Bool). cond b x y) (eq-eqb n n refl)
+use Rattle.gp_agreement.proofs.Identities.{at_same}
 
 next_epoch : {X : Type 0} (n : ℕ) (x y : X) → cond (nat_eq n (suc n)) x y ≡ y
 next_epoch n x y = ap (λ (b : Bool). cond b x y) (ne_eqb n (suc n) (λ q. omega (arith, q)))
@@ -118,7 +116,7 @@ module _ (config : Counts) (e : ℕ) (es : List Entry) (fs : List (Event (T conf
     learns : i ≡ s.epoch → (o : Option Command) → first_checkpoint now.learned ≡ o → NextBy (learning (with_state s now) o)
     learns at_once None no_mark =
         let vs : List Vote = votes_heard config votes (Voted r a v) in
-        by_votes (learning (with_state s now) None) vs (same_epoch s.epoch _ _ ∙ ap (λ (b : Bool). cond b vs votes) (eq-eqb i s.epoch at_once)) (elim (nat_cases s.epoch e) [
+        by_votes (learning (with_state s now) None) vs (at_same s.epoch _ _ ∙ ap (λ (b : Bool). cond b vs votes) (eq-eqb i s.epoch at_once)) (elim (nat_cases s.epoch e) [
           | inl q ↦
               let t = pr.sent (InEpoch i (Voted r a v)) there (Voted r a v) (at_once ∙ q, refl) in
               moves (learning (with_state s now) None) vs (none_foreign config e) t.0 t.1 (λ j u m. elim m [ ]) ((λ z. home_like q t.0 t.2), (λ z. absurd (omega (arith, q, z))))
@@ -160,7 +158,7 @@ module _ (config : Counts) (e : ℕ) (es : List Entry) (fs : List (Event (T conf
     hears : NextBy (take s (InEpoch i (Voted r a v)))
     hears = cond_cases NextBy (nat_eq i s.epoch && nat_lt a s.state.config.acceptors) (hearing s now) (s, None)
         (λ b. learns (eqb-true i s.epoch (fst_of (nat_eq i s.epoch) _ b)) (first_checkpoint now.learned) refl)
-        (λ b. idle _ (same_epoch s.epoch _ _ ∙ both_false (nat_eq i s.epoch) (nat_lt a config.acceptors) (record { round = r; acceptor = a; value = v } ∷ votes) votes
+        (λ b. idle _ (at_same s.epoch _ _ ∙ both_false (nat_eq i s.epoch) (nat_lt a config.acceptors) (record { round = r; acceptor = a; value = v } ∷ votes) votes
         ((λ j. nat_eq i s.epoch && nat_lt a (sym (learner_own config l es).own_config j).acceptors) ∙ b)))
 
   -- ---- all messages
@@ -173,15 +171,15 @@ module _ (config : Counts) (e : ℕ) (es : List Entry) (fs : List (Event (T conf
   either false x = refl
 
   pub takes : (n : Stamped) → Among (messages es) n → LearnerNext (take s n) (votes_now n)
-  takes (Offered c) p = idle _ (same_epoch s.epoch votes [])
-  takes (InEpoch i (Proposed c)) p = idle _ (same_epoch s.epoch (votes_after config s.epoch votes (InEpoch i (Proposed c))) [] ∙ either (nat_eq i s.epoch) votes)
-  takes (InEpoch i (Asked r)) p = idle _ (same_epoch s.epoch (votes_after config s.epoch votes (InEpoch i (Asked r))) [] ∙ either (nat_eq i s.epoch) votes)
-  takes (InEpoch i (Answered r a q v)) p = idle _ (same_epoch s.epoch (votes_after config s.epoch votes (InEpoch i (Answered r a q v))) [] ∙ either (nat_eq i s.epoch) votes)
-  takes (InEpoch i (Sent r c v)) p = idle _ (same_epoch s.epoch (votes_after config s.epoch votes (InEpoch i (Sent r c v))) [] ∙ either (nat_eq i s.epoch) votes)
+  takes (Offered c) p = idle _ (at_same s.epoch votes [])
+  takes (InEpoch i (Proposed c)) p = idle _ (at_same s.epoch (votes_after config s.epoch votes (InEpoch i (Proposed c))) [] ∙ either (nat_eq i s.epoch) votes)
+  takes (InEpoch i (Asked r)) p = idle _ (at_same s.epoch (votes_after config s.epoch votes (InEpoch i (Asked r))) [] ∙ either (nat_eq i s.epoch) votes)
+  takes (InEpoch i (Answered r a q v)) p = idle _ (at_same s.epoch (votes_after config s.epoch votes (InEpoch i (Answered r a q v))) [] ∙ either (nat_eq i s.epoch) votes)
+  takes (InEpoch i (Sent r c v)) p = idle _ (at_same s.epoch (votes_after config s.epoch votes (InEpoch i (Sent r c v))) [] ∙ either (nat_eq i s.epoch) votes)
   takes (InEpoch i (Voted r a v)) p = hears i r a v p
   takes (Final i j v) p = cond_cases (λ (u : LearnerInEpoch). LearnerNext (u, None) (cond (nat_eq s.epoch u.epoch) votes [])) (nat_eq i s.epoch) (passed s v) s
       (λ b. subst (λ (us : List Vote). LearnerNext (passed s v, None) us) (sym (next_epoch s.epoch votes [])) (stays (passed s v, None) [] (none_foreign config e) none_closes (passed_alike v)))
-      (λ b. idle _ (same_epoch s.epoch votes []))
+      (λ b. idle _ (at_same s.epoch votes []))
 
   -- ---- falls
 

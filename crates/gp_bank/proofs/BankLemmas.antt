@@ -11,6 +11,7 @@ use Rattle.gp_command.specs.Key.{key_cmp, key_cmp_total}
 use Rattle.gp_store.specs.Operations.{touch}
 use Rattle.gp_store.specs.Pairs.{value_at}
 use Rattle.gp_store.specs.Changes.{same_key, tied_keys}
+use Rattle.gp_history.proofs.Tests.{turned_false}
 use Rattle.gp_bank.specs.declared.op.BankOp.{BankOp}
 use Rattle.gp_bank.specs.declared.op.BankOp.TheVariants.{Deposit, Withdraw, Transfer}
 use Rattle.gp_bank.specs.Operations.{bank_foot, transfer_foot}
@@ -92,12 +93,8 @@ outside a op key far (Writes here) = absurd (far (touch key Write) here (λ e. c
 pub outside_kept : (a : Accounts) (op : BankOp) (key : List ℕ) → ((t : Touch) → Contains (bank_foot op) t → t.access ≢ Read → t.key ≢ key) → value_at (bank_effect a op) key ≡ value_at a key
 outside_kept a op key far = outside a op key far (use_of op key)
 
-refuted : (b : Bool) → not b ≡ true → b ≡ false
-refuted true e = absurd cc
-refuted false e = refl
-
 -- an account that covers an amount does so behind a credit to another
 pub still_covers : (a : Accounts) (from into : List ℕ) (amount : ℕ) → not (same_key from into) ≡ true → amount ≤ balance_at a from → covers (credited a into amount) from amount ≡ true
 still_covers a from into amount differ le =
-    ap (λ (o : Option ℕ). nat_le amount (shown o)) (credited_value a into amount from ∙ ap (λ (b : Bool). cond b (credit amount (value_at a from)) (value_at a from)) (refuted (same_key from into) differ))
+    ap (λ (o : Option ℕ). nat_le amount (shown o)) (credited_value a into amount from ∙ ap (λ (b : Bool). cond b (credit amount (value_at a from)) (value_at a from)) (turned_false (same_key from into) differ))
     ∙ le-leb amount (balance_at a from) le

@@ -15,7 +15,7 @@ use Rattle.gp_command.specs.Spelling.{IsDraft}
 use Rattle.gp_command.specs.Views.{DraftView}
 use Rattle.gp_words.specs.Tokens.{tokens_of}
 use Rattle.gp_replica.specs.declared.reply.Reply.TheVariants.{Absent}
-use Rattle.gp_store.proofs.DraftLemmas.{same_itself}
+use Rattle.gp_store.proofs.DraftLemmas.{same_itself, body_fits}
 use Rattle.gp_bank.specs.declared.op.BankOp.{BankOp}
 use Rattle.gp_bank.specs.declared.op.BankOp.TheVariants.{Deposit, Withdraw, Transfer, Balance, Checkpoint}
 use Rattle.gp_bank.specs.Operations.{IsBankOp, is_checkpoint, bank_text, bank_foot, transfer_foot, bank_draft_for}
@@ -103,9 +103,6 @@ draft_in_range op r = record {
   keys = foot_keys op r;
   short = let short = text_short op r in omega arith;
 }
-
-body_fits : (body : List ℕ) → length body ≤ 64 → long_body body ≡ None
-body_fits body le = rw (le-leb (length body) 64 le) refl
 
 -- the body of a checkpoint is not refused
 pub text_fits : (op : BankOp) → IsBankOp op → long_body (bank_text op) ≡ None

@@ -1,10 +1,9 @@
 -- Reading an operation on accounts from its words, and from nothing else.
 use Rattle.std.proofs.Common.{◌≡◌, ℕ, ◌<◌, ◌^◌, Bool, true, false, cond, List, [], ◌∷◌, Some, None, Option, Result, Ok, Err, refl, sym, ap, ◌∙◌, inl, inr, ◌⊎◌, arith}
-use Rattle.std.specs.Prelude.{decimal, codes, IsTrue, OnOk, nat_lt}
+use Rattle.std.specs.Prelude.{decimal, codes, OnOk, nat_lt}
 use Rattle.std.specs.Str.{bytes_eq}
 use Rattle.std.proofs.lemmas.Slice.Eq.{bytes_eq-Decides}
 use Rattle.std.proofs.lemmas.Bool.{lt-ltb, ltb-true}
-use Rattle.gp_command.specs.Key.{is_key}
 use Rattle.gp_words.specs.Numbers.{number_of}
 use Rattle.gp_memory.specs.Results.{◌>>=◌}
 use Rattle.gp_words.specs.Spacing.{joined}
@@ -12,8 +11,9 @@ use Rattle.gp_words.specs.Tokens.{tokens_of}
 use Rattle.gp_words.proofs.NumberLemmas.{number_again, number_spelled}
 use Rattle.gp_words.proofs.TokenLemmas.{joined_tokens}
 use Rattle.gp_store.specs.declared.form.OpFault.{OpFault}
-use Rattle.gp_store.specs.declared.form.OpFault.TheVariants.{BadKey, BadNumber}
+use Rattle.gp_store.specs.declared.form.OpFault.TheVariants.{BadNumber}
 use Rattle.gp_store.specs.Forms.{key_of}
+use Rattle.gp_store.proofs.ReadingLemmas.{bound, key_again, key_read}
 use Rattle.gp_bank.specs.declared.op.BankOp.{BankOp}
 use Rattle.gp_bank.specs.declared.op.BankOp.TheVariants.{Deposit, Withdraw, Transfer, Balance, Checkpoint}
 use Rattle.gp_bank.specs.Operations.{IsBankOp, bank_words, bank_text}
@@ -28,10 +28,6 @@ form_again (Withdraw key amount) = refl
 form_again (Transfer from into amount) = refl
 form_again (Balance key) = refl
 form_again Checkpoint = refl
-
-key_again : (key : List ℕ) → IsTrue (is_key key) → key_of key ≡ Ok key
-unfolding key_of
-key_again key e = rw e refl
 
 amount_again : (amount : ℕ) → amount < 2 ^ 32 → amount_of (decimal amount) ≡ Ok amount
 unfolding amount_of
@@ -59,18 +55,6 @@ text_spells_on_ok (Ok done) op range = text_spells op range
 text_spells_on_ok (Err e) op range = tt
 
 -- ---- what is read is written so
-
-bound : {A B E : Type 0} (r : Result A E) (f : A → Result B E) (y : B) → (r >>= f) ≡ Ok y → (x : A) × (r ≡ Ok x) × (f x ≡ Ok y)
-bound (Ok x) f y e = (x, refl, e)
-bound (Err fault) f y e = absurd cc
-
-key_if : (b : Bool) (token key : List ℕ) → cond b (Ok token) (Err BadKey) ≡ Ok key → (token ≡ key) × (b ≡ true)
-key_if true token key e = (cc, refl)
-key_if false token key e = absurd cc
-
-key_read : (token key : List ℕ) → key_of token ≡ Ok key → (token ≡ key) × IsTrue (is_key key)
-unfolding key_of
-key_read token key e = let read = key_if (is_key token) token key e in (read.0, ap is_key (sym read.0) ∙ read.1)
 
 amount_if : (b : Bool) (n amount : ℕ) → cond b (Ok n) (Err BadNumber) ≡ Ok amount → (n ≡ amount) × (b ≡ true)
 amount_if true n amount e = (cc, refl)

@@ -13,6 +13,8 @@ use Rattle.gp_history.specs.Canonical.{canonical}
 use Rattle.gp_history.proofs.Acyclic.{canonical_no_repeat}
 use Rattle.gp_replica.specs.Machines.{Rules, state_from, replies_from, state_after, replies_to, state_of, reply_to}
 use Rattle.gp_replica.proofs.Histories.{state_is, reply_to_is}
+use Rattle.gp_history.proofs.Tests.{turned_false}
+use Rattle.gp_history.proofs.Sequences.{or_neither}
 use Rattle.gp_bank.specs.declared.op.BankOp.{BankOp}
 use Rattle.gp_bank.specs.Drafts.{bank_op}
 use Rattle.gp_bank.specs.Effects.{bank_reply, reply_if_some, bank_rules}
@@ -22,30 +24,22 @@ neither : (a b : Bool) → not a ≡ true → (a || b) ≡ false → (a ≡ fals
 neither true b n e = absurd cc
 neither false b n e = (refl, e)
 
-without : (b : Bool) → not b ≡ true → b ≡ false
-without true e = absurd cc
-without false e = refl
-
-either_false : (a b : Bool) → (a || b) ≡ false → (a ≡ false) × (b ≡ false)
-either_false true b e = absurd cc
-either_false false b e = (refl, e)
-
 -- a command is not one of others that it stands behind
 not_after : (before after : List Command) (c d : Command) → list_any (same d) (before ++ c ∷ after) ≡ false → same d c ≡ false
-not_after [] after c d none = (either_false (same d c) (list_any (same d) after) none).0
-not_after (x ∷ before) after c d none = not_after before after c d (either_false (same d x) (list_any (same d) (before ++ c ∷ after)) none).1
+not_after [] after c d none = (or_neither (same d c) (list_any (same d) after) none).0
+not_after (x ∷ before) after c d none = not_after before after c d (or_neither (same d x) (list_any (same d) (before ++ c ∷ after)) none).1
 
 not_before : (before after : List Command) (c : Command) → no_repeat (before ++ c ∷ after) ≡ true → list_any (same c) before ≡ false
 not_before [] after c distinct = refl
 not_before (x ∷ before) after c distinct =
     let parts = and_parts (not (list_any (same x) (before ++ c ∷ after))) (no_repeat (before ++ c ∷ after)) distinct in
-    let apart = same_symm c x ∙ not_after before after c x (without (list_any (same x) (before ++ c ∷ after)) parts.0) in
+    let apart = same_symm c x ∙ not_after before after c x (turned_false (list_any (same x) (before ++ c ∷ after)) parts.0) in
     ap (λ (b : Bool). b || list_any (same c) before) apart ∙ not_before before after c parts.1
 
 reply_in : {S : Type 0} (r : Rules S) (s : S) (before after : List Command) (c : Command) → list_any (same c) before ≡ false → lookup (same c) (replies_from r s (before ++ c ∷ after)) ≡ Some (r.reply (state_from r s before) c)
 reply_in r s [] after c none = ap (λ (b : Bool). cond b (Some (r.reply s c)) (lookup (same c) (replies_from r (r.after s c) after))) (same_equiv.refl c)
 reply_in r s (x ∷ before) after c none =
-    let parts = either_false (same c x) (list_any (same c) before) none in
+    let parts = or_neither (same c x) (list_any (same c) before) none in
     ap (λ (b : Bool). cond b (Some (r.reply s x)) (lookup (same c) (replies_from r (r.after s x) (before ++ c ∷ after)))) parts.0
     ∙ reply_in r (r.after s x) before after c parts.1
 

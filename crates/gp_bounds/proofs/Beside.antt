@@ -8,12 +8,13 @@ use Rattle.gp_command.specs.Conflict.{same, conflict}
 use Rattle.gp_history.specs.History.{History, has, before}
 use Rattle.gp_history.specs.Sequence.{history_of}
 use Rattle.gp_history.specs.Bounds.{IsCompatible}
-use Rattle.gp_history.proofs.Tests.{In, both, fst_of, snd_of, left_of, right_of, one_of, iff_true, not_true, by_cases, never, all_gives, all_from}
+use Rattle.gp_history.proofs.Tests.{In, both, fst_of, snd_of, left_of, right_of, one_of, not_true, by_cases, never, all_gives, all_from}
 use Rattle.gp_history.proofs.Sets.{has_history_of}
 use Rattle.gp_history.proofs.Joins.{history_within}
 use Rattle.gp_history.specs.Sequence.{place_in}
 use Rattle.gp_history.specs.Walks.{behind, fits}
 use Rattle.gp_history.proofs.Places.{starts, kept_found, kept_lost, fits_start}
+use Rattle.gp_command.proofs.Truth.{iff_true}
 use Rattle.gp_bounds.specs.Agree.{is_apart, goes_beside}
 
 module _ (xs ys : List Command) where

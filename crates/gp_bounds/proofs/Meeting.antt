@@ -11,7 +11,7 @@ use Rattle.gp_history.specs.History.{History, IsPrefix, has, before, push}
 use Rattle.gp_history.specs.Sequence.{history_of, place}
 use Rattle.gp_history.specs.Bounds.{meet, in_meet}
 use Rattle.gp_history.specs.Walks.{behind, fits}
-use Rattle.gp_history.proofs.Tests.{In, both, fst_of, snd_of, left_of, right_of, one_of, iff_true, not_true, by_cases, never, all_gives, all_from}
+use Rattle.gp_history.proofs.Tests.{In, both, fst_of, snd_of, left_of, right_of, one_of, not_true, by_cases, never, all_gives, all_from}
 use Rattle.gp_history.proofs.Sets.{same_history, has_history_of}
 use Rattle.gp_history.proofs.Push.{before_history_of, lt_suc}
 use Rattle.gp_history.proofs.Joins.{history_within, history_of-push, later, history_of_is}
@@ -21,6 +21,7 @@ use Rattle.gp_history.proofs.Meet.{in_filter, from_filter, meet_shares, shared_i
 use Rattle.gp_history.proofs.Bound.{meet_is_greatest, meet_is_history}
 use Rattle.gp_history.proofs.Canonical.{in_filtered}
 use Rattle.gp_history.proofs.Places.{take_next, at_in, place_at, in_take, starts, start_alike, fits_start}
+use Rattle.gp_command.proofs.Truth.{iff_true}
 use Rattle.gp_bounds.specs.Agree.{agrees}
 use Rattle.gp_history.proofs.Pushing.{pushed_sequence}
 

@@ -13,6 +13,7 @@ use Rattle.gp_command.specs.Code.{draft_code}
 use Rattle.gp_command.specs.Order.{access_number, draft_cmp, draft_cmp_total}
 use Rattle.gp_command.specs.Spelling.{mark_number, touch_spelling}
 use Rattle.gp_command.specs.Views.{DraftView}
+use Rattle.gp_command.proofs.Truth.{iff_true}
 use Rattle.gp_command.proofs.Ties.{tied_draft}
 
 -- ---- lists that begin alike
@@ -79,12 +80,6 @@ codes_apart d e is =
     let rest = same_tail (mark_number d.checkpoint) (mark_number e.checkpoint) _ _ is in
     let parts = foot_apart d.foot e.foot d.body e.body (same_head _ _ _ _ rest) (same_tail (length d.foot) (length e.foot) _ _ rest) in
     λ i. record { checkpoint = mark i; foot = parts.0 i; body = parts.1 i }
-
-iff_true : (a b : Bool) → (a ≡ true → b ≡ true) → (b ≡ true → a ≡ true) → a ≡ b
-iff_true true true f g = refl
-iff_true true false f g = sym (f refl)
-iff_true false true f g = g refl
-iff_true false false f g = refl
 
 pub equal_codes : (d e : DraftView) (b : Bool) → IsTrue b ↔ (code d ≡ code e) → b ≡ eq_by_cmp draft_cmp d e
 equal_codes d e b same = iff_true b (eq_by_cmp draft_cmp d e)

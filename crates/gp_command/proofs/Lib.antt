@@ -1,3 +1,4 @@
+pub mod Truth
 pub mod KeyOrder
 pub mod Unsorted
 pub mod Ties

@@ -7,6 +7,7 @@ use Rattle.gp_round.specs.declared.round.Round.{Round}
 use Rattle.gp_round.specs.Rounds.{earlier, same_round, round_zero}
 use Rattle.gp_round.specs.Configs.{majority, quorum_size}
 use Rattle.gp_round.specs.Sets.{bit, masks, members}
+use Rattle.gp_round.proofs.Orders.{same_round_is, same_round_itself}
 use Rattle.gp_cstructs.specs.CStructs.{BoundLaws, Operations, all_joined}
 use Rattle.gp_cstructs.specs.Tables.{is_missing}
 use Rattle.gp_cstructs.specs.Safety.{IsTopRound, IsValueOf, AreCountingValues, IsChoice}
@@ -15,7 +16,7 @@ use Rattle.gp_cstructs.specs.Choice.{raised_by, top_round, vote_at, votes_at, lo
 use Rattle.gp_cstructs.specs.Protocol.{protocol, is_enough}
 use Rattle.gp_cstructs.proofs.Lists.{bool_cases, cond_cases, and_split, and_both}
 use Rattle.gp_cstructs.proofs.Subsets.{two_share, set_mask, kept_size}
-use Rattle.gp_cstructs.proofs.Orders.{rounds_order, zero_least, same_tells, same_itself, sizes_meet}
+use Rattle.gp_cstructs.proofs.Orders.{rounds_order, zero_least, sizes_meet}
 use Rattle.gp_cstructs.proofs.QuorumMeets.{meets_only, meets_each}
 
 -- ---- what an answer says
@@ -24,14 +25,14 @@ module _ {V : Type 0} (empty : V) where
   vote_tells : (k : Round) (o : Option (Round × V)) (v : V) → vote_at k o ≡ Some v → (not (is_missing o) ≡ true) × ((unwrap_or o (round_zero, empty)).0 ≡ k) × ((unwrap_or o (round_zero, empty)).1 ≡ v)
   vote_tells k None v e = absurd (cc)
   vote_tells k (Some (q, x)) v e = elim (bool_cases (same_round q k)) [
-    | inl b ↦ (refl, same_tells q k b, (let f = rw b at e in cc))
+    | inl b ↦ (refl, same_round_is q k b, (let f = rw b at e in cc))
     | inr b ↦ absurd (let f = rw b at e in cc)
   ]
 
   vote_told : (k : Round) (o : Option (Round × V)) → not (is_missing o) ≡ true → (unwrap_or o (round_zero, empty)).0 ≡ k → vote_at k o ≡ Some (unwrap_or o (round_zero, empty)).1
   vote_told k None t e = absurd (cc)
   vote_told k (Some (q, x)) t e =
-      let b : same_round q k ≡ true = subst (λ (i : Round). same_round q i ≡ true) e (same_itself q) in
+      let b : same_round q k ≡ true = subst (λ (i : Round). same_round q i ≡ true) e (same_round_itself q) in
       rw b refl
 
 -- ---- the lowest that has a value

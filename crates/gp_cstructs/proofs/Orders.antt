@@ -3,40 +3,22 @@ use Rattle.std.proofs.Common.{◌≡◌, inl, inr, ◌<◌, ◌+◌, ℕ, Bool, 
 use Rattle.std.proofs.lemmas.Bool.{ltb-true}
 use Rattle.std.specs.declared.cmp.Ordering.{Ordering}
 use Rattle.std.specs.declared.cmp.Ordering.TheVariants.{Equal, Less, Greater}
-use Rattle.std.specs.Ordering.{nat_cmp, is_lt, is_eq, ordering_then, ordering_reverse}
+use Rattle.std.specs.Ordering.{nat_cmp, is_lt, ordering_then}
 use Rattle.std.specs.Cmp.{tied_itself}
 use Rattle.gp_round.specs.declared.round.Mode.{Mode}
 use Rattle.gp_round.specs.declared.round.Mode.TheVariants.{Single, Multi, Fast}
 use Rattle.gp_round.specs.declared.round.Round.{Round}
-use Rattle.gp_round.specs.Rounds.{earlier, same_round, mode_number, round_cmp, round_cmp_total, round_zero, is_fast}
+use Rattle.gp_round.specs.Rounds.{earlier, mode_number, round_cmp, round_cmp_total, round_zero, is_fast}
 use Rattle.gp_round.specs.Configs.{majority, quorum_size}
 use Rattle.gp_round.proofs.Counting.{quorum_with_first}
-use Rattle.gp_round.proofs.Orders.{same_rounds}
+use Rattle.gp_round.proofs.Orders.{same_rounds, is_Less}
 use Rattle.gp_cstructs.specs.Safety.{IsOrder, QuorumSizes}
 use Rattle.gp_cstructs.proofs.Lists.{bool_cases}
 
 -- ---- the order
 
-is_Less : (o : Ordering) → is_lt o ≡ true → o ≡ Less
-is_Less Less h = refl
-is_Less Equal h = cc
-is_Less Greater h = cc
-
-is_Equal : (o : Ordering) → is_eq o ≡ true → o ≡ Equal
-is_Equal Equal h = refl
-is_Equal Less h = cc
-is_Equal Greater h = cc
-
 never_itself : (i : Round) → earlier i i ≡ true → ⊥
 never_itself i h = let e : false ≡ true = sym (ap is_lt (tied_itself round_cmp_total i)) ∙ h in cc
-
-pub same_tells : (i j : Round) → same_round i j ≡ true → i ≡ j
-same_tells i j h =
-    let e = is_Equal (round_cmp i j) h in
-    same_rounds i j (ap is_lt e) (ap is_lt (round_cmp_total.antisymm j i) ∙ ap (λ o. is_lt (ordering_reverse o)) e)
-
-pub same_itself : (i : Round) → same_round i i ≡ true
-same_itself i = ap is_eq (tied_itself round_cmp_total i)
 
 pub rounds_order : IsOrder (λ i j. earlier i j ≡ true)
 rounds_order = record {

@@ -5,6 +5,7 @@ use Rattle.gp_round.specs.declared.round.Mode.{Mode}
 use Rattle.gp_round.specs.declared.round.Mode.TheVariants.{Single, Multi, Fast}
 use Rattle.gp_round.specs.Configs.{majority, quorum_size}
 use Rattle.gp_round.specs.Sets.{bit, masks, members}
+use Rattle.gp_round.proofs.Orders.{same_round_is, same_round_itself}
 use Rattle.gp_cstructs.specs.CStructs.{Among, BoundLaws, Operations, Laws}
 use Rattle.gp_cstructs.specs.Lawful.{IsMeet, IsLawful}
 use Rattle.gp_cstructs.specs.Meets.{add_meet, quorum_meets, everyone}
@@ -12,7 +13,7 @@ use Rattle.gp_round.specs.Quorums.{coordinator_quorum_of, IsCoordinatorQuorum}
 use Rattle.gp_cstructs.specs.Protocol.{coordinator_meets_by, protocol}
 use Rattle.gp_cstructs.proofs.Lists.{bool_cases, and_split, and_both}
 use Rattle.gp_cstructs.proofs.Subsets.{two_share, set_mask, kept_size}
-use Rattle.gp_cstructs.proofs.Orders.{rounds_order, zero_least, same_tells, same_itself, sizes_meet}
+use Rattle.gp_cstructs.proofs.Orders.{rounds_order, zero_least, sizes_meet}
 use Rattle.gp_cstructs.proofs.QuorumMeets.{meets_only, meets_each, meet_same}
 use Rattle.gp_cstructs.proofs.ChoiceLaws.{choices_are}
 
@@ -70,8 +71,8 @@ lawful o l a c some = record {
   push_extends = l.push_extends;
   prefix_as_long = l.prefix_as_long;
   order = rounds_order;
-  same_tells = same_tells;
-  same_itself = same_itself;
+  same_tells = same_round_is;
+  same_itself = same_round_itself;
   zero_least = zero_least;
   zero_not_fast = refl;
   sizes = sizes_meet a some;

@@ -7,9 +7,10 @@ use Rattle.gp_command.proofs.Ties.{tied_command}
 use Rattle.gp_command.proofs.ConflictLemmas.{same-true, conflict_symm}
 use Rattle.gp_history.specs.History.{History, IsHistory, IsPrefix, has, before}
 use Rattle.gp_history.specs.Bounds.{IsCompatible, join}
-use Rattle.gp_history.proofs.Tests.{both, fst_of, snd_of, left_of, right_of, one_of, iff_true, not_true, by_cases, never, different}
+use Rattle.gp_history.proofs.Tests.{both, fst_of, snd_of, left_of, right_of, one_of, not_true, by_cases, never, different}
 use Rattle.gp_history.proofs.Sets.{same_history, has-ordered_by, before-ordered_by}
 use Rattle.gp_history.proofs.Bound.{join_is_least, join_is_history, part_is_history}
+use Rattle.gp_command.proofs.Truth.{iff_true}
 use Rattle.gp_epoch.specs.Cut.{first_checkpoint, IsFirstCheckpoint, HasCheckpoint, HasNoCheckpoint, cut_at, cut_by, cut}
 use Rattle.gp_epoch.proofs.Checkpoints.{checkpoint_conflicts, found_is_first, first_is_found}
 

@@ -7,13 +7,14 @@ use Rattle.gp_history.specs.History.{History, IsHistory, IsPrefix, has, before}
 use Rattle.gp_history.specs.Sequence.{history_of}
 use Rattle.gp_history.specs.Canonical.{canonical}
 use Rattle.gp_history.specs.Bounds.{IsCompatible, join}
-use Rattle.gp_history.proofs.Tests.{left_of, right_of, one_of, iff_true, not_true, by_cases, never}
+use Rattle.gp_history.proofs.Tests.{left_of, right_of, one_of, not_true, by_cases, never}
 use Rattle.gp_history.proofs.Sets.{same_history, has_history_of}
 use Rattle.gp_history.proofs.Push.{Within}
 use Rattle.gp_history.proofs.Joins.{joins}
 use Rattle.gp_history.proofs.Acyclic.{canonical_is}
 use Rattle.gp_history.proofs.Lub.{bounded_compatible}
 use Rattle.gp_history.proofs.Bound.{join_is_least, join_is_history, join_grows}
+use Rattle.gp_command.proofs.Truth.{iff_true}
 
 -- what a join with k behind it is, by what k is
 pub record JoinOf (b k j : History) : Type 0 where

@@ -9,13 +9,14 @@ use Rattle.gp_command.specs.Conflict.{same}
 use Rattle.gp_command.proofs.ConflictLemmas.{same-true}
 use Rattle.gp_history.specs.History.{History, IsHistory, IsPrefix, has, before, push, pushes}
 use Rattle.gp_history.specs.Sequence.{history_of, place}
-use Rattle.gp_history.proofs.Tests.{In, both, fst_of, snd_of, left_of, right_of, one_of, iff_true, not_true, by_cases, never, different}
+use Rattle.gp_history.proofs.Tests.{In, both, fst_of, snd_of, left_of, right_of, one_of, not_true, by_cases, never, different}
 use Rattle.gp_history.proofs.Sets.{same_history, has_history_of}
 use Rattle.gp_history.proofs.Push.{has-push, push_last, before_history_of}
 use Rattle.gp_history.proofs.Joins.{history_of_is, history_of-push, history_of-append}
 use Rattle.gp_history.proofs.Bound.{pushed_extends}
 use Rattle.gp_history.proofs.Places.{take_next}
 use Rattle.gp_history.proofs.Pushing.{pushed_sequence}
+use Rattle.gp_command.proofs.Truth.{iff_true}
 use Rattle.gp_epoch.specs.Cut.{first_checkpoint, cut_at, cut}
 use Rattle.gp_epoch.proofs.Checkpoints.{is_checkpoint, checkpoint_conflicts, found_in, found_first, none_found, found_is_first, first_is_found}
 use Rattle.gp_epoch.proofs.Cuts.{has-cut_at, before-cut_at, cut_is, cut_above}

@@ -1,11 +1,12 @@
 -- The bounds of all histories.
 use Rattle.std.proofs.Common.{◌≡◌, true, not, ◌&&◌, ◌||◌, List, [], ◌∷◌, ◌++◌, sym, ap, subst, ◌∙◌}
 use Rattle.gp_command.specs.declared.command.Command.{Command}
+use Rattle.gp_command.proofs.Truth.{iff_true}
 use Rattle.gp_history.specs.History.{History, IsHistory, IsPrefix, has, before, leads, empty, push, pushes}
 use Rattle.gp_history.specs.Sequence.{history_of}
 use Rattle.gp_history.specs.Canonical.{canonical}
 use Rattle.gp_history.specs.Bounds.{IsCompatible, IsLeastUpperBound, IsGreatestLowerBound, join, meet}
-use Rattle.gp_history.proofs.Tests.{both, fst_of, snd_of, left_of, iff_true, not_true, never}
+use Rattle.gp_history.proofs.Tests.{both, fst_of, snd_of, left_of, not_true, never}
 use Rattle.gp_history.proofs.Sets.{same_history, has_history_of}
 use Rattle.gp_history.proofs.Prefix.{prefix_refl, prefix_trans, prefix_antisymm}
 use Rattle.gp_history.proofs.Push.{Within, Joins, prefix_push}

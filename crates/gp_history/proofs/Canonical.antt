@@ -9,10 +9,11 @@ use Rattle.gp_command.specs.declared.command.Command.{Command}
 use Rattle.gp_command.specs.Order.{command_cmp}
 use Rattle.gp_command.specs.Conflict.{same, conflict}
 use Rattle.gp_command.proofs.ConflictLemmas.{same-true, same_itself, conflict_symm, conflict_itself}
+use Rattle.gp_command.proofs.Truth.{iff_true}
 use Rattle.gp_history.specs.History.{History, IsHistory, IsPrefix, has, before, push, empty}
 use Rattle.gp_history.specs.Sequence.{history_of, place}
 use Rattle.gp_history.specs.Canonical.{is_ready, lesser, least, next_least, and_next, least_first, canonical}
-use Rattle.gp_history.proofs.Tests.{In, both, fst_of, snd_of, left_of, right_of, one_of, iff_true, not_true, by_cases, never, all_gives, all_from}
+use Rattle.gp_history.proofs.Tests.{In, both, fst_of, snd_of, left_of, right_of, one_of, not_true, by_cases, never, all_gives, all_from}
 use Rattle.gp_history.proofs.Sets.{has_history_of}
 use Rattle.gp_history.proofs.Prefix.{prefix_antisymm}
 use Rattle.gp_history.proofs.Push.{Within, has-push, push_old, push_last, push_within}

@@ -8,9 +8,10 @@ use Rattle.gp_command.specs.declared.command.Command.{Command}
 use Rattle.gp_command.specs.Order.{command_cmp}
 use Rattle.gp_command.specs.Conflict.{same, conflict}
 use Rattle.gp_command.proofs.ConflictLemmas.{same_itself, same-true, conflict_itself, conflict_symm}
+use Rattle.gp_command.proofs.Truth.{iff_true}
 use Rattle.gp_history.specs.History.{History, IsHistory, has, before, leads, pair_cmp, empty, push, pushes}
 use Rattle.gp_history.specs.Sequence.{history_of, place}
-use Rattle.gp_history.proofs.Tests.{In, both, fst_of, snd_of, left_of, right_of, one_of, iff_true, not_true, by_cases, never}
+use Rattle.gp_history.proofs.Tests.{In, both, fst_of, snd_of, left_of, right_of, one_of, not_true, by_cases, never}
 use Rattle.gp_history.proofs.Sets.{same_history, has_history_of}
 use Rattle.gp_history.proofs.Push.{Within, Joins, has-push, push_old, push_last, push_within, before_history_of, before_first, none_first, before_rest}
 
@@ -29,7 +30,7 @@ history_within xs c d r =
     )
 
 -- outside the commands there are no pairs
-outside : (h : History) → Within h → (x y : Command) → has h x ≡ false → before h x y ≡ false
+pub outside : (h : History) → Within h → (x y : Command) → has h x ≡ false → before h x y ≡ false
 outside h w x y e = not_true (before h x y) (λ r. never (has h x) (w x y r).0 e)
 
 pub joins : (ys : List Command) (h : History) → Within h → Joins h ys (pushes h ys)
@@ -99,7 +100,7 @@ history_of-pushes xs =
     (λ c. has_history_of xs c ∙ ap (λ b. b || list_any (same c) xs) (sym (empty_none c)) ∙ sym (r.commands c))
     (λ c d. sym (r.fresh c d (empty_none c) (empty_none d)))
 
-pushes-append : (h : History) (xs ys : List Command) → pushes h (xs ++ ys) ≡ pushes (pushes h xs) ys
+pub pushes-append : (h : History) (xs ys : List Command) → pushes h (xs ++ ys) ≡ pushes (pushes h xs) ys
 pushes-append h [] ys = refl
 pushes-append h (x ∷ xs) ys = pushes-append (push h x) xs ys
 

@@ -13,10 +13,11 @@ use Rattle.gp_command.specs.Order.{command_cmp, command_cmp_total}
 use Rattle.gp_command.proofs.Ties.{tied_command}
 use Rattle.gp_command.specs.Conflict.{same}
 use Rattle.gp_command.proofs.ConflictLemmas.{same-true}
+use Rattle.gp_command.proofs.Truth.{iff_true}
 use Rattle.gp_history.specs.History.{History, IsPrefix, has, before}
 use Rattle.gp_history.specs.Sequence.{history_of}
 use Rattle.gp_history.specs.Canonical.{is_ready, lesser, least, next_least}
-use Rattle.gp_history.proofs.Tests.{In, fst_of, one_of, iff_true, by_cases, all_gives, all_from, any-append}
+use Rattle.gp_history.proofs.Tests.{In, fst_of, one_of, by_cases, all_gives, all_from, any-append}
 use Rattle.gp_history.proofs.Sets.{has_history_of}
 use Rattle.gp_history.proofs.Joins.{history_of_is, history_within}
 use Rattle.gp_history.proofs.Meet.{in_filter, from_filter, in_items}

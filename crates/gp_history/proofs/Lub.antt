@@ -4,10 +4,11 @@ use Rattle.std.specs.List.{list_any}
 use Rattle.gp_command.specs.declared.command.Command.{Command}
 use Rattle.gp_command.specs.Conflict.{same, conflict}
 use Rattle.gp_command.proofs.ConflictLemmas.{conflict_symm}
+use Rattle.gp_command.proofs.Truth.{iff_true}
 use Rattle.gp_history.specs.History.{History, IsHistory, IsPrefix, has, before, pushes}
 use Rattle.gp_history.specs.Sequence.{history_of}
 use Rattle.gp_history.specs.Bounds.{IsCompatible, IsLeastUpperBound}
-use Rattle.gp_history.proofs.Tests.{In, left_of, right_of, one_of, iff_true, not_true, by_cases, never}
+use Rattle.gp_history.proofs.Tests.{In, left_of, right_of, one_of, not_true, by_cases, never}
 use Rattle.gp_history.proofs.Sets.{has_history_of}
 use Rattle.gp_history.proofs.Push.{Joins}
 use Rattle.gp_history.proofs.Joins.{joins, history_of_is}

@@ -56,7 +56,7 @@ joined_is_least (h ∷ hs) u wu ws a b =
       least = λ v p q. rest.least v (one.least v p (q h (first_in h hs))) (λ k c. q k (later_in h k hs c));
     }
 
-empty_below : (h : History) → IsPrefix empty h
+pub empty_below : (h : History) → IsPrefix empty h
 empty_below h = record {
   commands = λ c p. never (has empty c) p (empty_none c);
   pairs = λ c d p q. never (has empty c) p (empty_none c);

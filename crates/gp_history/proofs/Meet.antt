@@ -8,9 +8,10 @@ use Rattle.gp_command.specs.declared.command.Command.{Command}
 use Rattle.gp_command.proofs.Ties.{tied_command}
 use Rattle.gp_command.specs.Conflict.{same}
 use Rattle.gp_command.proofs.ConflictLemmas.{same-true}
+use Rattle.gp_command.proofs.Truth.{iff_true}
 use Rattle.gp_history.specs.History.{History, IsPrefix, has, before}
 use Rattle.gp_history.specs.Bounds.{IsCompatible, sublists, is_shared, in_meet, meet}
-use Rattle.gp_history.proofs.Tests.{In, both, fst_of, snd_of, left_of, right_of, one_of, iff_true, by_cases, all_gives, all_from, any-append, any-map}
+use Rattle.gp_history.proofs.Tests.{In, both, fst_of, snd_of, left_of, right_of, one_of, by_cases, all_gives, all_from, any-append, any-map}
 use Rattle.gp_history.proofs.Sets.{has-ordered_by, before-ordered_by}
 use Rattle.gp_history.proofs.Push.{Within}
 
@@ -18,7 +19,7 @@ any_more : {X : Type 0} (f g : X → Bool) (xs : List X) → ((x : X) → f x �
 any_more f g [] h t = t
 any_more f g (x ∷ xs) h t = one_of (f x) (list_any f xs) t (λ p. left_of (g x) (list_any g xs) (h x p)) (λ m. right_of (g x) (list_any g xs) (any_more f g xs h m))
 
-any_one : {X : Type 0} (f : X → Bool) (xs : List X) {P : Type 0} → list_any f xs ≡ true → ((x : X) → f x ≡ true → P) → P
+pub any_one : {X : Type 0} (f : X → Bool) (xs : List X) {P : Type 0} → list_any f xs ≡ true → ((x : X) → f x ≡ true → P) → P
 any_one f [] t h = absurd (true≢false (sym t))
 any_one f (x ∷ xs) t h = one_of (f x) (list_any f xs) t (h x) (λ m. any_one f xs m h)
 

@@ -8,11 +8,12 @@ use Rattle.std.proofs.lemmas.Option.{get_or_from_slice_get, slice_get_within}
 use Rattle.gp_command.specs.declared.command.Command.{Command}
 use Rattle.gp_command.specs.Conflict.{same, conflict}
 use Rattle.gp_command.proofs.ConflictLemmas.{same-true, same_itself}
+use Rattle.gp_command.proofs.Truth.{iff_true}
 use Rattle.gp_history.specs.History.{History, has, before}
 use Rattle.gp_history.specs.Sequence.{history_of, no_repeat, place}
 use Rattle.gp_history.specs.Sequence.{place_in}
 use Rattle.gp_history.specs.Walks.{behind, fits}
-use Rattle.gp_history.proofs.Tests.{In, both, fst_of, snd_of, left_of, right_of, one_of, iff_true, not_true, by_cases, never, all_gives, all_from}
+use Rattle.gp_history.proofs.Tests.{In, both, fst_of, snd_of, left_of, right_of, one_of, not_true, by_cases, never, all_gives, all_from}
 use Rattle.gp_history.proofs.Sets.{has_history_of}
 use Rattle.gp_history.proofs.Push.{before_history_of}
 use Rattle.gp_history.proofs.Joins.{history_within, later}

@@ -8,9 +8,10 @@ use Rattle.gp_command.specs.declared.command.Command.{Command}
 use Rattle.gp_command.specs.Order.{command_cmp, command_cmp_total}
 use Rattle.gp_command.specs.Conflict.{same, conflict}
 use Rattle.gp_command.proofs.ConflictLemmas.{same_itself, same-true}
+use Rattle.gp_command.proofs.Truth.{iff_true}
 use Rattle.gp_history.specs.History.{History, IsHistory, IsPrefix, has, before, ordered_by, push}
 use Rattle.gp_history.specs.Sequence.{history_of, place}
-use Rattle.gp_history.proofs.Tests.{In, both, fst_of, snd_of, left_of, right_of, one_of, iff_true, not_true, by_cases, never}
+use Rattle.gp_history.proofs.Tests.{In, both, fst_of, snd_of, left_of, right_of, one_of, not_true, by_cases, never}
 use Rattle.gp_history.proofs.Sets.{has-ordered_by, before-ordered_by}
 
 -- pairs stand between commands of the history, and conflict

@@ -10,7 +10,7 @@ use Rattle.gp_history.specs.Sequence.{history_of, no_repeat}
 use Rattle.gp_history.proofs.Tests.{both, fst_of, snd_of, any-append}
 use Rattle.gp_history.proofs.Sets.{has_history_of}
 
-or_neither : (a b : Bool) → (a || b) ≡ false → (a ≡ false) × (b ≡ false)
+pub or_neither : (a b : Bool) → (a || b) ≡ false → (a ≡ false) × (b ≡ false)
 or_neither true b h = absurd (true≢false h)
 or_neither false b h = (refl, h)
 

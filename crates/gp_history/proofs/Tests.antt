@@ -32,12 +32,6 @@ pub one_of : (a b : Bool) {P : Type 0} → (a || b) ≡ true → (a ≡ true →
 one_of true b h f g = f refl
 one_of false b h f g = g h
 
-pub iff_true : (a b : Bool) → (a ≡ true → b ≡ true) → (b ≡ true → a ≡ true) → a ≡ b
-iff_true true true f g = refl
-iff_true true false f g = sym (f refl)
-iff_true false true f g = g refl
-iff_true false false f g = refl
-
 pub not_true : (a : Bool) → (a ≡ true → ⊥) → a ≡ false
 not_true true f = absurd (f refl)
 not_true false f = refl

@@ -9,7 +9,7 @@ use Rattle.gp_history.specs.History.{History}
 use Rattle.gp_history.specs.Sequence.{history_of}
 use Rattle.gp_history.specs.Canonical.{next_least, and_next, least_first, canonical}
 
-length_push : (xs : List Command) (c : Command) → length (xs ++ c ∷ []) ≡ suc (length xs)
+pub length_push : (xs : List Command) (c : Command) → length (xs ++ c ∷ []) ≡ suc (length xs)
 length_push [] c = refl
 length_push (x ∷ xs) c = ap suc (length_push xs c)
 

@@ -8,10 +8,11 @@ use Rattle.gp_command.specs.Conflict.{same, conflict, touches_clash}
 use Rattle.gp_command.proofs.ConflictLemmas.{same_itself, same_symm, same-true}
 use Rattle.gp_history.specs.History.{IsPrefix, has, before}
 use Rattle.gp_history.specs.Sequence.{history_of, no_repeat}
-use Rattle.gp_history.proofs.Tests.{In, left_of, right_of, one_of, iff_true, not_true, by_cases, never, any-append}
+use Rattle.gp_history.proofs.Tests.{In, left_of, right_of, one_of, not_true, by_cases, never, any-append}
 use Rattle.gp_history.proofs.Sets.{has_history_of, same_history}
 use Rattle.gp_history.proofs.Push.{Joins}
 use Rattle.gp_history.proofs.Joins.{history_within}
+use Rattle.gp_command.proofs.Truth.{iff_true}
 use Rattle.gp_index.specs.Epochs.{checkpoints, epoch_start, epoch, behind_epochs, IsCutPrefix}
 use Rattle.gp_index.proofs.Parted.{apart, first_part, no_repeat_rest, joined_parts, rests, wholes}
 

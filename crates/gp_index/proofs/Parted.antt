@@ -10,7 +10,7 @@ use Rattle.gp_history.specs.History.{History, IsPrefix, has, before}
 use Rattle.gp_history.specs.Sequence.{history_of, no_repeat}
 use Rattle.gp_history.proofs.Tests.{In, fst_of, snd_of, left_of, right_of, one_of, not_true, by_cases, never, any-append, turned_false}
 use Rattle.gp_history.proofs.Sets.{has_history_of}
-use Rattle.gp_history.proofs.Push.{Within, Joins}
+use Rattle.gp_history.proofs.Push.{Joins}
 use Rattle.gp_history.proofs.Joins.{history_within, joins, history_of-append}
 
 pub apart : (u v : List Command) → no_repeat (u ++ v) ≡ true → (c : Command) → In u c → In v c → ⊥
@@ -41,9 +41,6 @@ no_repeat_take xs n d = first_part (take n xs) (drop n xs) (ap no_repeat (take-a
 
 pub joined_parts : (u v : List Command) → Joins (history_of u) v (history_of (u ++ v))
 joined_parts u v = subst (Joins (history_of u) v) (sym (history_of-append u v)) (joins v (history_of u) (history_within u))
-
-pub outside : (h : History) → Within h → (x y : Command) → has h x ≡ false → before h x y ≡ false
-outside h w x y e = not_true (before h x y) (λ r. never (has h x) (w x y r).0 e)
 
 pub lacks : (u v : List Command) → no_repeat (u ++ v) ≡ true → (c : Command) → In v c → has (history_of u) c ≡ false
 lacks u v n c i = not_true (has (history_of u) c) (λ t. apart u v n c (sym (has_history_of u c) ∙ t) i)

@@ -11,12 +11,12 @@ use Rattle.gp_history.proofs.Prefix.{prefix_refl}
 use Rattle.gp_epoch.specs.Cut.{first_checkpoint}
 use Rattle.gp_epoch.proofs.Checkpoints.{found_is_first}
 use Rattle.gp_epoch.proofs.Joining.{join_again}
-use Rattle.gp_learner.proofs.Learning.{join_nothing}
+use Rattle.gp_bounds.proofs.Rejoining.{join_nothing}
 
 abbrev Fits : History → History → Type 0
 Fits learned part = (first_checkpoint part ≡ None) × (join learned part ≡ learned)
 
-nothing_marked : first_checkpoint empty ≡ None
+pub nothing_marked : first_checkpoint empty ≡ None
 nothing_marked = by_option (first_checkpoint empty) refl where
   by_option : (o : Option Command) → first_checkpoint empty ≡ o → first_checkpoint empty ≡ None
   by_option None e = e

@@ -18,7 +18,6 @@ use Rattle.gp_script.specs.declared.items.Item.{Item}
 use Rattle.gp_script.specs.declared.items.Item.TheVariants as item
 use Rattle.gp_script.specs.Forms.{Form, NodesLine, OfferLine, BeginLine, TakeLine, FallLine, ShowLine, form_of}
 use Rattle.gp_script.specs.Items.{item_of}
-use Rattle.gp_script.proofs.Steps.{step_says}
 use Rattle.gp_script.proofs.ItemLemmas.{item_read}
 use Rattle.gp_text.specs.declared.limits.TheConstants as play
 use Rattle.gp_text.specs.Reading.{Whole, Refused, Sofar, Shown, messages_after, is_offer, lacks_kept, is_passed, holds_limit, nodes_line, add_event, add_item, item_in, reading_from, reading}
@@ -27,13 +26,15 @@ use Rattle.gp_text.proofs.EventSteps.{count_more}
 use Rattle.gp_text.proofs.TraceLines.{with_event}
 use Rattle.gp_text.proofs.LineSteps.{reading_opens, reading_from_end, reading_from_too_long, reading_from_passed, reading_from_goes, reading_from_refused}
 use Rattle.gp_text.proofs.LineSteps.{follow_end as play_end, follow_too_long as play_too_long, follow_goes as play_goes, follow_refused as play_refused}
+use Rattle.gp_store.proofs.ReadingLemmas.{bound}
+use Rattle.gp_text.proofs.SaidLegally.{test_else}
 use Rattle.gp_offers.specs.declared.script.Offers.{Offers}
 use Rattle.gp_offers.specs.declared.limits.TheConstants.{MOST_OFFERS}
 use Rattle.gp_offers.specs.Offering.{Offer, Offered, offer_by, offer_line, with_offer, table_line, after_line, follow, offers_reading}
 use Rattle.gp_offers.specs.Offered.{offer_events, offers_alone}
 use Rattle.gp_offers.proofs.OfferSteps.{follow_end, follow_goes}
 use Rattle.gp_offers.proofs.OfferSteps.{reading_opens as offers_open}
-use Rattle.gp_offers.proofs.SaidOffers.{test_else, offer_item, with_one}
+use Rattle.gp_offers.proofs.SaidOffers.{offer_item, with_one}
 use Rattle.gp_offers.proofs.PlayedAlone.{events_more}
 
 -- ---- offers and other events
@@ -125,7 +126,7 @@ next_cases : (config : Counts) (sofar next : Sofar) (text : List ℕ) (passed : 
 unfolding play_table_line
 next_cases config sofar next text true is e = PassedOver is cc
 next_cases config sofar next text false is e =
-    let s = step_says (item_in store_language config text) (λ said. add_item config sofar said) next e in
+    let s = bound (item_in store_language config text) (λ said. add_item config sofar said) next e in
     SaysItem s.0 is s.1 (item_adds config sofar next s.0 s.2)
 
 line_next : (config : Counts) (sofar next : Sofar) (text : List ℕ) → play_line store_language config sofar text ≡ Ok next → IsNext config sofar next text
@@ -179,7 +180,7 @@ form_again config (ShowLine node) offer e = let read = item_read store_language 
 line_again : (config : Counts) (text : List ℕ) (offer : Offer) → item_in store_language config text ≡ Ok (offer_item offer) → offer_line config text ≡ Ok offer
 unfolding item_in offer_line
 line_again config text offer e =
-    let s = step_says (ok_or (form_of (tokens_of text)) BadLine) (item_of store_language config) (offer_item offer) e in rw s.1 (form_again config s.0 offer s.2)
+    let s = bound (ok_or (form_of (tokens_of text)) BadLine) (item_of store_language config) (offer_item offer) e in rw s.1 (form_again config s.0 offer s.2)
 
 passed_again : (offers : Offers) (text : List ℕ) → is_passed text ≡ true → after_line (Some offers) text ≡ Ok (Some offers)
 unfolding after_line

@@ -1,8 +1,8 @@
 -- What is right to offer has a script of `run` that says it.
-use Rattle.std.proofs.Common.{◌≡◌, List, [], ◌∷◌, ◌++◌, sym, ap, subst, ◌∙◌, append_assoc, arith}
+use Rattle.std.proofs.Common.{◌≡◌, List, [], ◌∷◌, sym, ap, subst, ◌∙◌, arith}
 use Rattle.std.specs.List.{All}
 use Rattle.std.proofs.lemmas.Bool.{lt-ltb}
-use Rattle.std.proofs.lemmas.List.{append-nil, length-map}
+use Rattle.std.proofs.lemmas.List.{length-map}
 use Rattle.std.proofs.lemmas.List.Elements.{All-head, All-tail, All-weaker, All-map}
 use Rattle.std.proofs.lemmas.List.Sums.{count_by-le-length}
 use Rattle.gp_round.specs.Counts.{Counts}
@@ -10,14 +10,14 @@ use Rattle.gp_msg.specs.declared.event.Event.{Event}
 use Rattle.gp_msg.specs.declared.event.Event.TheVariants as event
 use Rattle.gp_msg.specs.Messages.{Entry}
 use Rattle.gp_run.specs.Legal.{Legal}
-use Rattle.gp_run.specs.Runs.{entry_after, run_onto, run_of, AllFit, oldest_first}
-use Rattle.gp_run.proofs.Running.{legal_run, events-cons}
+use Rattle.gp_run.specs.Runs.{entry_after, run_of, AllFit, oldest_first}
+use Rattle.gp_run.proofs.Running.{legal_run}
 use Rattle.gp_service.specs.Stores.{store_language}
 use Rattle.gp_service.specs.StoreLaws.{store_spelled}
 use Rattle.gp_text.specs.Reading.{Whole, is_offer, reading}
 use Rattle.gp_text.specs.Limits.{IsOfOperation, IsWithinScript}
 use Rattle.gp_text.specs.Traces.{trace}
-use Rattle.gp_text.proofs.TraceReading.{trace_read}
+use Rattle.gp_text.proofs.TraceReading.{trace_read, events-run_onto}
 use Rattle.gp_offers.specs.declared.script.Offers.{Offers}
 use Rattle.gp_offers.specs.Offering.{Offer, Offered, offers_reading}
 use Rattle.gp_offers.specs.Offered.{IsOffer, AreOffered, offer_events}
@@ -28,14 +28,6 @@ offers_fit c es [] all = tt
 offers_fit c es (offer ∷ offers) all =
     let first = All-head IsOffer offer offers all in
     (lt-ltb offer.0 8 first.0, offers_fit c (entry_after c es (event.Offer offer.0 offer.1) ∷ es) offers (All-tail IsOffer offer offers all))
-
--- the events of the run of some events are these
-events-run_onto : (c : Counts) (es : List Entry) (events : List Event) → oldest_first (run_onto c es events) ≡ oldest_first es ++ events
-events-run_onto c es [] = sym (append-nil (oldest_first es))
-events-run_onto c es (event ∷ events) =
-    events-run_onto c (entry_after c es event ∷ es) events
-    ∙ ap (λ xs. xs ++ events) (events-cons (entry_after c es event) es)
-    ∙ append_assoc (oldest_first es) (event ∷ []) events
 
 offers_within : (offers : Offers) → AreOffered offers → IsWithinScript store_language (offer_events offers.list)
 offers_within offers a =

@@ -1,5 +1,5 @@
 -- What the lines of a script of `run` say is offered.
-use Rattle.std.proofs.Common.{◌≡◌, ℕ, ◌<◌, Bool, true, false, cond, List, [], ◌∷◌, ◌++◌, length, Option, Some, None, Result, Ok, Err, refl, ap, subst, ◌∙◌, arith}
+use Rattle.std.proofs.Common.{◌≡◌, ℕ, ◌<◌, Bool, true, false, cond, List, [], ◌∷◌, ◌++◌, length, Option, Some, None, Ok, refl, ap, subst, ◌∙◌, arith}
 use Rattle.std.specs.Prelude.{nat_le}
 use Rattle.std.specs.Option.{ok_or}
 use Rattle.std.proofs.lemmas.Bool.{leb-false}
@@ -15,19 +15,16 @@ use Rattle.gp_script.specs.declared.items.Item.{Item}
 use Rattle.gp_script.specs.declared.items.Item.TheVariants as item
 use Rattle.gp_script.specs.Forms.{Form, NodesLine, OfferLine, BeginLine, TakeLine, FallLine, ShowLine, form_of}
 use Rattle.gp_script.specs.Items.{item_of, counts_of}
-use Rattle.gp_script.proofs.Steps.{step_says, test_then}
+use Rattle.gp_script.proofs.Steps.{test_then}
 use Rattle.gp_script.proofs.ItemLemmas.{item_admitted}
 use Rattle.gp_script.proofs.CountsLemmas.{counts_in_range}
 use Rattle.gp_text.specs.Reading.{is_passed, is_nodes, nodes_line, item_in}
+use Rattle.gp_store.proofs.ReadingLemmas.{bound}
+use Rattle.gp_text.proofs.SaidLegally.{test_else}
 use Rattle.gp_offers.specs.declared.script.Offers.{Offers}
 use Rattle.gp_offers.specs.declared.limits.TheConstants.{MOST_OFFERS}
 use Rattle.gp_offers.specs.Offering.{Offer, offer_in, offer_by, offer_line, with_offer, table_line, after_line}
 use Rattle.gp_offers.specs.Offered.{IsOffer, AreOffered}
-
--- the test was not passed, and the answer is that of the step behind it
-pub test_else : {A E : Type 0} (b : Bool) (fault : E) (step : Result A E) (y : A) → cond b (Err fault) step ≡ Ok y → (b ≡ false) × (step ≡ Ok y)
-test_else true fault step y e = absurd cc
-test_else false fault step y e = (refl, e)
 
 -- ---- one offer
 
@@ -45,7 +42,7 @@ item_offers (item.Show learner) offer e = absurd cc
 form_offers : (config : Counts) (form : Form) (offer : Offer) → offer_by config form ≡ Ok offer → item_of store_language config form ≡ Ok (offer_item offer)
 form_offers config (NodesLine a c l) offer e = absurd cc
 form_offers config (OfferLine node words) offer e =
-    let s = step_says (item_of store_language config (OfferLine node words)) offer_in offer e in s.1 ∙ ap Ok (item_offers s.0 offer s.2)
+    let s = bound (item_of store_language config (OfferLine node words)) offer_in offer e in s.1 ∙ ap Ok (item_offers s.0 offer s.2)
 form_offers config (BeginLine node count mode) offer e = absurd cc
 form_offers config (TakeLine node message) offer e = absurd cc
 form_offers config (FallLine node what) offer e = absurd cc
@@ -55,13 +52,13 @@ form_offers config (ShowLine node) offer e = absurd cc
 pub line_offers : (config : Counts) (text : List ℕ) (offer : Offer) → offer_line config text ≡ Ok offer → item_in store_language config text ≡ Ok (offer_item offer)
 unfolding offer_line item_in
 line_offers config text offer e =
-    let s = step_says (ok_or (form_of (tokens_of text)) BadLine) (offer_by config) offer e in rw s.1 (form_offers config s.0 offer s.2)
+    let s = bound (ok_or (form_of (tokens_of text)) BadLine) (offer_by config) offer e in rw s.1 (form_offers config s.0 offer s.2)
 
 -- and its proposer and draft are right
 line_right : (config : Counts) (text : List ℕ) (offer : Offer) → offer_line config text ≡ Ok offer → IsOffer offer
 unfolding offer_line
 line_right config text offer e =
-    let s = step_says (ok_or (form_of (tokens_of text)) BadLine) (offer_by config) offer e in
+    let s = bound (ok_or (form_of (tokens_of text)) BadLine) (offer_by config) offer e in
     item_admitted store_language store_spelled config s.0 (offer_item offer) (form_offers config s.0 offer s.2)
 
 abbrev pub with_one : Offers → Offer → Offers
@@ -84,7 +81,7 @@ pub data IsMore (offers : Offers) (text : List ℕ) : Option Offers → Type 0 w
 table_more : (offers next : Offers) (text : List ℕ) → is_passed text ≡ false → table_line (Some offers) text ≡ Ok next → IsMore offers text (Some next)
 unfolding table_line
 table_more offers next text passed e =
-    let s = step_says (offer_line offers.config text) (with_offer offers) next e in
+    let s = bound (offer_line offers.config text) (with_offer offers) next e in
     let room = room_for offers next s.0 s.2 in
     subst (λ (o : Offers). IsMore offers text (Some o)) room.1 (Said s.0 passed s.1 room.0)
 
@@ -92,7 +89,7 @@ more_cases : (offers : Offers) (more : Option Offers) (text : List ℕ) (passed 
     → cond passed (Ok (Some offers)) (table_line (Some offers) text >>= (λ next. Ok (Some next))) ≡ Ok more → IsMore offers text more
 more_cases offers more text true is e = let same : Some offers ≡ more = cc in subst (IsMore offers text) same (Passed is)
 more_cases offers more text false is e =
-    let s = step_says (table_line (Some offers) text) (λ next. Ok (Some next)) more e in
+    let s = bound (table_line (Some offers) text) (λ next. Ok (Some next)) more e in
     let same : Some s.0 ≡ more = cc in
     subst (IsMore offers text) same (table_more offers s.0 text is s.1)
 
@@ -108,7 +105,7 @@ pub data IsFirst (text : List ℕ) : Option Offers → Type 0 where
 table_first : (next : Offers) (text : List ℕ) → is_passed text ≡ false → table_line None text ≡ Ok next → IsFirst text (Some next)
 unfolding table_line
 table_first next text passed e =
-    let s = step_says (nodes_line text) (λ config. Ok (record { config = config; list = [] })) next e in
+    let s = bound (nodes_line text) (λ config. Ok (record { config = config; list = [] })) next e in
     let same : record { config = s.0; list = [] } ≡ next = cc in
     subst (λ (o : Offers). IsFirst text (Some o)) same (Says s.0 passed s.1)
 
@@ -116,7 +113,7 @@ first_cases : (more : Option Offers) (text : List ℕ) (passed : Bool) → is_pa
     → cond passed (Ok None) (table_line None text >>= (λ next. Ok (Some next))) ≡ Ok more → IsFirst text more
 first_cases more text true is e = let same : None ≡ more = cc in subst (IsFirst text) same (Before is)
 first_cases more text false is e =
-    let s = step_says (table_line None text) (λ next. Ok (Some next)) more e in
+    let s = bound (table_line None text) (λ next. Ok (Some next)) more e in
     let same : Some s.0 ≡ more = cc in
     subst (IsFirst text) same (table_first s.0 text is s.1)
 
@@ -139,5 +136,5 @@ pub none_offered : (config : Counts) (text : List ℕ) → nodes_line text ≡ O
 unfolding nodes_line
 none_offered config text e =
     let t = test_then (is_nodes (tokens_of text)) (ok_or (form_of (tokens_of text)) BadLine >>= counts_of) config NoNodesLine e in
-    let s = step_says (ok_or (form_of (tokens_of text)) BadLine) counts_of config t.1 in
+    let s = bound (ok_or (form_of (tokens_of text)) BadLine) counts_of config t.1 in
     record { range = counts_in_range s.0 config s.2; few = omega arith; each = All-nil IsOffer }

@@ -5,12 +5,9 @@ use Rattle.std.proofs.lemmas.Bool.{cases_Bool, ltb-true, ltb-false, eq-eqb, ne_e
 use Rattle.std.proofs.Math.Nat.{div-div-eq-div-mul, div-one, pow-succ'}
 use Rattle.gp_round.specs.Sets.{members, bit, masks}
 use Rattle.gp_round.proofs.Masks.{subset_is}
+use Rattle.gp_round.proofs.Counting.{left_true}
 
 -- ---- a smaller set within a set
-
-left_true : (a b : Bool) → (a && b) ≡ true → a ≡ true
-left_true true b e = refl
-left_true false b e = absurd cc
 
 -- the first k members of p
 abbrev first_members : (ℕ → Bool) → ℕ → ℕ → Bool

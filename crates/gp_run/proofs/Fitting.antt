@@ -9,8 +9,8 @@ use Rattle.gp_msg.specs.declared.event.Event.{Event}
 use Rattle.gp_msg.specs.declared.event.Event.TheVariants.{Offer, Begin, Take, Fall}
 use Rattle.gp_msg.specs.declared.event.Kept.TheVariants as kept
 use Rattle.gp_msg.specs.Nodes.{node_of, is_present, fits_among}
+use Rattle.gp_round.proofs.Counting.{left_true, right_true}
 use Rattle.gp_run.specs.Refusals.{Refusal, refusal_among, unless_owner, bad_round_or}
-use Rattle.gp_run.proofs.Choices.{left_true, right_true}
 
 -- the node is there, and nothing else refuses
 present : (b : Bool) (x : Refusal) (o : Option Refusal) → is_none (cond (not b) (Some x) o) ≡ (b && is_none o)

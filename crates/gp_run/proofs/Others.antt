@@ -19,17 +19,17 @@ use Rattle.gp_acceptor.specs.Epochs.{AcceptorInEpoch}
 use Rattle.gp_acceptor.specs.Epochs as acceptor
 use Rattle.gp_learner.specs.Epochs.{LearnerInEpoch}
 use Rattle.gp_learner.specs.Epochs as learner
+use Rattle.gp_round.proofs.Counting.{left_true, right_true}
 use Rattle.gp_run.specs.Messages.{messages, on_message}
 use Rattle.gp_msg.specs.Nodes.{node_of, is_present, may_keep, fits_among}
 use Rattle.gp_run.specs.States.{proposer_acts, proposer_at, coordinator_acts, coordinator_at, coordinator_kept, acceptor_acts, acceptor_at, acceptor_kept, learner_acts, learner_at}
 use Rattle.gp_run.specs.Legal.{Follows, fits, sent_by}
 use Rattle.gp_run.specs.Runs.{AreOfOthers}
-use Rattle.gp_run.proofs.Choices.{left_true, right_true}
 use Rattle.gp_run.proofs.Telling.{messages-append}
 
 -- ---- one event of another node
 
-other : {X : Type 0} (a b : ℕ) (u v : X) → (a ≡ b → ⊥) → cond (nat_eq a b) u v ≡ v
+pub other : {X : Type 0} (a b : ℕ) (u v : X) → (a ≡ b → ⊥) → cond (nat_eq a b) u v ≡ v
 other a b u v n = elim (eqb_tells a b) [ inl t ↦ absurd (n t.1) | inr t ↦ ap (λ x. cond x u v) t.0 ]
 
 pub proposer_rests : (p : ℕ) (s : ProposerState) (event : Event) → node_of event ≢ Proposer p → proposer_acts p s event ≡ (s, None)
@@ -97,7 +97,7 @@ learner_stays config l (e ∷ more) es h =
 
 -- ---- what follows still does
 
-front : {X : Type 0} (xs ys : List X) (k : ℕ) → k < length xs → slice_get (xs ++ ys) k ≡ slice_get xs k
+pub front : {X : Type 0} (xs ys : List X) (k : ℕ) → k < length xs → slice_get (xs ++ ys) k ≡ slice_get xs k
 front [] ys k l = absurd (none l) where
   none : k < 0 → ⊥
   none l = omega (arith, l)
@@ -133,7 +133,7 @@ no_message true s t o = refl
 no_message false s t o = refl
 
 -- a named message that was sent is also among more messages
-named_stands : (config : Counts) (node : Node) (k n : ℕ) → fits_among config n (Take node k) ≡ true → k < n
+pub named_stands : (config : Counts) (node : Node) (k n : ℕ) → fits_among config n (Take node k) ≡ true → k < n
 named_stands config node k n h = ltb-true k n (right_true (is_present config node) (nat_lt k n) h)
 
 coordinator_sends : (config : Counts) (c : ℕ) (s : CoordinatorInEpoch) (ms more : List Stamped) (event : Event) → fits_among config (length ms) event ≡ true → (coordinator_acts c s (ms ++ more) event).1 ≡ (coordinator_acts c s ms event).1

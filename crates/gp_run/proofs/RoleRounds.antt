@@ -21,9 +21,10 @@ use Rattle.gp_acceptor.specs.State.{AcceptorState, nobody}
 use Rattle.gp_acceptor.specs.Table.{raised, holding, counted, with_value, with_vote, value_at, told_vote, next_vote_of, acceptor_take}
 use Rattle.gp_learner.specs.State.{LearnerState, Votes}
 use Rattle.gp_learner.specs.Table.{learner_take, voter_cmp, vote_of, votes_held, votes_with, hearing}
+use Rattle.gp_round.proofs.Counting.{right_true}
 use Rattle.gp_run.specs.TopCount.{message_rounds, reply_rounds, learner_rounds}
 use Rattle.gp_run.proofs.Counting.{AreUpTo, none_up_to, cons_up_to, head_up_to, tail_up_to, set_up_to, earlier_le}
-use Rattle.gp_run.proofs.Choices.{chosen, chosen_where, right_true}
+use Rattle.gp_run.proofs.Choices.{chosen, chosen_where}
 use Rattle.gp_run.proofs.Owning.{replied}
 
 -- the rounds of a message that may be there

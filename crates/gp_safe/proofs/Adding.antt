@@ -17,7 +17,7 @@ use Rattle.gp_history.specs.Bounds.{sublists, is_shared, in_meet, meet, join, jo
 use Rattle.gp_history.proofs.Tests.{In, both, fst_of, snd_of, left_of, right_of, one_of, not_true, all_gives, any-append}
 use Rattle.gp_history.proofs.Sets.{has_history_of, has-ordered_by}
 use Rattle.gp_history.proofs.Canonical.{least_in, in_filtered}
-use Rattle.gp_history.proofs.Meet.{in_items}
+use Rattle.gp_history.proofs.Meet.{in_items, any_one}
 use Rattle.gp_history.proofs.Places.{at_in}
 use Rattle.gp_history.proofs.Pushing.{pushes_there}
 use Rattle.gp_round.specs.Sets.{bit}
@@ -32,10 +32,6 @@ has_from_place xs c = has_history_of xs c ∙ some_if (list_any (same c) xs) whe
   some_if false = refl
 
 -- ---- what a meet has
-
-any_one : {X : Type 0} (f : X → Bool) (xs : List X) {P : Type 0} → list_any f xs ≡ true → ((x : X) → f x ≡ true → P) → P
-any_one f [] t h = absurd (true≢false (sym t))
-any_one f (x ∷ xs) t h = one_of (f x) (list_any f xs) t (h x) (λ m. any_one f xs m h)
 
 in_second : (h k : History) (c : Command) → in_meet h k c ≡ true → has k c ≡ true
 in_second h k c t = any_one (λ s. is_shared h k s && list_any (same c) s) (sublists (set.items h.commands)) t (λ s e.

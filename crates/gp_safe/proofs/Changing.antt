@@ -26,6 +26,7 @@ use Rattle.gp_history.proofs.Meet.{common_in_meet}
 use Rattle.gp_history.proofs.Places.{place_is, in_take, at_in}
 use Rattle.gp_round.specs.Sets.{members, bit, masks}
 use Rattle.gp_round.proofs.Masks.{subset_is}
+use Rattle.gp_index.proofs.Searches.{stands as stands_at_place}
 use Rattle.gp_safe.specs.Meets.{with_one, gathered, if_whole, quorum_meet, add_meet, quorum_meets}
 use Rattle.gp_safe.specs.Held.{value_with}
 use Rattle.gp_safe.specs.News.{all_have, is_new}
@@ -213,12 +214,6 @@ none_step q xs from i c none at f k d a b e = elim (cases_lt k i) [
 
 pub none_from : (q : Command → Bool) (xs : List Command) (from i : ℕ) → ((k : ℕ) (d : Command) → from ≤ k → k < i → slice_get xs k ≡ Some d → q d ≡ false) → length xs ≤ i → NoneFrom q xs from
 none_from q xs from i none le k d a e = none k d a (let l = slice_get_within xs k d e in omega (arith, l, le)) e
-
-stands_at_place : (xs : List Command) (c : Command) → In xs c → slice_get xs (place xs c) ≡ Some c
-stands_at_place [] c i = absurd (true≢false (sym i))
-stands_at_place (x ∷ xs) c i = by_cases (same c x)
-    (λ s. ap (λ n. slice_get (x ∷ xs) n) (ap (λ b. cond b 0 (suc (place xs c))) s) ∙ ap Some (sym (same-true c x s)))
-    (λ s. ap (λ n. slice_get (x ∷ xs) n) (ap (λ b. cond b 0 (suc (place xs c))) s) ∙ stands_at_place xs c (one_of (same c x) (list_any (same c) xs) i (λ t. never (same c x) t s) (λ m. m)))
 
 -- ---- one value changed
 

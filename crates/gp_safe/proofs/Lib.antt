@@ -8,3 +8,4 @@ pub mod CountingQuorums
 pub mod Safety
 pub mod Adding
 pub mod Sharing
+pub mod NoMeets

@@ -10,15 +10,16 @@ use Rattle.gp_words.specs.Spacing.{joined}
 use Rattle.gp_words.specs.Tokens.{tokens_of, has_empty}
 use Rattle.gp_words.proofs.NumberLemmas.{decimal_spaceless, decimal_feedless}
 use Rattle.gp_words.proofs.TokenLemmas.{tokens_split, joined_tokens}
+use Rattle.gp_store.proofs.ReadingLemmas.{bound}
+use Rattle.gp_store.proofs.SpellingLemmas.{value_some}
 use Rattle.gp_script.specs.Names.{count_of}
 use Rattle.gp_script.specs.Forms.{Form, NodesLine, OfferLine, BeginLine, TakeLine, FallLine, ShowLine, form_of}
 use Rattle.gp_script.specs.Items.{counts_of}
 use Rattle.gp_script.specs.Spelling.{nodes_text, SaysCounts}
-use Rattle.gp_script.proofs.Steps.{step_says}
 use Rattle.gp_script.proofs.NameLemmas.{count_says, count_read}
 use Rattle.gp_script.specs.Rows.{HasWords}
 use Rattle.gp_script.proofs.FormLemmas.{form_says, form_read}
-use Rattle.gp_script.proofs.LineLemmas.{number_some, spaced_apart, feedless_apart, length_apart}
+use Rattle.gp_script.proofs.LineLemmas.{spaced_apart, feedless_apart, length_apart}
 
 -- the form of the line that says a configuration
 abbrev pub nodes_line_for : Counts → Form
@@ -35,9 +36,9 @@ pub record IsCounts (form : Form) (c : Counts) : Type 0 where
 pub counts_read : (form : Form) (c : Counts) → counts_of form ≡ Ok c → IsCounts form c
 unfolding counts_of
 counts_read (NodesLine a k l) c e =
-    let (acceptors, is_a, e) = step_says (count_of 3 7 a) _ c e in
-    let (coordinators, is_k, e) = step_says (count_of 1 5 k) _ c e in
-    let (learners, is_l, e) = step_says (count_of 1 4 l) _ c e in
+    let (acceptors, is_a, e) = bound (count_of 3 7 a) _ c e in
+    let (coordinators, is_k, e) = bound (count_of 1 5 k) _ c e in
+    let (learners, is_l, e) = bound (count_of 1 4 l) _ c e in
     let sa = count_says 3 7 a acceptors is_a in
     let sk = count_says 1 5 k coordinators is_k in
     let sl = count_says 1 4 l learners is_l in
@@ -95,7 +96,7 @@ nodes_tokens c range =
     (refl, (decimal_spaceless c.acceptors f.acceptors, (decimal_spaceless c.coordinators f.coordinators, (decimal_spaceless c.learners f.learners, tt))))
 
 nodes_some : (c : Counts) → CountsFit c → has_empty (nodes_words c) ≡ false
-nodes_some c f = rw (number_some c.acceptors f.acceptors, number_some c.coordinators f.coordinators, number_some c.learners f.learners) refl
+nodes_some c f = rw (value_some c.acceptors f.acceptors, value_some c.coordinators f.coordinators, value_some c.learners f.learners) refl
 
 -- the line of a configuration says the configuration
 pub nodes_say : (c : Counts) → AreInRange c.acceptors c.coordinators c.learners → SaysCounts (tokens_of (nodes_text c)) c

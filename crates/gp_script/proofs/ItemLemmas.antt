@@ -17,6 +17,7 @@ use Rattle.gp_words.specs.Tokens.{tokens_of}
 use Rattle.gp_store.specs.declared.form.OpFault.{OpFault}
 use Rattle.gp_service.specs.Languages.{Language, IsLanguage}
 use Rattle.gp_service.proofs.Spoken.{said_spoken}
+use Rattle.gp_store.proofs.ReadingLemmas.{bound}
 use Rattle.gp_script.specs.declared.reason.Reason.TheVariants.{BadLine, BadFall}
 use Rattle.gp_script.specs.declared.items.Item.{Item}
 use Rattle.gp_script.specs.declared.items.Item.TheVariants.{Offer, Begin, Take, Fall, Show}
@@ -26,7 +27,7 @@ use Rattle.gp_script.specs.Forms.{KeptForm, NothingKept, TakeKept, BeginKept, Fo
 use Rattle.gp_script.specs.Items.{round_count, step_in, kept_of, fall_of, offer_of, plain_item_of, item_of}
 use Rattle.gp_script.specs.Admitted.{IsInPlace, IsAdmitted}
 use Rattle.gp_script.specs.Spelling.{node_word}
-use Rattle.gp_script.proofs.Steps.{step_says, test_then, ok_or_says}
+use Rattle.gp_script.proofs.Steps.{test_then, ok_or_says}
 use Rattle.gp_script.proofs.NameLemmas.{number_says, number_read, count_says, count_read, IsNamed, node_says, proposer_says, coordinator_says, learner_says, node_read}
 
 -- the form of the line that says an item
@@ -94,12 +95,12 @@ record IsKeptRead (n : ℕ) (form : KeptForm) (what : Option Kept) : Type 0 wher
 kept_read : (n : ℕ) (form : KeptForm) (what : Option Kept) → kept_of n form ≡ Ok what → IsKeptRead n form what
 kept_read n NothingKept what e = let same : None ≡ what = cc in subst (IsKeptRead n NothingKept) same (record { same = refl; right = tt })
 kept_read n (TakeKept token) what e =
-    let (message, is, e) = step_says (number token) _ what e in
+    let (message, is, e) = bound (number token) _ what e in
     let (written, small) = number_says token message is in
     let same : Some (kept.Take message) ≡ what = cc in
     subst (IsKeptRead n (TakeKept token)) same (record { same = ap TakeKept written; right = small })
 kept_read n (BeginKept token mode) what e =
-    let (count, is, e) = step_says (round_count token) _ what e in
+    let (count, is, e) = bound (round_count token) _ what e in
     let said = count_says 1 1000000 token count is in
     let same : Some (kept.Begin (round_of n count mode)) ≡ what = cc in
     subst (IsKeptRead n (BeginKept token mode)) same (record { same = ap (λ (t : List ℕ). BeginKept t mode) said.written; right = record { least = said.least; most = said.most; made = refl } })
@@ -119,7 +120,7 @@ can_keep c (Learner n) (Some (kept.Begin round)) there may right = absurd cc
 fall_read : (language : Language) (c : Counts) (token : List ℕ) (node : Node) (form : KeptForm) (item : Item) → IsNamed c token node → fall_of node form ≡ Ok item → IsRead language c (FallLine token form) item
 fall_read language c token node form item named e =
     let (may, e) = test_then (may_fall node (step_in form)) _ item BadFall e in
-    let (what, is, e) = step_says (kept_of (node_number node) form) _ item e in
+    let (what, is, e) = bound (kept_of (node_number node) form) _ item e in
     let read = kept_read (node_number node) form what is in
     let same : Fall node what ≡ item = cc in
     subst (IsRead language c (FallLine token form)) same (record {
@@ -130,9 +131,9 @@ fall_read language c token node form item named e =
 offer_read : (language : Language) → IsLanguage language → (c : Counts) (token : List ℕ) (words : List (List ℕ)) (item : Item) → offer_of language c token words ≡ Ok item → IsRead language c (OfferLine token words) item
 unfolding offer_of
 offer_read language spelled c token words item e =
-    let (said, is, e) = step_says (ok_or (language words) BadLine) _ item e in
-    let (proposer, of_node, e) = step_says (proposer_of c token) _ item e in
-    let (draft, of_words, e) = step_says (or_reason said) _ item e in
+    let (said, is, e) = bound (ok_or (language words) BadLine) _ item e in
+    let (proposer, of_node, e) = bound (proposer_of c token) _ item e in
+    let (draft, of_words, e) = bound (or_reason said) _ item e in
     let named = proposer_says c token proposer of_node in
     let says : language words ≡ Some (Ok draft) = ok_or_says (language words) said BadLine is ∙ ap Some (or_reason_says said draft of_words) in
     let same : Offer proposer draft ≡ item = cc in
@@ -147,8 +148,8 @@ unfolding plain_item_of
 item_read language spelled c (NodesLine a k l) item e = absurd cc
 item_read language spelled c (OfferLine token words) item e = offer_read language spelled c token words item e
 item_read language spelled c (BeginLine token counted mode) item e =
-    let (coordinator, is, e) = step_says (coordinator_of c token) _ item e in
-    let (count, is_count, e) = step_says (round_count counted) _ item e in
+    let (coordinator, is, e) = bound (coordinator_of c token) _ item e in
+    let (count, is_count, e) = bound (round_count counted) _ item e in
     let named = coordinator_says c token coordinator is in
     let said = count_says 1 1000000 counted count is_count in
     let same : Begin coordinator (round_of coordinator count mode) ≡ item = cc in
@@ -157,17 +158,17 @@ item_read language spelled c (BeginLine token counted mode) item e =
       admitted = own_owned c.coordinators coordinator (round_of coordinator count mode) (ltb-true coordinator c.coordinators named.there) (record { least = said.least; most = said.most; made = refl });
     })
 item_read language spelled c (TakeLine token counted) item e =
-    let (node, is, e) = step_says (node_of c token) _ item e in
-    let (message, is_message, e) = step_says (number counted) _ item e in
+    let (node, is, e) = bound (node_of c token) _ item e in
+    let (message, is_message, e) = bound (number counted) _ item e in
     let named = node_says c token node is in
     let (written, small) = number_says counted message is_message in
     let same : Take node message ≡ item = cc in
     subst (IsRead language c (TakeLine token counted)) same (record { same = cc (named.written, written); admitted = (named.there, small) })
 item_read language spelled c (FallLine token form) item e =
-    let (node, is, e) = step_says (node_of c token) _ item e in
+    let (node, is, e) = bound (node_of c token) _ item e in
     fall_read language c token node form item (node_says c token node is) e
 item_read language spelled c (ShowLine token) item e =
-    let (learner, is, e) = step_says (learner_of c token) _ item e in
+    let (learner, is, e) = bound (learner_of c token) _ item e in
     let named = learner_says c token learner is in
     let same : Show learner ≡ item = cc in
     subst (IsRead language c (ShowLine token)) same (record { same = ap ShowLine named.written; admitted = ltb-true learner c.learners named.there })

@@ -1,11 +1,10 @@
 -- The line of an item: its words, and how long it is.
-use Rattle.std.proofs.Common.{◌≡◌, ◌≢◌, ℕ, ◌+◌, ◌<◌, ◌≤◌, ◌^◌, Bool, true, false, not, eqb, List, [], ◌∷◌, ◌++◌, length, take, drop, Option, Some, None, refl, sym, ap, subst, ◌∙◌, arith, append_assoc, length-append}
+use Rattle.std.proofs.Common.{◌≡◌, ◌≢◌, ℕ, ◌+◌, ◌<◌, ◌≤◌, ◌^◌, true, false, eqb, List, [], ◌∷◌, ◌++◌, length, take, drop, Option, Some, None, refl, sym, ap, subst, ◌∙◌, arith, append_assoc, length-append}
 use Rattle.std.specs.Prelude.{decimal, codes, position}
 use Rattle.std.specs.List.{AllByRecursion}
-use Rattle.std.proofs.lemmas.Bool.{and_from, ne_eqb, ltb-true, lt-ltb}
-use Rattle.std.proofs.lemmas.Fmt.{decimal_nonempty, length-decimal-le}
+use Rattle.std.proofs.lemmas.Bool.{ne_eqb, ltb-true, lt-ltb}
+use Rattle.std.proofs.lemmas.Fmt.{length-decimal-le}
 use Rattle.std.proofs.lemmas.List.{append-nil}
-use Rattle.std.proofs.lemmas.List.Folds.{list_all-append}
 use Rattle.gp_command.specs.declared.command.TheConstants.{PROPOSERS}
 use Rattle.gp_round.specs.Counts.{Counts}
 use Rattle.gp_round.specs.Ranges.{AreInRange}
@@ -25,6 +24,7 @@ use Rattle.gp_words.specs.Tokens.{is_space, tokens_of, has_empty}
 use Rattle.gp_words.proofs.NumberLemmas.{decimal_spaceless, decimal_feedless, decimal_short}
 use Rattle.gp_words.proofs.TokenLemmas.{token_then, tokens_split, joined_tokens, split_at_space, split_nowhere}
 use Rattle.gp_service.specs.Languages.{Language, IsLanguage, IsSpelled}
+use Rattle.gp_store.proofs.SpellingLemmas.{value_some, lacks_append}
 use Rattle.gp_script.specs.declared.items.Item.{Item}
 use Rattle.gp_script.specs.declared.items.Item.TheVariants.{Offer, Begin, Take, Fall, Show}
 use Rattle.gp_script.specs.Forms.{Form, form_of}
@@ -123,9 +123,6 @@ node_some (Coordinator n) = none_where_some (node_word (Coordinator n)) (omega a
 node_some (Acceptor n) = none_where_some (node_word (Acceptor n)) (omega arith)
 node_some (Learner n) = none_where_some (node_word (Learner n)) (omega arith)
 
-pub number_some : (n : ℕ) → n < 2 ^ 64 → eqb (length (decimal n)) 0 ≡ false
-number_some n lt = none_where_some (decimal n) (decimal_nonempty n lt)
-
 mode_some : (mode : Mode) → eqb (length (mode_word mode)) 0 ≡ false
 mode_some Single = refl
 mode_some Multi = refl
@@ -182,13 +179,13 @@ words_apart (Show learner) f = tokens_split (item_words (Show learner)) (words_t
 
 kept_some : (what : Option Kept) → KeptFits what → has_empty (kept_words_of (kept_line what)) ≡ false
 kept_some None f = refl
-kept_some (Some (kept.Take message)) f = rw (number_some message f) refl
-kept_some (Some (kept.Begin round)) f = rw (number_some round.count f, mode_some round.mode) refl
+kept_some (Some (kept.Take message)) f = rw (value_some message f) refl
+kept_some (Some (kept.Begin round)) f = rw (value_some round.count f, mode_some round.mode) refl
 
 item_some : (item : Item) → ItemFits item → has_empty (item_words item) ≡ false
 item_some (Offer proposer draft) f = rw (node_some (Proposer proposer)) f.1.some
-item_some (Begin coordinator round) f = rw (node_some (Coordinator coordinator), number_some round.count f.1, mode_some round.mode) refl
-item_some (Take node message) f = rw (node_some node, number_some message f.1) refl
+item_some (Begin coordinator round) f = rw (node_some (Coordinator coordinator), value_some round.count f.1, mode_some round.mode) refl
+item_some (Take node message) f = rw (node_some node, value_some message f.1) refl
 item_some (Fall node what) f = rw (node_some node) (kept_some what f.1)
 item_some (Show learner) f = rw (node_some (Learner learner)) refl
 
@@ -235,9 +232,6 @@ module _ (language : Language) (spelled : IsLanguage language) where
       sym (joined_tokens text) ∙ ap joined words ∙ words_joined item
 
 -- ---- the line has no line feed, and is short
-
-lacks_append : (p : ℕ → Bool) (a b : List ℕ) → Lacks p a → Lacks p b → Lacks p (a ++ b)
-lacks_append p a b x y = list_all-append (λ b. not (p b)) a b ∙ and_from _ _ x y
 
 -- two texts with a space between
 pub feedless_apart : (a b : List ℕ) → Lacks is_line_feed a → Lacks is_line_feed b → Lacks is_line_feed (a ++ codes " " ++ b)

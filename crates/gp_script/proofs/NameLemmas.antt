@@ -10,10 +10,11 @@ use Rattle.gp_msg.specs.declared.node.Node.TheVariants.{Proposer, Coordinator, A
 use Rattle.gp_msg.specs.Nodes.{is_present}
 use Rattle.gp_words.specs.Numbers.{number_of}
 use Rattle.gp_words.proofs.NumberLemmas.{number_spelled, number_again}
+use Rattle.gp_store.proofs.ReadingLemmas.{bound as step_says}
 use Rattle.gp_script.specs.declared.reason.Reason.TheVariants.{BadNumber, BadCount, NoNode}
 use Rattle.gp_script.specs.Names.{number, count_of, letter_and_number, node_by, node_of, as_proposer, as_coordinator, as_learner, proposer_of, coordinator_of, learner_of}
 use Rattle.gp_script.specs.Spelling.{node_word}
-use Rattle.gp_script.proofs.Steps.{step_says, test_says, first_or_next, ok_or_says, option_map_says}
+use Rattle.gp_script.proofs.Steps.{test_says, first_or_next, ok_or_says, option_map_says}
 
 -- the token is what is written of the number
 pub number_says : (token : List ℕ) (n : ℕ) → number token ≡ Ok n → (token ≡ decimal n) × (n < 2 ^ 64)

@@ -4,11 +4,6 @@ use Rattle.std.specs.Prelude.{option_map}
 use Rattle.std.specs.Option.{ok_or}
 use Rattle.gp_memory.specs.Results.{◌>>=◌}
 
--- both steps have an answer
-pub step_says : {A B E : Type 0} (r : Result A E) (next : A → Result B E) (y : B) → (r >>= next) ≡ Ok y → (x : A) × (r ≡ Ok x) × (next x ≡ Ok y)
-step_says (Ok x) next y e = (x, refl, e)
-step_says (Err fault) next y e = absurd cc
-
 -- the test is passed, and the answer is the one behind it
 pub test_says : {A E : Type 0} (b : Bool) (x y : A) (fault : E) → cond b (Ok x) (Err fault) ≡ Ok y → (b ≡ true) × (x ≡ y)
 test_says true x y fault e = (refl, cc)

@@ -1,5 +1,5 @@
 -- The events of a workload make a legal run to its end, which is settled.
-use Rattle.std.proofs.Common.{◌≡◌, ◌^◌, ℕ, zero, suc, ◌+◌, ◌*◌, ◌<◌, ◌≤◌, ◌⊎◌, Bool, true, ◌&&◌, List, [], ◌∷◌, length, length-append, Option, Some, None, inl, inr, refl, sym, ap, subst, ◌∙◌, arith, rules}
+use Rattle.std.proofs.Common.{◌≡◌, ◌^◌, ℕ, zero, suc, ◌+◌, ◌*◌, ◌<◌, ◌≤◌, ◌⊎◌, true, List, [], ◌∷◌, length, length-append, Option, Some, None, inl, inr, refl, sym, ap, subst, ◌∙◌, arith, rules}
 use Rattle.std.specs.Prelude.{IsNone, IfSome}
 use Rattle.std.specs.Option.{option_to_list}
 use Rattle.std.proofs.lemmas.Bool.{lt-ltb}
@@ -26,6 +26,7 @@ use Rattle.gp_driver.specs.Settling.{checkpoints, settle}
 use Rattle.gp_driver.proofs.Lengths.{checkpoints_among, settled_length}
 use Rattle.gp_driver.proofs.SettleCode.{brings}
 use Rattle.gp_driver.proofs.TopRounds.{RunUpTo, top_up_to, up_to_top, more_rounds, one_begin}
+use Rattle.gp_command.proofs.Truth.{true_both}
 use Rattle.gp_sim.specs.Simulated.{Progress, sim_config, happened, one_more, after, all_drawn, drawn, simulated}
 use Rattle.gp_sim.specs.Learned.{Simulates}
 use Rattle.gp_sim.proofs.Rounds.{one_take, one_offer, one_fall}
@@ -47,16 +48,13 @@ may_fall have (Coordinator c) h = refl
 may_fall have (Acceptor a) h = refl
 may_fall have (Learner l) h = refl
 
-both : (a b : Bool) → a ≡ true → b ≡ true → (a && b) ≡ true
-both a b h k = ap (λ x. x && b) h ∙ k
-
 -- an event of a workload fits
 pub fit_fits : (es : List Entry) (event : Event) → IsFit (length (messages es)) event → fits sim_config es event ≡ true
 fit_fits es (Offer p d) h = lt-ltb p 8 h.0
 fit_fits es (Begin c r) h = h.1
-fit_fits es (Take node k) h = both _ _ (present node h.0) (lt-ltb k (length (messages es)) h.1)
+fit_fits es (Take node k) h = true_both _ _ (present node h.0) (lt-ltb k (length (messages es)) h.1)
 fit_fits es (Fall node what) h =
-    subst (λ (w : Option Kept). fits sim_config es (Fall node w) ≡ true) (sym h.1) (both _ _ (present node h.0) (may_fall (length (messages es)) node h.0))
+    subst (λ (w : Option Kept). fits sim_config es (Fall node w) ≡ true) (sym h.1) (true_both _ _ (present node h.0) (may_fall (length (messages es)) node h.0))
 
 goes_up_to : (es : List Entry) (event : Event) → RunUpTo 2048 sim_config es → IsFit (length (messages es)) event → RunUpTo 2048 sim_config (entry_after sim_config es event ∷ es)
 goes_up_to es (Offer p d) was h = one_offer 2048 sim_config es was p d

@@ -20,6 +20,7 @@ use Rattle.gp_command.specs.Refusal.{long_body, refusal}
 use Rattle.gp_command.specs.Spelling.{IsDraft}
 use Rattle.gp_command.specs.Views.{DraftView}
 use Rattle.gp_words.specs.Tokens.{tokens_of}
+use Rattle.gp_command.proofs.Truth.{iff_true}
 use Rattle.gp_store.specs.declared.op.Op.{Op}
 use Rattle.gp_store.specs.declared.op.Op.TheVariants.{Put, Add, Get, Del, Cas, Copy, Checkpoint}
 use Rattle.gp_store.specs.Operations.{IsOp, is_checkpoint, op_text, op_foot, touch, copy_foot, draft_for}
@@ -49,17 +50,12 @@ touch_itself t u e = rw (← e) ((eq_by_cmp_equiv touch_cmp_total).refl t)
 feet_decided : (a b : List Touch) (t : Bool) → t ≡ pointwise (eq_by_cmp touch_cmp) a b → Decides t (a ≡ b)
 feet_decided a b t e = slice_eq-Decides (λ t u. (touches_equal t u, touch_itself t u)) a b t e
 
-alike : (a b : Bool) → (a ≡ true → b ≡ true) → (b ≡ true → a ≡ true) → a ≡ b
-alike true b there back = sym (there refl)
-alike false true there back = back refl
-alike false false there back = refl
-
 -- drafts with one mark and one body are equal where their touches are
 pub same_by_foot : (d e : DraftView) (t : Bool) → d.body ≡ e.body → d.checkpoint ≡ e.checkpoint → t ≡ pointwise (eq_by_cmp touch_cmp) d.foot e.foot → t ≡ same_draft d e
 same_by_foot d e t body mark h =
     let feet = feet_decided d.foot e.foot t h in
     let equal : t ≡ true → d ≡ e = λ yes. λ i. record { checkpoint = mark i; foot = feet.0 yes i; body = body i } in
-    alike t (same_draft d e) (λ yes. rw (← equal yes) (same_itself d)) (λ yes. feet.1 (ap (λ (d : DraftView). d.foot) (drafts_equal d e yes)))
+    iff_true t (same_draft d e) (λ yes. rw (← equal yes) (same_itself d)) (λ yes. feet.1 (ap (λ (d : DraftView). d.foot) (drafts_equal d e yes)))
 
 -- ---- the operation of a draft
 
@@ -147,7 +143,7 @@ draft_in_range op r = record {
   short = let short = text_short op r in omega arith;
 }
 
-body_fits : (body : List ℕ) → length body ≤ 64 → long_body body ≡ None
+pub body_fits : (body : List ℕ) → length body ≤ 64 → long_body body ≡ None
 body_fits body le = rw (le-leb (length body) 64 le) refl
 
 -- the body of a checkpoint is not refused

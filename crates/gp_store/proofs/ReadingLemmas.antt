@@ -32,7 +32,7 @@ form_again (Cas key old new) = refl
 form_again (Copy from into) = refl
 form_again Checkpoint = refl
 
-key_again : (key : List ℕ) → IsTrue (is_key key) → key_of key ≡ Ok key
+pub key_again : (key : List ℕ) → IsTrue (is_key key) → key_of key ≡ Ok key
 unfolding key_of
 key_again key e = rw e refl
 
@@ -65,15 +65,15 @@ text_spells_on_ok (Err e) op range = tt
 
 -- ---- what is read is written so
 
-bound : {A B E : Type 0} (r : Result A E) (f : A → Result B E) (y : B) → (r >>= f) ≡ Ok y → (x : A) × (r ≡ Ok x) × (f x ≡ Ok y)
+pub bound : {A B E : Type 0} (r : Result A E) (f : A → Result B E) (y : B) → (r >>= f) ≡ Ok y → (x : A) × (r ≡ Ok x) × (f x ≡ Ok y)
 bound (Ok x) f y e = (x, refl, e)
 bound (Err fault) f y e = absurd cc
 
-key_if : (b : Bool) (token key : List ℕ) → cond b (Ok token) (Err BadKey) ≡ Ok key → (token ≡ key) × (b ≡ true)
+pub key_if : (b : Bool) (token key : List ℕ) → cond b (Ok token) (Err BadKey) ≡ Ok key → (token ≡ key) × (b ≡ true)
 key_if true token key e = (cc, refl)
 key_if false token key e = absurd cc
 
-key_read : (token key : List ℕ) → key_of token ≡ Ok key → (token ≡ key) × IsTrue (is_key key)
+pub key_read : (token key : List ℕ) → key_of token ≡ Ok key → (token ≡ key) × IsTrue (is_key key)
 unfolding key_of
 key_read token key e = let read = key_if (is_key token) token key e in (read.0, ap is_key (sym read.0) ∙ read.1)
 

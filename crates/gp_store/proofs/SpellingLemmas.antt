@@ -51,7 +51,7 @@ key_spaceless key e = lacks_above is_space key (λ b above. ap not (ne_eqb b 32 
 pub key_feedless : (key : List ℕ) → IsTrue (is_key key) → Lacks is_line_feed key
 key_feedless key e = lacks_above is_line_feed key (λ b above. ap not (ne_eqb b 10 (λ same. omega arith))) (key_parts key e).bytes
 
-lacks_append : (p : ℕ → Bool) (a b : List ℕ) → Lacks p a → Lacks p b → Lacks p (a ++ b)
+pub lacks_append : (p : ℕ → Bool) (a b : List ℕ) → Lacks p a → Lacks p b → Lacks p (a ++ b)
 lacks_append p a b x y = list_all-append (λ b. not (p b)) a b ∙ and_from _ _ x y
 
 -- ---- words
@@ -69,7 +69,7 @@ words_spaceless Checkpoint r = (refl, tt)
 key_some : (key : List ℕ) → IsTrue (is_key key) → eqb (length key) 0 ≡ false
 key_some key e = let some = (key_parts key e).some in ne_eqb (length key) 0 (λ none. omega arith)
 
-value_some : (value : ℕ) → value < 2 ^ 64 → eqb (length (decimal value)) 0 ≡ false
+pub value_some : (value : ℕ) → value < 2 ^ 64 → eqb (length (decimal value)) 0 ≡ false
 value_some value lt = let some = decimal_nonempty value lt in ne_eqb (length (decimal value)) 0 (λ none. omega arith)
 
 -- none of the words is empty

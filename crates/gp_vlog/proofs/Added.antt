@@ -63,13 +63,6 @@ pushes_fresh base h (c ∷ cs) within = by_cases (has base c)
 pub add_up : (base v : History) → IsHistory base → IsHistory v → IsPrefix base v → pushes base (additions base v) ≡ v
 add_up base v hb hv p = pushes_fresh base base (canonical v) (λ c k. k) ∙ extended_by base v hb hv p
 
-pub empty_prefix : (v : History) → IsPrefix empty v
-empty_prefix v = record {
-  commands = λ c p. never (has empty c) p (empty_none c);
-  pairs = λ c d p q. never (has empty c) p (empty_none c);
-  closed = λ c d q r. never (has empty d) q (empty_none d);
-}
-
 are_same-refl : (cs : List Command) → are_same cs cs ≡ true
 are_same-refl [] = refl
 are_same-refl (c ∷ cs) = both (same_itself c) (are_same-refl cs)

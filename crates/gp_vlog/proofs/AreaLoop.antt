@@ -5,11 +5,12 @@ use Rattle.std.specs.List.{All}
 use Rattle.std.specs.Option.{option_map}
 use Rattle.std.proofs.lemmas.List.{append-nil, drop_more, drop-drop, length-drop, length-take-le, map-append}
 use Rattle.gp_msg.specs.declared.durable.Durable.{Durable}
+use Rattle.gp_command.proofs.Fields.{when_some}
 use Rattle.gp_vlog.specs.Bodies.{LogEntry, ◌>>=◌, kind_of, epoch_at, part_at, part_before, fits_version, entry_with, entry_of}
 use Rattle.gp_vlog.specs.Gates.{length_at, body_at, meant_by, opened, goes_on, area}
 use Rattle.gp_vlog.specs.Logs.{entry_for, log_entries, last}
 use Rattle.gp_vlog.proofs.Areas.{after, after_ok, after_err, after_more, opened_holds, area_step, area_closed}
-use Rattle.gp_vlog.proofs.Written.{when_some, bind_some, finish}
+use Rattle.gp_vlog.proofs.Written.{bind_some, finish}
 
 module _ {E : Type 0} (meaning : Option E → List ℕ → Option E) (room : ℕ) (bytes : List ℕ) (all : Result (List E × ℕ) ℕ) where
   abbrev pub Sofar : List E → Option E → ℕ → Type 0

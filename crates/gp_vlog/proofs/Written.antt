@@ -22,11 +22,13 @@ use Rattle.gp_round.specs.Rounds.{mode_number, earlier}
 use Rattle.gp_msg.specs.declared.durable.Durable.{Durable}
 use Rattle.gp_msg.specs.declared.durable.Durable.TheVariants.{Acceptor, Coordinator}
 use Rattle.gp_msg.specs.Messages.{EpochPart, part_of}
+use Rattle.gp_history.proofs.Many.{empty_below}
+use Rattle.gp_command.proofs.Fields.{when_some}
 use Rattle.gp_vlog.specs.declared.reading.Kind.{Kind}
 use Rattle.gp_vlog.specs.declared.reading.Kind.TheVariants.{Whole, Coordinating, Adding}
 use Rattle.gp_vlog.specs.Prefixes.{is_prefix, additions, adds}
 use Rattle.gp_vlog.specs.Bodies.{LogEntry, acceptors, coordinators, is_round, is_zero, most_lead, round_spelling, ◌>>=◌, is_end, number_at, mode_at, round_of, round_at, found, command_at, commands_at, acceptor_at, coordinator_at, part_at, part_before, entry_with, entry_of, fits_version, base_or_empty, first_byte, vote_before, base_for, vote_spelling, acceptor_body, votes_body, coordinator_body, body_of, IsReadAgain}
-use Rattle.gp_vlog.proofs.Added.{add_up, adds_additions, empty_prefix, all_added}
+use Rattle.gp_vlog.proofs.Added.{add_up, adds_additions, all_added}
 use Rattle.gp_vlog.specs.Logs.{KeepsRules, entry_for}
 use Rattle.gp_vlog.proofs.PrefixTests.{prefix_from_test}
 
@@ -120,10 +122,6 @@ coordinator_back epoch r ok =
 
 -- ---- the whole body
 
-pub when_some : {A : Type 0} (b : Bool) (x y : A) → when b x ≡ Some y → (b ≡ true) × (x ≡ y)
-when_some true x y e = (refl, cc)
-when_some false x y e = absurd cc
-
 pub bind_some : {A B : Type 0} (o : Option A) (f : A → Option B) (y : B) → (o >>= f) ≡ Some y → (x : A) × (o ≡ Some x) × (f x ≡ Some y)
 bind_some (Some x) f y e = (x, refl, e)
 bind_some None f y e = absurd cc
@@ -154,7 +152,7 @@ pub votes_mean : (before : Option LogEntry) (epoch : ℕ) (r q : Round) (v : His
     → entry_of before (votes_body epoch r q v o) ≡ Some (entry_with false (acceptors epoch r q v))
 unfolding entry_of
 votes_mean before epoch r q v None is fits version histories hv ok_r ok_q not_after again few =
-    entered before Whole epoch (votes r q (additions empty v)) (acceptors epoch r q v) fits version (acceptor_back epoch empty v r q empty_is_history hv (empty_prefix v) ok_r ok_q not_after again few)
+    entered before Whole epoch (votes r q (additions empty v)) (acceptors epoch r q v) fits version (acceptor_back epoch empty v r q empty_is_history hv (empty_below v) ok_r ok_q not_after again few)
 votes_mean before epoch r q v (Some base) is fits version histories hv ok_r ok_q not_after again few =
     let b = base_found (part_before before) epoch v base is in
     let part = bind_is (vote_before (part_before before) epoch) (λ u. acceptor_at epoch u (votes r q (additions base v))) base (Some (acceptors epoch r q v)) b.there

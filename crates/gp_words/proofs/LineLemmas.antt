@@ -7,7 +7,7 @@ use Rattle.std.proofs.lemmas.List.{take_all, drop_all}
 use Rattle.gp_words.specs.Bytes.{Lacks}
 use Rattle.gp_words.specs.Lines.{is_line_feed, lines_of, text_of}
 
-some_of : (t : Bool) (m n : ℕ) → cond t (Some m) None ≡ Some n → (t ≡ true) × (m ≡ n)
+pub some_of : (t : Bool) (m n : ℕ) → cond t (Some m) None ≡ Some n → (t ≡ true) × (m ≡ n)
 some_of true m n e = (refl, cc)
 some_of false m n e = absurd cc
 

@@ -1,5 +1,5 @@
 -- A token is read as a number exactly where it is what is written of the number.
-use Rattle.std.proofs.Common.{◌≡◌, ℕ, zero, suc, ◌^◌, ◌<◌, ◌≤◌, Bool, true, false, cond, not, ◌&&◌, ◌||◌, eqb, ltb, leb, List, [], ◌∷◌, length, get_or, Some, None, Result, Ok, Err, refl, sym, ap, ◌∙◌, arith, rules, inl, inr}
+use Rattle.std.proofs.Common.{◌≡◌, ℕ, zero, suc, ◌^◌, ◌<◌, ◌≤◌, Bool, true, false, not, ◌&&◌, ◌||◌, eqb, ltb, leb, List, [], ◌∷◌, length, get_or, Some, None, Result, Ok, Err, refl, sym, ap, ◌∙◌, arith, rules, inl, inr}
 use Rattle.std.specs.Prelude.{MatchResult, decimal, IsUtf8}
 use Rattle.std.specs.List.{list_all}
 use Rattle.std.specs.Char.{is_ascii_digit}
@@ -13,6 +13,7 @@ use Rattle.gp_words.specs.Bytes.{Lacks}
 use Rattle.gp_words.specs.Lines.{is_line_feed}
 use Rattle.gp_words.specs.Tokens.{is_space}
 use Rattle.gp_words.specs.Numbers.{is_decimal, number_of}
+use Rattle.gp_words.proofs.LineLemmas.{some_of}
 
 abbrev pub AreDigits : List ℕ → Type 0
 AreDigits ds = list_all is_ascii_digit ds ≡ true
@@ -50,15 +51,11 @@ number_read {E} t (Err x) e h =
     let p = parse_digits own {E = E} 64 t (Err x) h d.0 in
     elim (cases_lt (digits_value 10 t) (2 ^ 64)) [ inl lt ↦ absurd (p (d.1, lt)) | inr le ↦ rw (e, le-ltb _ _ le) refl ]
 
-guarded : (b : Bool) (m n : ℕ) → cond b (Some m) None ≡ Some n → (b ≡ true) × (m ≡ n)
-guarded true m n e = (refl, cc)
-guarded false m n e = absurd cc
-
 -- what is read is the one spelling of the number
 pub number_spelled : (t : List ℕ) (n : ℕ) → number_of t ≡ Some n → (t ≡ decimal n) × (n < 2 ^ 64)
 unfolding number_of
 number_spelled t n e =
-    let g = guarded (is_decimal t && ltb (digits_value 10 t) (2 ^ 64)) (digits_value 10 t) n e in
+    let g = some_of (is_decimal t && ltb (digits_value 10 t) (2 ^ 64)) (digits_value 10 t) n e in
     let both = and_parts _ _ g.0 in
     let d = is_decimal_parts t both.0 in
     let small = ltb-true _ _ both.1 in

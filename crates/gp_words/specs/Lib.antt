@@ -3,3 +3,4 @@ pub mod Lines
 pub mod Tokens
 pub mod Numbers
 pub mod Spacing
+pub mod Beginnings

@@ -5,6 +5,7 @@ use Rattle.std.specs.Option.{option_and_then}
 use Rattle.std.proofs.Math.Dec.{eqb-suc-zero, eqb-zero-suc, eqb-suc-suc}
 use Rattle.std.proofs.lemmas.Bool.Decides.{eqb_tells}
 use Rattle.gp_msg.specs.Messages.{Stamped}
+use Rattle.gp_run.proofs.Others.{front}
 use Rattle.gp_world.specs.Nodes.{states_below}
 use Rattle.gp_world.specs.Acting.{changed, sent_of}
 
@@ -20,13 +21,6 @@ last_of : {S : Type 0} (xs : List S) (x : S) → slice_get (xs ++ x ∷ []) (len
 last_of [] x = refl
 last_of (y ∷ xs) x = last_of xs x
 
-front_of : {S : Type 0} (xs ys : List S) (i : ℕ) → i < length xs → slice_get (xs ++ ys) i ≡ slice_get xs i
-front_of [] ys i l = absurd (none l) where
-  none : i < 0 → ⊥
-  none l = omega (arith, l)
-front_of (x ∷ xs) ys zero l = refl
-front_of (x ∷ xs) ys (suc i) l = front_of xs ys i (omega (arith, l))
-
 pub slice_get-states_below : {S : Type 0} (n : ℕ) (f : ℕ → S) (i : ℕ) → i < n → slice_get (states_below n f) i ≡ Some (f i)
 slice_get-states_below zero f i l = absurd (none l) where
   none : i < 0 → ⊥
@@ -35,7 +29,7 @@ slice_get-states_below (suc n) f i l =
     let many = length-states_below n f in
     elim (eqb_tells i n) [
       | inl e ↦ ap (slice_get (states_below n f ++ f n ∷ [])) (e.1 ∙ sym many) ∙ last_of (states_below n f) (f n) ∙ ap (λ j. Some (f j)) (sym e.1)
-      | inr e ↦ front_of (states_below n f) (f n ∷ []) i (omega (arith, many, l, e.1)) ∙ slice_get-states_below n f i (omega (arith, l, e.1))
+      | inr e ↦ front (states_below n f) (f n ∷ []) i (omega (arith, many, l, e.1)) ∙ slice_get-states_below n f i (omega (arith, l, e.1))
     ]
 
 -- what a state sends

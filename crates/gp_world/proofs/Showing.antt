@@ -8,7 +8,7 @@ use Rattle.std.specs.declared.cmp.Ordering.TheVariants.{Less, Equal, Greater}
 use Rattle.std.proofs.lemmas.Bool.{ltb-true, ltb-false}
 use Rattle.std.proofs.Math.Nat.{max_comm}
 use Rattle.std.proofs.Math.Seq.{take-suc}
-use Rattle.std.proofs.lemmas.List.{map-append, append-nil}
+use Rattle.std.proofs.lemmas.List.{map-append}
 use Rattle.gp_round.specs.Counts.{Counts}
 use Rattle.gp_round.specs.declared.round.Round.{Round}
 use Rattle.gp_msg.specs.declared.message.Msg.{Msg}
@@ -25,6 +25,7 @@ use Rattle.gp_run.proofs.TopRounds.{top_is}
 use Rattle.gp_world.specs.Nodes.{NodesState, states_below}
 use Rattle.gp_world.specs.Sound.{IsSound}
 use Rattle.gp_world.proofs.Numbering.{length-states_below, slice_get-states_below}
+use Rattle.gp_world.proofs.Placing.{messages-push}
 
 -- ---- learners
 
@@ -79,7 +80,7 @@ greatest_is_top config records nodes sound a b h k =
 
 -- ---- the greatest round of messages
 
-greatest-append : (rs qs : List Round) → greatest_count (rs ++ qs) ≡ max (greatest_count rs) (greatest_count qs)
+pub greatest-append : (rs qs : List Round) → greatest_count (rs ++ qs) ≡ max (greatest_count rs) (greatest_count qs)
 greatest-append [] qs = omega arith
 greatest-append (r ∷ rs) qs = omega (arith, greatest-append rs qs)
 
@@ -99,16 +100,12 @@ two_tops r q = ord_max-nat r.count q.count ∙ omega arith
 top_of_one : (m : Stamped) → top_of_messages (m ∷ []) ≡ greatest_count (rounds_of m)
 top_of_one m = greatest-append (rounds_of m) [] ∙ omega arith
 
-messages_pushed : (records : List Record) (r : Record) → messages_in (records ++ r ∷ []) ≡ messages_in records ++ r.out
-messages_pushed [] r = append-nil r.out
-messages_pushed (x ∷ records) r = ap (λ ms. x.out ++ ms) (messages_pushed records r) ∙ sym (append_assoc x.out (messages_in records) r.out)
-
 -- one record more
 pub tops-push : (records : List Record) (r : Record) → max (top_of_messages (map message_of (messages_in records))) (top_of_messages (map message_of r.out)) ≡ top_of_messages (map message_of (messages_in (records ++ r ∷ [])))
 tops-push records r =
     sym (tops-append (map message_of (messages_in records)) (map message_of r.out))
     ∙ ap top_of_messages (sym (map-append message_of (messages_in records) r.out))
-    ∙ ap (λ ms. top_of_messages (map message_of ms)) (sym (messages_pushed records r))
+    ∙ ap (λ ms. top_of_messages (map message_of ms)) (sym (messages-push records r))
 
 -- one message more
 pub tops_more : (out : List Msg) (i : ℕ) (m : Msg) → i < length out → m ≡ get_or out i m → top_of_messages (map message_of (take (i + 1) out)) ≡ max (top_of_messages (map message_of (take i out))) (greatest_count (rounds_of (message_of m)))

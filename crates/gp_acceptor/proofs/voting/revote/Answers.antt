@@ -8,10 +8,11 @@ use Rattle.gp_round.specs.Rounds.{is_fast}
 use Rattle.gp_round.specs.Sets.{masks}
 use Rattle.gp_safe.specs.Meets.{quorum_meets, all_joined, everyone}
 use Rattle.gp_safe.specs.Held.{value_with}
+use Rattle.gp_round.proofs.Orders.{same_round_is}
 use Rattle.gp_acceptor.specs.State.{histories}
 use Rattle.gp_acceptor.specs.Table.{value_at, agreed, agreed_by}
 use Rattle.gp_acceptor.specs.Revotes.{with_join}
-use Rattle.gp_acceptor.proofs.Rejoining.{joined_at_once, same_round_is}
+use Rattle.gp_acceptor.proofs.Rejoining.{joined_at_once}
 use denote.Enum.Bare.{same_true}
 use Rattle.gp_acceptor.proofs.voting.revote.Goals as goal
 
