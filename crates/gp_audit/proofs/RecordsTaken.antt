@@ -16,9 +16,9 @@ use Rattle.gp_run.specs.Messages.{messages}
 use Rattle.gp_msg.specs.Nodes.{is_present}
 use Rattle.gp_run.specs.Legal.{Legal, fits}
 use Rattle.gp_run.specs.Runs.{newest_first}
-use Rattle.gp_run.proofs.Choices.{right_true}
 use Rattle.gp_run.proofs.Telling.{entries-push}
 use Rattle.gp_agreement.proofs.Projected.{legal_rest}
+use Rattle.gp_round.proofs.Counting.{right_true}
 use Rattle.gp_audit.proofs.OwnEvents.{message_stays}
 
 entries-append : (xs ys : List Record) → newest_first (xs ++ ys) ≡ newest_first ys ++ newest_first xs

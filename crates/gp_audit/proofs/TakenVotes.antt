@@ -1,12 +1,9 @@
 -- The votes that a learner holds are ones that it took.
-use Rattle.std.proofs.Common.{◌≡◌, ◌⊎◌, inl, inr, ℕ, Bool, true, false, cond, ◌&&◌, nat_eq, nat_lt, List, [], ◌∷◌, Option, Some, None, refl, sym, ap, subst, ◌∙◌, arith}
+use Rattle.std.proofs.Common.{◌≡◌, ◌⊎◌, inl, inr, ℕ, Bool, true, false, cond, ◌&&◌, nat_eq, nat_lt, List, [], ◌∷◌, Option, Some, None, refl, sym, ap, subst, ◌∙◌}
 use Rattle.std.specs.Prelude.{slice_get}
-use Rattle.std.specs.declared.cmp.Ordering.{Ordering}
-use Rattle.std.specs.declared.cmp.Ordering.TheVariants.{Equal, Less, Greater}
-use Rattle.std.specs.Ordering.{nat_cmp, is_eq, ordering_then}
+use Rattle.std.specs.Ordering.{nat_cmp, is_eq}
 use Rattle.std.specs.BTreeMap.{insert_entry}
 use Rattle.std.proofs.lemmas.Bool.{eqb-true}
-use Rattle.std.proofs.lemmas.Bool.Decides.{nat_tests}
 use Rattle.gp_command.specs.declared.command.Command.{Command}
 use Rattle.gp_history.specs.History.{History, size}
 use Rattle.gp_history.proofs.Tests.{fst_of, snd_of}
@@ -22,12 +19,13 @@ use Rattle.gp_learner.specs.State.{Votes}
 use Rattle.gp_learner.specs.Table.{voter_cmp, vote_of, votes_held, votes_with, learner_take, hearing}
 use Rattle.gp_learner.specs.Epochs as learner
 use Rattle.gp_learner.specs.Epochs.{LearnerInEpoch}
-use Rattle.gp_learner.proofs.Lookups.{lookup-insert_entry, voter_cmp_total}
-use Rattle.gp_cstructs.proofs.Orders.{same_tells}
+use Rattle.gp_learner.proofs.Lookups.{lookup-insert_entry, voter_cmp_total, same_number}
 use Rattle.gp_run.specs.Messages.{messages}
 use Rattle.gp_run.specs.States.{learner_at}
 use Rattle.gp_run.specs.Agreement.{IsNoFallOf}
 use Rattle.gp_run.proofs.Choices.{chosen, with_message}
+use Rattle.gp_command.proofs.Marks.{equal_then}
+use Rattle.gp_round.proofs.Orders.{same_round_is}
 use Rattle.gp_audit.specs.declared.own.OwnEvent.{OwnEvent}
 use Rattle.gp_audit.specs.declared.own.OwnEvent.TheVariants.{Takes, Falls, Elsewhere}
 use Rattle.gp_audit.specs.Owning.{own_event}
@@ -36,14 +34,6 @@ use Rattle.gp_audit.proofs.OwnEvents.{Acts, acts, no_fall}
 use Rattle.gp_audit.proofs.LearnerSteps.{with_vote, take_is}
 
 -- ---- one more vote
-
-both_equal : (o p : Ordering) → is_eq (ordering_then o p) ≡ (is_eq o && is_eq p)
-both_equal Equal p = refl
-both_equal Less p = refl
-both_equal Greater p = refl
-
-same_number : (i a : ℕ) → is_eq (nat_cmp i a) ≡ nat_eq i a
-same_number i a = grind (arith, nat_tests)
 
 -- what is held after an insertion was inserted, or was held before
 inserted : (votes : Votes) (r : Round) (a : ℕ) (v : History) (q : Round) (b : ℕ) (w : History) → vote_of (insert_entry voter_cmp votes (r, a) v) q b ≡ Some w
@@ -54,13 +44,13 @@ inserted votes r a v q b w h = by_voter (is_eq (voter_cmp (q, b) (r, a))) refl
     is = lookup-insert_entry voter_cmp voter_cmp_total votes (r, a) (q, b) v
 
     same : is_eq (voter_cmp (q, b) (r, a)) ≡ (same_round q r && nat_eq b a)
-    same = both_equal (round_cmp q r) (nat_cmp b a) ∙ ap (λ (x : Bool). same_round q r && x) (same_number b a)
+    same = equal_then (round_cmp q r) (nat_cmp b a) ∙ ap (λ (x : Bool). same_round q r && x) (same_number b a)
 
     by_voter : (x : Bool) → is_eq (voter_cmp (q, b) (r, a)) ≡ x → ((r ≡ q) × (a ≡ b) × (v ≡ w)) ⊎ (vote_of votes q b ≡ Some w)
     by_voter true e =
         let t = sym same ∙ e in
         let value : v ≡ w = let d = sym (ap (λ (x : Bool). cond x (Some v) (vote_of votes q b)) e) ∙ sym is ∙ h in cc in
-        inl (sym (same_tells q r (fst_of (same_round q r) (nat_eq b a) t)), sym (eqb-true b a (snd_of (same_round q r) (nat_eq b a) t)), value)
+        inl (sym (same_round_is q r (fst_of (same_round q r) (nat_eq b a) t)), sym (eqb-true b a (snd_of (same_round q r) (nat_eq b a) t)), value)
     by_voter false e = inr (sym (ap (λ (x : Bool). cond x (Some v) (vote_of votes q b)) e) ∙ sym is ∙ h)
 
 -- so for a vote that is held if it is newer

@@ -1,5 +1,5 @@
 //! What a learner took, as the cause of the commands that it brought.
-ghost use Rattle.std.specs.Prelude.{◌≡◌, ◌++◌, ◌<◌, not, OnOk};
+ghost use Rattle.std.specs.Prelude.{◌≡◌, ◌++◌, ◌<◌, ℕ, take, not, OnOk, OnErr};
 ghost use Rattle.std.specs.List.{list_all};
 ghost use Rattle.gp_history.specs.History.{has};
 ghost use Rattle.gp_history.specs.Sequence.{history_of};
@@ -73,7 +73,9 @@ pub fn push_new(
     source: &Source,
     proofs: &mut Vec<Proof>,
 ) -> Result<(), NoMemory>
-    ensures { OnOk result (proofs.new.items ≡ proofs.old.items ++ new_proofs (history_of known.now) at (source_cause source.now) learned.now) }
+    ensures written { OnOk result (proofs.new.items ≡ proofs.old.items ++ new_proofs (history_of known.now) at (source_cause source.now) learned.now) }
+    ensures begun { OnErr result ((n : ℕ) × (proofs.new.items
+        ≡ proofs.old.items ++ take n (new_proofs (history_of known.now) at (source_cause source.now) learned.now))) }
 {
     for i in 0..learned.len() {
         let c = learned.at(i);

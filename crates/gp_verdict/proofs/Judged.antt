@@ -131,7 +131,7 @@ pub verdict_short : (bytes : List ℕ) → nat_le (length bytes) MOST_BYTES ≡ 
 unfolding verdict
 verdict_short bytes le = rw le refl
 
-verdict_long : (bytes : List ℕ) → nat_le (length bytes) MOST_BYTES ≡ false → verdict bytes ≡ too_long_after (length (short_lines 0 (lines_of bytes))) (lines_verdict (short_lines 0 (lines_of bytes)))
+pub verdict_long : (bytes : List ℕ) → nat_le (length bytes) MOST_BYTES ≡ false → verdict bytes ≡ too_long_after (length (short_lines 0 (lines_of bytes))) (lines_verdict (short_lines 0 (lines_of bytes)))
 unfolding verdict
 verdict_long bytes gt = rw gt refl
 

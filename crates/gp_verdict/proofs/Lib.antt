@@ -5,6 +5,7 @@ pub mod Judged
 pub mod Legally
 pub mod UpheldInputs
 pub mod ReportFaults
+pub mod RejectedLines
 pub mod TraceSizes
 pub mod OfferCounts
 pub mod StoreSizes

@@ -1,13 +1,13 @@
 -- The first lines of a text.
-use Rattle.std.proofs.Common.{◌≡◌, ℕ, ◌+◌, ◌≤◌, ◌<◌, true, false, Bool, leb, ltb, List, [], ◌∷◌, ◌++◌, length, take, drop, refl, sym, ap, subst, ◌∙◌, append_assoc, arith, inl, inr}
+use Rattle.std.proofs.Common.{◌≡◌, ℕ, ◌+◌, ◌≤◌, ◌<◌, true, false, Bool, List, [], ◌∷◌, ◌++◌, length, take, drop, refl, sym, ap, subst, ◌∙◌, append_assoc, arith}
 use Rattle.std.specs.List.{flat_map, onto_first}
 use Rattle.std.proofs.Math.Seq.{take-append_seam, drop-append_seam}
-use Rattle.std.proofs.lemmas.Bool.{and_cases, leb-false, ltb-false}
 use Rattle.std.proofs.lemmas.List.{length-append, append-nil, flat_map_more}
 use Rattle.gp_words.specs.Lines.{is_line_feed, lines_of, text_of}
 use Rattle.gp_text.specs.declared.limits.TheConstants.{MOST_BYTES}
 use Rattle.gp_text.specs.Reading.{holds_limit}
 use Rattle.gp_text.proofs.LineSteps.{no_lines}
+use Rattle.gp_text.proofs.ShortScripts.{before_limit}
 use Rattle.gp_verdict.specs.Parts.{ends_trace, trace_lines, after_trace, short_lines}
 
 -- lines put behind each other
@@ -186,20 +186,13 @@ pub record ShortOn (bytes rest : List ℕ) (place lines : ℕ) : Type 0 where
 pub short_on_start : (bytes : List ℕ) → ShortOn bytes bytes 0 0
 short_on_start bytes = record { heads = []; are = no_heads bytes; shorts = refl; near = omega arith }
 
-short_goes : (place : ℕ) (line : List ℕ) (lines : List (List ℕ)) → holds_limit place line ≡ false → short_lines place (line ∷ lines) ≡ line ∷ short_lines (place + length line) lines
+pub short_goes : (place : ℕ) (line : List ℕ) (lines : List (List ℕ)) → holds_limit place line ≡ false → short_lines place (line ∷ lines) ≡ line ∷ short_lines (place + length line) lines
 unfolding short_lines
 short_goes place line lines short = rw short refl
 
-short_stops : (place : ℕ) (line : List ℕ) (lines : List (List ℕ)) → holds_limit place line ≡ true → short_lines place (line ∷ lines) ≡ []
+pub short_stops : (place : ℕ) (line : List ℕ) (lines : List (List ℕ)) → holds_limit place line ≡ true → short_lines place (line ∷ lines) ≡ []
 unfolding short_lines
 short_stops place line lines long = rw long refl
-
-before_limit : (place : ℕ) (line : List ℕ) → place ≤ MOST_BYTES → holds_limit place line ≡ false → place + length line ≤ MOST_BYTES
-before_limit place line near short =
-    elim (and_cases (leb place MOST_BYTES) (ltb MOST_BYTES (place + length line)) short) [
-      | inl past ↦ absurd (let p = leb-false _ _ past in omega (arith, p))
-      | inr less ↦ ltb-false _ _ less
-    ]
 
 pub short_on_more : (bytes rest line after : List ℕ) (place lines : ℕ) → ShortOn bytes rest place lines → rest ≡ line ++ after → 0 < length line → lines_of rest ≡ line ∷ lines_of after → holds_limit place line ≡ false
     → ShortOn bytes after (place + length line) (lines + 1)

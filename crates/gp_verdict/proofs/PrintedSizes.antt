@@ -15,8 +15,9 @@ use Rattle.gp_report.specs.Texts.{report}
 use Rattle.gp_text.specs.declared.limits.TheConstants.{MOST_BYTES}
 use Rattle.gp_text.specs.Traces.{trace}
 use Rattle.gp_text.specs.Limits.{IsWithinScript}
+use Rattle.gp_text.proofs.TraceReading.{one_sent}
 use Rattle.gp_verdict.specs.Printed.{printed}
-use Rattle.gp_verdict.proofs.TraceSizes.{at_most_one, trace_size}
+use Rattle.gp_verdict.proofs.TraceSizes.{trace_size}
 use Rattle.gp_verdict.proofs.ReportSizes.{report_size}
 
 -- a run has as many events as entries, and no more messages
@@ -32,7 +33,7 @@ few_messages config [] legal = omega arith
 few_messages config (e ∷ es) legal =
     let rest = few_messages config es legal.0 in
     let own = ap length legal.1.own_messages in
-    let one = at_most_one (sent_by config es (node_of e.event) e.event) in
+    let one = one_sent (sent_by config es (node_of e.event) e.event) in
     let sum = length-append (messages es) e.sent in
     omega (arith, rest, own, one, sum)
 

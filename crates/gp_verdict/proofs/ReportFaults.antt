@@ -116,7 +116,7 @@ lines_faulty bytes line why before short of_report e =
     (sym (verdict_short bytes (le-leb (length bytes) MOST_BYTES short) ∙ verdict_parts (lines_of bytes)) ∙ e)
 
 -- what the trace says, without what it shows
-says_events : (lines : List (List ℕ)) (own : Counts) (sofar : Sofar) → script_of (trace_lines lines) ≡ Whole own sofar → script_of (trace_lines lines) ≡ Whole own (record { events = sofar.events; shown = [] })
+pub says_events : (lines : List (List ℕ)) (own : Counts) (sofar : Sofar) → script_of (trace_lines lines) ≡ Whole own sofar → script_of (trace_lines lines) ≡ Whole own (record { events = sofar.events; shown = [] })
 says_events lines own sofar whole = whole ∙ ap (λ shown. Whole own (record { events = sofar.events; shown = shown })) (shows_nothing own sofar lines whole)
 
 -- ---- no report

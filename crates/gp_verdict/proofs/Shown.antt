@@ -20,11 +20,12 @@ use Rattle.gp_script.specs.declared.items.Item.TheVariants as item
 use Rattle.gp_script.specs.Forms.{Form, NodesLine, OfferLine, BeginLine, TakeLine, FallLine, ShowLine, form_of}
 use Rattle.gp_script.specs.Items.{item_of, counts_of}
 use Rattle.gp_script.specs.Rows.{HasWords}
-use Rattle.gp_script.proofs.Steps.{step_says, test_then, ok_or_says}
+use Rattle.gp_script.proofs.Steps.{test_then, ok_or_says}
 use Rattle.gp_script.proofs.FormLemmas.{form_says}
 use Rattle.gp_script.proofs.ItemLemmas.{line_for, item_read}
 use Rattle.gp_text.specs.declared.limits.TheConstants.{MOST_EVENTS}
 use Rattle.gp_text.specs.Reading.{Reading, Whole, Refused, Script, Sofar, nothing, said_so_far, on_line, is_nodes, is_passed, holds_limit, add_event, add_item, item_in, table_line, after_line, nodes_line, follow, reading_from}
+use Rattle.gp_store.proofs.ReadingLemmas.{bound}
 use Rattle.gp_verdict.specs.Parts.{is_divider, is_show, ends_trace, trace_lines, after_trace}
 
 -- ---- how many lines are shown
@@ -151,8 +152,8 @@ table_ends text form e =
 table_shows : (c : Counts) (sofar next : Sofar) (text : List ℕ) → table_line store_language c sofar text ≡ Ok next → length next.shown ≡ length sofar.shown + one_if (ends_trace text)
 unfolding table_line item_in
 table_shows c sofar next text e =
-    let added = step_says (item_in store_language c text) _ next e in
-    let row = step_says (ok_or (form_of (tokens_of text)) BadLine) _ added.0 added.1 in
+    let added = bound (item_in store_language c text) _ next e in
+    let row = bound (ok_or (form_of (tokens_of text)) BadLine) _ added.0 added.1 in
     let form = ok_or_says (form_of (tokens_of text)) row.0 BadLine row.1 in
     item_shows c sofar next added.0 added.2
     ∙ ap (λ b. length sofar.shown + one_if b) (form_item c row.0 added.0 row.2 ∙ sym (table_ends text row.0 form))

@@ -1,7 +1,6 @@
 -- How many bytes a trace has.
-use Rattle.std.proofs.Common.{ℕ, ◌+◌, ◌*◌, ◌<◌, ◌≤◌, cond, List, [], ◌∷◌, ◌++◌, length, Option, Some, None, sym, subst, arith}
+use Rattle.std.proofs.Common.{ℕ, ◌+◌, ◌*◌, ◌<◌, ◌≤◌, cond, List, [], ◌∷◌, ◌++◌, length, sym, subst, arith}
 use Rattle.std.specs.Prelude.{count_by, codes}
-use Rattle.std.specs.Option.{option_to_list}
 use Rattle.std.specs.List.{All, flat_map}
 use Rattle.std.proofs.lemmas.List.{length-append}
 use Rattle.std.proofs.lemmas.List.Elements.{All-head, All-tail}
@@ -9,11 +8,9 @@ use Rattle.std.proofs.lemmas.List.Sums.{sum_by-cons}
 use Rattle.gp_round.specs.Counts.{Counts}
 use Rattle.gp_round.specs.Ranges.{AreInRange}
 use Rattle.gp_msg.specs.declared.event.Event.{Event}
-use Rattle.gp_msg.specs.Messages.{Stamped, Entry}
-use Rattle.gp_msg.specs.Nodes.{node_of}
-use Rattle.gp_run.specs.Messages.{messages}
-use Rattle.gp_run.specs.Legal.{Legal, sent_by, sent_at}
-use Rattle.gp_run.specs.Runs.{entry_after, run_onto, run_of, AllFit, oldest_first}
+use Rattle.gp_msg.specs.Messages.{Entry}
+use Rattle.gp_run.specs.Legal.{Legal}
+use Rattle.gp_run.specs.Runs.{run_of, AllFit, oldest_first}
 use Rattle.gp_run.proofs.Running.{own_events_fit}
 use Rattle.gp_service.specs.Stores.{store_language}
 use Rattle.gp_service.specs.StoreLaws.{store_spelled}
@@ -25,19 +22,7 @@ use Rattle.gp_text.specs.Traces.{event_line, trace}
 use Rattle.gp_text.specs.Limits.{IsOfOperation, IsWithinScript}
 use Rattle.gp_text.proofs.EventSteps.{run_more, count_more}
 use Rattle.gp_text.proofs.TraceLines.{with_event, event_said}
-
--- a run has no more messages than events
-pub at_most_one : (o : Option Stamped) → length (option_to_list o) ≤ 1
-at_most_one None = omega arith
-at_most_one (Some m) = omega arith
-
-few_messages : (c : Counts) (es : List Entry) (events : List Event) → length (messages (run_onto c es events)) ≤ length (messages es) + length events
-few_messages c es [] = omega arith
-few_messages c es (event ∷ events) =
-    let r = few_messages c (entry_after c es event ∷ es) events in
-    let s = length-append (messages es) (sent_at c es event) in
-    let t = at_most_one (sent_by c es (node_of event) event) in
-    omega (arith, r, s, t)
+use Rattle.gp_text.proofs.TraceReading.{few_messages}
 
 abbrev lines_text : List Event → List ℕ
 lines_text es = flat_map (λ e. event_line e ++ codes "\n") es

@@ -3,3 +3,4 @@ pub mod Verdicts
 pub mod Answers
 pub mod Certified
 pub mod Printed
+pub mod Rejections

@@ -1,5 +1,5 @@
 //! The parts of an input.
-ghost use Rattle.std.specs.Prelude.{◌≡◌, ◌≤◌, ◌+◌, length, take, drop};
+ghost use Rattle.std.specs.Prelude.{◌≡◌, ◌≤◌, ◌+◌, ◌++◌, length, take, drop};
 ghost use Rattle.gp_words.specs.Lines.{lines_of};
 ghost use Rattle.gp_verdict.specs.Parts.{is_divider, ends_trace, trace_lines, after_trace, short_lines};
 
@@ -69,6 +69,7 @@ pub fn trace_head(bytes: &[u8]) -> Head<'_>
 /// The lines before the first one that contains the byte at place 1,048,576, counted from 0.
 pub fn short_head(bytes: &[u8]) -> Head<'_>
     ensures head { lines_of result.bytes.now ≡ short_lines 0 (lines_of bytes.now) }
+    ensures parts { result.bytes.now ++ result.rest.now ≡ bytes.now }
     ensures count { result.lines ≡ length (short_lines 0 (lines_of bytes.now)) }
     ensures short { length result.bytes.now ≤ MOST_BYTES }
     ensures few { result.lines ≤ length result.bytes.now }

@@ -31,7 +31,7 @@ returns c = record {
   votes = refl;
   commands = c.learned-2.result.now;
   shown = c.learned-2.ensures;
-  noted = c.in_ok-push_new.ensures ∙ ap (λ why. c.args.self.now.proofs.items ++ new_proofs (history_of c.args.known.now) c.args.at why c.learned-2.result.now)
+  noted = c.in_ok-push_new.ensures.written ∙ ap (λ why. c.args.self.now.proofs.items ++ new_proofs (history_of c.args.known.now) c.args.at why c.learned-2.result.now)
       (vote_source_is c.args.self.now.epoch c.args.round c.args.self.now.votes.entries c.args.self.now.config.acceptors c.acceptors-n.result c.quorum-size.result c.in_ok-quorums.quorums.items
       c.acceptors-n.ensures.value c.quorum-size.ensures.value c.in_ok-quorums.ensures);
 }

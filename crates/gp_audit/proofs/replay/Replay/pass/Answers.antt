@@ -15,5 +15,5 @@ returns c =
     let known : history_of c.in_ok-known.known ≡ old.learner.learned = ap history_of c.in_ok-known.ensures ∙ c.learned.ensures in
     passed old c.enter.new.self c.args.at c.args.k (message_of c.args.m.now) c.requires.step c.requires.message.0 c.requires.message.1 c.requires.message.2 c.take.new.self c.in_ok-_outs.ensures.next
     c.learned-2.result.now c.learned-2.ensures noted refl refl refl refl
-    (c.in_ok-push_new.ensures ∙ ap (λ (u : History). old.proofs.items ++ new_proofs u c.args.at (λ d. Some (cause.Final c.args.k)) c.learned-2.result.now) known)
+    (c.in_ok-push_new.ensures.written ∙ ap (λ (u : History). old.proofs.items ++ new_proofs u c.args.at (λ d. Some (cause.Final c.args.k)) c.learned-2.result.now) known)
     c.enter.ensures.epoch c.enter.ensures.votes c.enter.ensures.same
