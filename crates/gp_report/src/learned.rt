@@ -2,6 +2,7 @@
 ghost use Rattle.std.specs.Prelude.{◌≡◌, ◌<◌, ◌++◌, map, OnOk, OnErr, IfOk};
 ghost use Rattle.gp_history.specs.Canonical.{canonical};
 ghost use Rattle.gp_history.specs.Sequence.{history_of};
+ghost use Rattle.gp_words.specs.Beginnings.{AppendsBeginning};
 ghost use Rattle.gp_words.specs.Spacing.{spaced};
 ghost use Rattle.gp_world.specs.State.{entries_of};
 ghost use Rattle.gp_report.specs.Texts.{identity, identities, commands_line, learned_text};
@@ -16,7 +17,8 @@ use std::alloc::Global;
 /// Appends the identity of a command: `pN.M` is number M of proposer N. If memory runs out, `to`
 /// may hold the beginning of this text.
 pub fn push_identity(id: CommandId, to: &mut Vec<u8>) -> Result<(), NoMemory>
-    ensures { OnOk result (to.new.items ≡ to.old.items ++ identity id) }
+    ensures written { OnOk result (to.new.items ≡ to.old.items ++ identity id) }
+    ensures begun { OnErr result (AppendsBeginning to.old.items to.new.items (identity id)) }
 {
     to.push(b'p')?;
     push_number(u64::from(id.proposer), to)?;

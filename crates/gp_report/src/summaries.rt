@@ -1,41 +1,38 @@
 //! Summaries of runs whose events were drawn.
-ghost use Rattle.std.specs.Prelude.{◌≡◌, ◌<◌, ◌++◌, length, OnOk, OnErr, IfOk};
+ghost use Rattle.std.specs.Prelude.{◌≡◌, ◌↔◌, ◌<◌, ◌++◌, length, IsTrue, OnOk, OnErr, IfOk};
 ghost use Rattle.gp_world.specs.State.{entries_of};
-ghost use Rattle.gp_report.specs.Summaries.{store_lines, are_alike, sum_of_values, asked_line, counts_line, same_line, sum_line, replicas_summary, summary};
+ghost use Rattle.gp_report.specs.Summaries.{are_alike, sum_of_values, asked_line, counts_line, same_line, sum_line, replicas_summary, summary};
 
 use crate::replicas::replica_of;
-use crate::replies::push_replies;
 use crate::reports::push_totals;
-use crate::states::push_state;
-use gp_command::{Key, NoMemory};
+use gp_command::{CommandId, Key, NoMemory};
 use gp_history::Hist;
-use gp_replica::Replica;
+use gp_replica::{Replica, Reply};
 use gp_store::KeyStore;
 use gp_words::push_number;
 use gp_world::World;
 use std::alloc::Global;
 use std::collections::BTreeMap;
 
-// The lines of what a replica's store holds and what it replied.
-fn store_lines(alloc: Global, replica: &Replica<KeyStore>) -> Result<Vec<u8>, NoMemory>
-    ensures { IfOk result (λ text. text.items ≡ store_lines replica.now) }
+fn hold_the_same(store: &KeyStore, other: &KeyStore) -> bool
+    ensures { IsTrue result ↔ (store.now ≡ other.now) }
 {
-    let mut text = Vec::new(alloc);
-    push_state(0, replica.machine(), &mut text)?;
-    push_replies(0, replica.replies(), &mut text)?;
-    Ok(text)
+    store.pairs() == other.pairs()
 }
 
-fn are_alike(
-    alloc: Global,
-    replica: &Replica<KeyStore>,
-    other: &Replica<KeyStore>,
-) -> Result<bool, NoMemory>
-    ensures { IfOk result (λ alike. alike ≡ are_alike replica.now other.now) }
+fn replied_the_same(replies: &[(CommandId, Reply)], others: &[(CommandId, Reply)]) -> bool
+    ensures { IsTrue result ↔ (replies.now ≡ others.now) }
 {
-    let lines = store_lines(alloc, replica)?;
-    let other_lines = store_lines(alloc, other)?;
-    Ok(lines.as_slice() == other_lines.as_slice())
+    replies == others
+}
+
+// Whether the stores of two replicas hold and replied the same.
+fn are_alike(replica: &Replica<KeyStore>, other: &Replica<KeyStore>) -> bool
+    ensures { result ≡ are_alike replica.now other.now }
+{
+    let same_pairs = hold_the_same(replica.machine(), other.machine());
+    let same_replies = replied_the_same(replica.replies(), other.replies());
+    same_pairs && same_replies
 }
 
 fn sum_of_values(pairs: &BTreeMap<Key, u64>) -> u64
@@ -93,14 +90,13 @@ fn push_sum(sum: u64, to: &mut Vec<u8>) -> Result<(), NoMemory>
 
 // Appends the lines of two replicas.
 fn push_replicas(
-    alloc: Global,
     replica: &Replica<KeyStore>,
     other: &Replica<KeyStore>,
     to: &mut Vec<u8>,
 ) -> Result<(), NoMemory>
     ensures { OnOk result (to.new.items ≡ to.old.items ++ replicas_summary replica.now other.now) }
 {
-    let alike = are_alike(alloc, replica, other)?;
+    let alike = are_alike(replica, other);
     push_counts(replica.ran().len(), other.ran().len(), to)?;
     push_same(alike, to)?;
     push_sum(sum_of_values(replica.machine().pairs()), to)
@@ -115,7 +111,7 @@ fn summary_of(alloc: Global, seed: u64, commands: u32, world: &World) -> Result<
     let other = replica_of::<KeyStore>(alloc, world.learned(1))?;
     let mut text = Vec::new(alloc);
     push_asked(seed, commands, &mut text)?;
-    push_replicas(alloc, &replica, &other, &mut text)?;
+    push_replicas(&replica, &other, &mut text)?;
     push_totals(world, &mut text)?;
     Ok(text)
 }

@@ -1,5 +1,6 @@
 //! Accounts as a service.
-ghost use Rattle.std.specs.Prelude.{◌≡◌, ◌++◌, OnOk, Some};
+ghost use Rattle.std.specs.Prelude.{◌≡◌, ◌++◌, OnOk, OnErr, Some};
+ghost use Rattle.gp_words.specs.Beginnings.{AppendsBeginning};
 ghost use Rattle.gp_words.specs.Tokens.{texts};
 ghost use Rattle.gp_bank.specs.FormViews.{form_view};
 ghost use Rattle.gp_bank.specs.Forms.{bank_op_of_form};
@@ -31,7 +32,8 @@ fn draft_of_form(alloc: Global, form: BankForm<'_>) -> Result<Draft, Unsaid>
 
 #[tactic(auto, unfolding(crate::specs::Banks::amount_text))]
 fn push_amount(name: &[u8], amount: u128, to: &mut Vec<u8>) -> Result<(), NoMemory>
-    ensures { OnOk result (to.new.items ≡ to.old.items ++ amount_text name.now amount) }
+    ensures written { OnOk result (to.new.items ≡ to.old.items ++ amount_text name.now amount) }
+    ensures begun { OnErr result (AppendsBeginning to.old.items to.new.items (amount_text name.now amount)) }
 {
     let mut buffer = Buffer::new();
     to.extend_from_slice(name)?;
@@ -41,7 +43,8 @@ fn push_amount(name: &[u8], amount: u128, to: &mut Vec<u8>) -> Result<(), NoMemo
 
 // Appends the line of a learner whose replica has these totals.
 fn push_line(learner: u32, totals: Totals, to: &mut Vec<u8>) -> Result<(), NoMemory>
-    ensures { OnOk result (to.new.items ≡ to.old.items ++ totals_line learner totals.held totals.deposits totals.withdrawals) }
+    ensures written { OnOk result (to.new.items ≡ to.old.items ++ totals_line learner totals.held totals.deposits totals.withdrawals) }
+    ensures begun { OnErr result (AppendsBeginning to.old.items to.new.items (totals_line learner totals.held totals.deposits totals.withdrawals)) }
 {
     to.push(b'l')?;
     push_number(u64::from(learner), to)?;

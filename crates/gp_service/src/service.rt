@@ -1,6 +1,7 @@
 //! What scripts and reports need of a machine.
-ghost use Rattle.std.specs.Prelude.{◌≡◌, ◌++◌, OnOk};
+ghost use Rattle.std.specs.Prelude.{◌≡◌, ◌++◌, OnOk, OnErr};
 ghost use Rattle.std.specs.FinMap.{entries};
+ghost use Rattle.gp_words.specs.Beginnings.{AppendsBeginning};
 ghost use Rattle.gp_words.specs.Tokens.{texts};
 ghost use Rattle.gp_service.specs.Profiles.{Profile, IsProfileOf};
 ghost use Rattle.gp_service.specs.Answers.{Answers};
@@ -42,7 +43,8 @@ pub trait Service: Machine {
     /// Appends the lines that a report has after the replies of a learner with this replica. If
     /// memory runs out, `to` may hold the beginning of them.
     fn push_totals(learner: u32, replica: &Replica<Self>, to: &mut Vec<u8>) -> Result<(), NoMemory>
-        ensures { OnOk result (to.new.items ≡ to.old.items ++ profile.totals learner replica.now) };
+        ensures written { OnOk result (to.new.items ≡ to.old.items ++ profile.totals learner replica.now) }
+        ensures begun { OnErr result (AppendsBeginning to.old.items to.new.items (profile.totals learner replica.now)) };
 
     /// The rules of the profile are the machine's, and an operation has one spelling.
     ghost known: { IsProfileOf Self.rules profile };

@@ -16,7 +16,7 @@ use Rattle.gp_text.proofs.LineSteps.{reading_opens, reading_from_end, reading_fr
 abbrev IsPassed : List ℕ → Type 0
 IsPassed line = is_passed (text_of line) ≡ true
 
-no_more : (place : ℕ) → place ≡ place + 0
+pub no_more : (place : ℕ) → place ≡ place + 0
 no_more place = omega arith
 
 one_more : (place size more : ℕ) → place + size + more ≡ place + (size + more)

@@ -41,11 +41,11 @@ use Rattle.gp_text.proofs.SaidLegally.{said_legal}
 -- ---- events that fit, one behind another
 
 -- a run has no more messages than events
-one_sent : (o : Option Stamped) → length (option_to_list o) ≤ 1
+pub one_sent : (o : Option Stamped) → length (option_to_list o) ≤ 1
 one_sent None = omega arith
 one_sent (Some m) = omega arith
 
-few_messages : (c : Counts) (es : List Entry) (events : List Event) → length (messages (run_onto c es events)) ≤ length (messages es) + length events
+pub few_messages : (c : Counts) (es : List Entry) (events : List Event) → length (messages (run_onto c es events)) ≤ length (messages es) + length events
 few_messages c es [] = omega arith
 few_messages c es (event ∷ events) =
     let r = few_messages c (entry_after c es event ∷ es) events in
@@ -54,7 +54,7 @@ few_messages c es (event ∷ events) =
     omega (arith, r, s, t)
 
 -- the events of the run of some events are these
-events-run_onto : (c : Counts) (es : List Entry) (events : List Event) → oldest_first (run_onto c es events) ≡ oldest_first es ++ events
+pub events-run_onto : (c : Counts) (es : List Entry) (events : List Event) → oldest_first (run_onto c es events) ≡ oldest_first es ++ events
 events-run_onto c es [] = sym (append-nil (oldest_first es))
 events-run_onto c es (event ∷ events) =
     events-run_onto c (entry_after c es event ∷ es) events

@@ -16,8 +16,9 @@ use Rattle.gp_script.specs.declared.items.Item.{Item}
 use Rattle.gp_script.specs.declared.items.Item.TheVariants as item
 use Rattle.gp_script.specs.Forms.{form_of}
 use Rattle.gp_script.specs.Items.{item_of, counts_of}
-use Rattle.gp_script.proofs.Steps.{step_says, ok_or_says, step_fails, ok_or_fails, fails_or}
+use Rattle.gp_script.proofs.Steps.{ok_or_says, step_fails, ok_or_fails, fails_or}
 use Rattle.gp_script.proofs.BrokenTokens.{line_breaks, counts_break}
+use Rattle.gp_store.proofs.ReadingLemmas.{bound}
 use Rattle.gp_text.specs.declared.limits.TheConstants.{MOST_OFFERS, MOST_EVENTS}
 use Rattle.gp_text.specs.Reading.{Sofar, messages_after, is_offer, lacks_kept, add_event, add_item, item_in, table_line, is_passed, after_line, is_nodes, nodes_line}
 use Rattle.gp_text.specs.Refusals.{IsWrongNodes, IsFull, MayNotFollow, IsWrongLine}
@@ -74,7 +75,7 @@ table_fails language c range said text why e =
         | inr f ↦ inr (f.0, ok_or_says (form_of (tokens_of text)) f.0 BadLine f.1, inl (line_breaks c range language f.0 why f.2))
       ]
       | inr i ↦
-          let f = step_says (ok_or (form_of (tokens_of text)) BadLine) (item_of language c) i.0 i.1 in
+          let f = bound (ok_or (form_of (tokens_of text)) BadLine) (item_of language c) i.0 i.1 in
           inr (f.0, ok_or_says (form_of (tokens_of text)) f.0 BadLine f.1, inr (i.0, f.2, item_fails c said i.0 why i.2))
     ]
 

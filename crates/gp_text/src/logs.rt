@@ -2,6 +2,7 @@
 ghost use Rattle.std.specs.Prelude.{◌≡◌, ◌++◌, length, map, OnOk, OnErr, IfOk};
 ghost use Rattle.gp_history.specs.Sequence.{history_of};
 ghost use Rattle.gp_msg.specs.Messages.{part_of};
+ghost use Rattle.gp_words.specs.Beginnings.{AppendsBeginning};
 ghost use Rattle.gp_text.specs.Logs.{dotted_round, place_words, vote_words, part_line, head_line, log_text};
 
 use crate::traces::push_mode;
@@ -18,7 +19,8 @@ use std::alloc::Global;
 /// Appends a round as `COUNT.MODE.LEAD`. If memory runs out, `to` may hold the beginning of this
 /// text.
 pub fn push_dotted(round: Round, to: &mut Vec<u8>) -> Result<(), NoMemory>
-    ensures { OnOk result (to.new.items ≡ to.old.items ++ dotted_round round) }
+    ensures written { OnOk result (to.new.items ≡ to.old.items ++ dotted_round round) }
+    ensures begun { OnErr result (AppendsBeginning to.old.items to.new.items (dotted_round round)) }
 {
     push_number(u64::from(round.count), to)?;
     to.push(b'.')?;
