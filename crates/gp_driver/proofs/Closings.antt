@@ -2,20 +2,8 @@
 use Rattle.std.proofs.Common.{◌≡◌, ℕ, zero, suc, ◌<◌, ◌≤◌, List, [], ◌∷◌, ◌++◌, Some, None, refl, ap, arith}
 use Rattle.std.specs.Prelude.{Option, slice_get, max}
 use Rattle.std.specs.Option.{option_to_list}
-use Rattle.gp_command.specs.declared.command.Command.{Command}
-use Rattle.gp_history.specs.History.{History, IsHistory, has, empty}
-use Rattle.gp_history.proofs.Joins.{empty_none}
-use Rattle.gp_history.proofs.Bound.{empty_is_history}
-use Rattle.gp_history.proofs.Tests.{never}
-use Rattle.gp_epoch.specs.Cut.{first_checkpoint}
-use Rattle.gp_epoch.proofs.Checkpoints.{found_is_first}
+use Rattle.gp_history.specs.History.{History, IsHistory}
 use Rattle.gp_msg.specs.Messages.{Message, Proposed, Asked, Answered, Sent, Voted, Stamped, Offered, InEpoch, Final, maybe_stamped}
-
-pub nothing_is_plain : first_checkpoint empty ≡ None
-nothing_is_plain = by (first_checkpoint empty) refl where
-  by : (o : Option Command) → first_checkpoint empty ≡ o → o ≡ None
-  by None e = refl
-  by (Some z) e = absurd (let f = found_is_first empty empty_is_history z e in never (has empty z) f.there (empty_none z))
 
 -- ---- epochs that are closed
 

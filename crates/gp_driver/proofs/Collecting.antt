@@ -21,15 +21,11 @@ use Rattle.gp_coordinator.specs.Replies.{unanswered, reply_at}
 use Rattle.gp_coordinator.specs.Table.{is_enough, answered}
 use Rattle.gp_coordinator.proofs.Replying.{length_unanswered}
 use Rattle.gp_coordinator.specs.Epochs.{CoordinatorInEpoch, take, stepped}
+use Rattle.gp_agreement.proofs.Coordinators.{unanswered_there}
+use Rattle.gp_round.proofs.Orders.{same_round_itself}
 use Rattle.gp_driver.proofs.Lists.{outs}
 use Rattle.gp_driver.proofs.Sweeping.{run, run-snoc}
-use Rattle.gp_driver.proofs.Rounds.{same_itself}
 use Rattle.gp_driver.proofs.Values.{pushes_is_history, has-pushes, IsOfReplies, safe_choice_is_from}
-
-none_answered : (n i : ℕ) → reply_at (unanswered n) i ≡ None
-none_answered zero i = refl
-none_answered (suc n) zero = refl
-none_answered (suc n) (suc i) = none_answered n i
 
 all_members : (p : ℕ → Bool) (n : ℕ) → ((i : ℕ) → i < n → p i ≡ true) → members p n ≡ n
 all_members p zero h = refl
@@ -78,7 +74,7 @@ module _ (e : ℕ) (r : Round) (number : ℕ) (config : Counts) (reply : ℕ →
   takes_answer : (n : ℕ) (xs : List (Option Reply)) → n < config.acceptors → reply_at xs n ≡ None → take (with_answers xs None) (answer_of n) ≡ counted (slice_set xs n (Some (reply n)))
   takes_answer n xs l missing =
       (λ i. cond (eq-eqb e e refl i) (stepped (with_answers xs None)
-      (cond (same_itself r i && true && lt-ltb n config.acceptors l i && is_missing (missing i)) (answered (record { config = config; number = number; round = r; awake = true; answers = slice_set xs n (Some (reply n)); value = None; pending = pending })) ((with_answers xs None).state, None)))
+      (cond (same_round_itself r i && true && lt-ltb n config.acceptors l i && is_missing (missing i)) (answered (record { config = config; number = number; round = r; awake = true; answers = slice_set xs n (Some (reply n)); value = None; pending = pending })) ((with_answers xs None).state, None)))
       (with_answers xs None, None))
       ∙ by (is_enough config.acceptors (reply_at (slice_set xs n (Some (reply n)))))
     where
@@ -94,7 +90,7 @@ module _ (e : ℕ) (r : Round) (number : ℕ) (config : Counts) (reply : ℕ →
   passes_answer : (n : ℕ) (xs : List (Option Reply)) (v : History) → take (with_answers xs (Some v)) (answer_of n) ≡ (with_answers xs (Some v), None)
   passes_answer n xs v =
       (λ i. cond (eq-eqb e e refl i) (stepped (with_answers xs (Some v))
-      (cond (same_itself r i && false && nat_lt n config.acceptors && is_missing (reply_at xs n)) (answered (record { config = config; number = number; round = r; awake = true; answers = slice_set xs n (Some (reply n)); value = Some v; pending = pending })) ((with_answers xs (Some v)).state, None)))
+      (cond (same_round_itself r i && false && nat_lt n config.acceptors && is_missing (reply_at xs n)) (answered (record { config = config; number = number; round = r; awake = true; answers = slice_set xs n (Some (reply n)); value = Some v; pending = pending })) ((with_answers xs (Some v)).state, None)))
       (with_answers xs (Some v), None))
 
   -- ---- what was given
@@ -175,7 +171,7 @@ module _ (e : ℕ) (r : Round) (number : ℕ) (config : Counts) (reply : ℕ →
     answers = unanswered config.acceptors;
     is = refl;
     given = λ i h. absurd (omega (arith, h));
-    missing = λ i h. none_answered config.acceptors i;
+    missing = λ i h. unanswered_there config.acceptors i;
     places = length_unanswered config.acceptors;
     few = λ h. absurd (omega (arith, h));
   })

@@ -44,7 +44,7 @@ swept_grows config node i (suc n) ks es h = elim (cases_eq i (suc n)) [
 -- the first i nodes are through
 pub record Sweeping (config config_now : Counts) (es now : List Entry) (faults faults_now : ℕ) (ready : Type 0) (node : ℕ → Node) (ks : List ℕ) (i taken : ℕ) : Type 0 where
   pub same_config : config_now ≡ config
-  pub later : faults ≤ faults_now
+  pub steady : faults_now ≡ faults
   pub is_ready : ready
   pub done : now ≡ swept config node i ks es
   pub entries : length now ≡ length es + taken
@@ -67,11 +67,11 @@ module _ (config config_now : Counts) (es now : List Entry) (f0 f1 : ℕ) (ready
       ∙ (λ j. run_onto config (s.done j) (takes (node i) (places kind start (first_ones j))))
       ∙ (λ j. run_onto config (swept config node i ks es) (takes (node i) (sym k j)))
 
-  pub sweeping_next : (c2 : Counts) (zs part : List Entry) (f2 : ℕ) (ready2 : Type 0) (n : ℕ) → c2 ≡ config_now → f1 ≤ f2 → zs ≡ part → part ≡ swept config node (suc i) ks es → length zs ≡ length now + n → ready2
+  pub sweeping_next : (c2 : Counts) (zs part : List Entry) (f2 : ℕ) (ready2 : Type 0) (n : ℕ) → c2 ≡ config_now → f2 ≡ f1 → zs ≡ part → part ≡ swept config node (suc i) ks es → length zs ≡ length now + n → ready2
       → Sweeping config c2 es zs f0 f2 ready2 node ks (i + 1) (taken + n)
   sweeping_next c2 zs part f2 ready2 n e l is to more r = record {
     same_config = e ∙ s.same_config;
-    later = let a = s.later in omega (arith, a, l);
+    steady = l ∙ s.steady;
     is_ready = r;
     done = is ∙ to ∙ (λ j. swept config node (sym (add-one i) j) ks es);
     entries = let a = s.entries in omega (arith, a, more);
@@ -94,7 +94,7 @@ module _ (config config_now : Counts) (es now : List Entry) (f0 f1 : ℕ) (ready
 pub record Searching (config config_now : Counts) (es now : List Entry) (f0 f1 : ℕ) (ready ready_now : Type 0) (kind : MsgKind) (start k : ℕ) : Type 0 where
   pub same_config : config_now ≡ config
   pub same_run : now ≡ es
-  pub later : f0 ≤ f1
+  pub steady : f1 ≡ f0
   pub is_ready : ready → ready_now
   pub left : first_place (places_from kind k (drop k (messages es))) ≡ first_place (places kind start (messages es))
 
@@ -107,13 +107,13 @@ module _ (config config_now : Counts) (es now : List Entry) (f0 f1 : ℕ) (ready
       let m = there_is k (messages es) l in
       sym (search_at kind k (messages es) m.0 m.1 true (sym (ap (is_there kind) m.1) ∙ ap (λ zs. is_there kind (slice_get (messages zs) k)) (sym s.same_run) ∙ t)) ∙ s.left
 
-  pub search_on : (c2 : Counts) (zs : List Entry) (f2 : ℕ) (ready2 : Type 0) → k < length (messages es) → is_there kind (slice_get (messages now) k) ≡ false → c2 ≡ config_now → zs ≡ now → f1 ≤ f2 → (ready_now → ready2) → Searching config c2 es zs f0 f2 ready ready2 kind start (k + 1)
+  pub search_on : (c2 : Counts) (zs : List Entry) (f2 : ℕ) (ready2 : Type 0) → k < length (messages es) → is_there kind (slice_get (messages now) k) ≡ false → c2 ≡ config_now → zs ≡ now → f2 ≡ f1 → (ready_now → ready2) → Searching config c2 es zs f0 f2 ready ready2 kind start (k + 1)
   search_on c2 zs f2 ready2 l t e n le r =
       let m = there_is k (messages es) l in
       record {
         same_config = e ∙ s.same_config;
         same_run = n ∙ s.same_run;
-        later = let a = s.later in omega (arith, a, le);
+        steady = le ∙ s.steady;
         is_ready = λ h. r (s.is_ready h);
         left = (λ i. first_place (places_from kind (add-one k i) (drop (add-one k i) (messages es)))) ∙ sym (search_at kind k (messages es) m.0 m.1 false (sym (ap (is_there kind) m.1) ∙ ap (λ zs. is_there kind (slice_get (messages zs) k)) (sym s.same_run) ∙ t)) ∙ s.left;
       }

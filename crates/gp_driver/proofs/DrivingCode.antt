@@ -79,7 +79,7 @@ first_begun c d es p q = λ i. entry_after (p i) (q i) (Begin 0 first_round) ∷
 -- the drafts that are left lead to the target
 pub record DrivingEach (config config_now : Counts) (es now target : List Entry) (f0 f1 : ℕ) (ready : Type 0) (left : List Draft) (events : ℕ) : Type 0 where
   pub same_config : config_now ≡ config
-  pub later : f0 ≤ f1
+  pub steady : f1 ≡ f0
   pub is_ready : ready
   pub rest : all_driven config left now ≡ target
   pub entries : length now ≡ length es + events
@@ -100,11 +100,11 @@ module _ (config config_now : Counts) (es now target : List Entry) (f0 f1 : ℕ)
       let d = ap (λ x. length (driven x draft now)) s.same_config in
       omega (arith, a, e, d)
 
-  pub one_on : (c2 : Counts) (zs : List Entry) (g : ℕ) (ready2 : Type 0) (n : ℕ) → c2 ≡ config_now → zs ≡ driven config_now draft now → length zs ≡ length now + n → f1 ≤ g → ready2
+  pub one_on : (c2 : Counts) (zs : List Entry) (g : ℕ) (ready2 : Type 0) (n : ℕ) → c2 ≡ config_now → zs ≡ driven config_now draft now → length zs ≡ length now + n → g ≡ f1 → ready2
       → DrivingEach config c2 es zs target f0 g ready2 rest (events + n)
   one_on c2 zs g ready2 n e made more l r = record {
     same_config = e ∙ s.same_config;
-    later = let a = s.later in omega (arith, a, l);
+    steady = l ∙ s.steady;
     is_ready = r;
     rest = ap (all_driven config rest) (made ∙ ap (λ x. driven x draft now) s.same_config) ∙ on;
     entries = let a = s.entries in omega (arith, a, more);

@@ -1,21 +1,23 @@
--- What drivers do to the nodes of a stage, one call after another.
-use Rattle.std.proofs.Common.{◌≡◌, ◌≢◌, ◌≤◌, ℕ, zero, suc, inl, inr, List, [], ◌∷◌, refl, sym, ◌∙◌, subst, arith, Some, None, Result, Ok, Err}
+-- What drivers do to the nodes and the run of a stage, one call after another.
+use Rattle.std.proofs.Common.{◌≡◌, ◌≢◌, ◌≤◌, ℕ, zero, suc, inl, inr, List, [], ◌∷◌, ◌++◌, refl, sym, ap, ◌∙◌, subst, arith, append_assoc, Some, None, Result, Ok, Err}
 use Rattle.std.specs.Prelude.{slice_get}
 use Rattle.std.specs.List.{AllZip}
 use Rattle.gp_msg.specs.declared.node.Node.{Node}
 use Rattle.gp_msg.specs.declared.node.Node.TheVariants.{Proposer}
 use Rattle.gp_msg.specs.declared.node.Node.TheVariants as node
+use Rattle.gp_msg.specs.Messages.{Entry}
 use Rattle.gp_driver.specs.declared.sweep.Role.{Role}
 use Rattle.gp_driver.specs.declared.sweep.Role.TheVariants.{Coordinator, Acceptor, Learner}
 use Rattle.gp_driver.specs.Roles.{node_of}
 use Rattle.gp_driver.specs.declared.stage.StageFault.{StageFault}
 use Rattle.gp_driver.specs.declared.stage.StageFault.TheVariants as fault
-use Rattle.gp_driver.specs.Stages.{StageNode, Anyone, Nobody, AllBut, IsProposer, NodeGoes, NodesGo, HasRisen, SomeNodeRose, IfDiskFailed, FailsByNode}
+use Rattle.gp_driver.specs.Stages.{StageNode, StageState, Anyone, Nobody, AllBut, IsProposer, NodeGoes, NodesGo, StageGoes, Extends, HasRisen, SomeNodeRose, IfDiskFailed, UnlessDiskFailed, FailsByNode, fault_counts}
 
--- what is known of a loop, and what the nodes did in it
-pub record WithNodes (known_is : Type 0) (idle : Node → Type 0) (old new : List StageNode) : Type 0 where
+-- what is known of a loop, and what became of the nodes and the run in it, in which no disk failed
+pub record WithNodes (known_is : Type 0) (idle : Node → Type 0) (old new : StageState) : Type 0 where
   pub known : known_is
-  pub nodes : NodesGo idle old new
+  pub goes : StageGoes idle old new
+  pub counts : fault_counts new.nodes ≡ fault_counts old.nodes
 
 each_still : (idle : Node → Type 0) (xs : List StageNode) → AllZip (NodeGoes idle) xs xs
 each_still idle [] = tt
@@ -40,7 +42,7 @@ each_on idle (x ∷ xs) (y ∷ ys) [] a b = absurd b
 each_on idle (x ∷ xs) (y ∷ ys) (z ∷ zs) a b = (node_on idle x y z a.0 b.0, each_on idle xs ys zs a.1 b.1)
 
 -- one after another
-pub nodes_on : (idle : Node → Type 0) (xs ys zs : List StageNode) → NodesGo idle xs ys → NodesGo idle ys zs → NodesGo idle xs zs
+nodes_on : (idle : Node → Type 0) (xs ys zs : List StageNode) → NodesGo idle xs ys → NodesGo idle ys zs → NodesGo idle xs zs
 nodes_on idle xs ys zs a b = record { each = each_on idle xs ys zs a.each b.each }
 
 each_less : (less more : Node → Type 0) → ((n : Node) → less n → more n) → (xs ys : List StageNode) → AllZip (NodeGoes more) xs ys → AllZip (NodeGoes less) xs ys
@@ -49,15 +51,35 @@ each_less less more h [] (y ∷ ys) a = absurd a
 each_less less more h (x ∷ xs) [] a = absurd a
 each_less less more h (x ∷ xs) (y ∷ ys) a = (record { same_node = a.0.same_node; later = a.0.later; same_limit = a.0.same_limit; rests = λ i. a.0.rests (h x.node i) }, each_less less more h xs ys a.1)
 
--- fewer of them are idle
-pub nodes_less : (less more : Node → Type 0) → ((n : Node) → less n → more n) → (xs ys : List StageNode) → NodesGo more xs ys → NodesGo less xs ys
-nodes_less less more h xs ys a = record { each = each_less less more h xs ys a.each }
+-- ---- the nodes and the run
 
-pub all_idle : (idle : Node → Type 0) (xs ys : List StageNode) → NodesGo Anyone xs ys → NodesGo idle xs ys
-all_idle idle xs ys a = nodes_less idle Anyone (λ n i. tt) xs ys a
+extends_on : (es fs gs : List Entry) → Extends es fs → Extends fs gs → Extends es gs
+extends_on es fs gs a b = (b.0 ++ a.0, b.1 ∙ ap (λ l. b.0 ++ l) a.1 ∙ sym (append_assoc b.0 a.0 es))
 
-pub none_idle : (idle : Node → Type 0) (xs ys : List StageNode) → NodesGo idle xs ys → NodesGo Nobody xs ys
-none_idle idle xs ys a = nodes_less Nobody idle (λ n i. absurd i) xs ys a
+-- the run is the same
+pub same_run : (idle : Node → Type 0) (x y : StageState) → NodesGo idle x.nodes y.nodes → y.run ≡ x.run → StageGoes idle x y
+same_run idle x y a e = record { nodes = a; grows = ([], e) }
+
+-- the run has one entry more
+pub one_entry : (idle : Node → Type 0) (x y : StageState) (e : Entry) → NodesGo idle x.nodes y.nodes → y.run ≡ e ∷ x.run → StageGoes idle x y
+one_entry idle x y e a more = record { nodes = a; grows = (e ∷ [], more) }
+
+pub goes_still : (idle : Node → Type 0) (x : StageState) → StageGoes idle x x
+goes_still idle x = same_run idle x x (nodes_still idle x.nodes) refl
+
+-- one after another
+pub goes_on : (idle : Node → Type 0) (x y z : StageState) → StageGoes idle x y → StageGoes idle y z → StageGoes idle x z
+goes_on idle x y z a b = record { nodes = nodes_on idle x.nodes y.nodes z.nodes a.nodes b.nodes; grows = extends_on x.run y.run z.run a.grows b.grows }
+
+-- fewer of the nodes are idle
+goes_less : (less more : Node → Type 0) → ((n : Node) → less n → more n) → (x y : StageState) → StageGoes more x y → StageGoes less x y
+goes_less less more h x y a = record { nodes = record { each = each_less less more h x.nodes y.nodes a.nodes.each }; grows = a.grows }
+
+pub all_idle : (idle : Node → Type 0) (x y : StageState) → StageGoes Anyone x y → StageGoes idle x y
+all_idle idle x y a = goes_less idle Anyone (λ n i. tt) x y a
+
+pub none_idle : (idle : Node → Type 0) (x y : StageState) → StageGoes idle x y → StageGoes Nobody x y
+none_idle idle x y a = goes_less Nobody idle (λ n i. absurd i) x y a
 
 role_apart : (role : Role) (i p : ℕ) → Proposer p ≢ node_of role i
 role_apart Coordinator i p e = cc
@@ -65,11 +87,11 @@ role_apart Acceptor i p e = cc
 role_apart Learner i p e = cc
 
 -- what one node of a role does leaves the proposers alone
-pub role_goes : (role : Role) (i : ℕ) (node : Node) → node ≡ node_of role i → (xs ys : List StageNode) → NodesGo (AllBut node) xs ys → NodesGo IsProposer xs ys
-role_goes role i node is xs ys a = nodes_less IsProposer (AllBut node) (λ n q e. role_apart role i q.0 (sym q.1 ∙ e ∙ is)) xs ys a
+pub role_goes : (role : Role) (i : ℕ) (node : Node) → node ≡ node_of role i → (x y : StageState) → StageGoes (AllBut node) x y → StageGoes IsProposer x y
+role_goes role i node is x y a = goes_less IsProposer (AllBut node) (λ n q e. role_apart role i q.0 (sym q.1 ∙ e ∙ is)) x y a
 
-pub coordinator_goes : (i : ℕ) (xs ys : List StageNode) → NodesGo (AllBut (node.Coordinator i)) xs ys → NodesGo IsProposer xs ys
-coordinator_goes i xs ys a = role_goes Coordinator i (node.Coordinator i) refl xs ys a
+pub coordinator_goes : (i : ℕ) (x y : StageState) → StageGoes (AllBut (node.Coordinator i)) x y → StageGoes IsProposer x y
+coordinator_goes i x y a = role_goes Coordinator i (node.Coordinator i) refl x y a
 
 -- ---- faults of disks
 
@@ -101,6 +123,15 @@ failed_after P Q (Err fault.NoMemory) h f = tt
 failed_after P Q (Err fault.Disk) h f = h f
 failed_after P Q (Err (fault.Full size need)) h f = tt
 
--- a call after others failed by the disk of a node
-pub failed_on : (idle : Node → Type 0) (xs ys zs : List StageNode) (r : Result ℕ StageFault) → NodesGo idle xs ys → FailsByNode ys zs r → FailsByNode xs zs r
-failed_on idle xs ys zs r a f = record { by_node = failed_after (SomeNodeRose ys zs) (SomeNodeRose xs zs) r (some_rose idle xs ys zs a) f.by_node }
+unless_after : (P Q : Type 0) (r : Result ℕ StageFault) → (P → Q) → UnlessDiskFailed r P → UnlessDiskFailed r Q
+unless_after P Q (Ok n) h f = h f
+unless_after P Q (Err fault.NoMemory) h f = h f
+unless_after P Q (Err fault.Disk) h f = tt
+unless_after P Q (Err (fault.Full size need)) h f = h f
+
+-- a call after others, in which no disk failed, failed by the disk of a node, or no disk failed in it either
+pub failed_on : (idle : Node → Type 0) (xs ys zs : List StageNode) (r : Result ℕ StageFault) → NodesGo idle xs ys → fault_counts ys ≡ fault_counts xs → FailsByNode ys zs r → FailsByNode xs zs r
+failed_on idle xs ys zs r a e f = record {
+  by_node = failed_after (SomeNodeRose ys zs) (SomeNodeRose xs zs) r (some_rose idle xs ys zs a) f.by_node;
+  steady = unless_after (fault_counts zs ≡ fault_counts ys) (fault_counts zs ≡ fault_counts xs) r (λ s. s ∙ e) f.steady;
+}

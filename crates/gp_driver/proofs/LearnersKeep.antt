@@ -14,7 +14,7 @@ use Rattle.gp_msg.specs.declared.node.Node.TheVariants.{Proposer, Coordinator, A
 use Rattle.gp_msg.specs.declared.event.Event.{Event}
 use Rattle.gp_msg.specs.declared.event.Event.TheVariants.{Offer, Begin, Take, Fall}
 use Rattle.gp_learner.specs.State.{LearnerState, Votes}
-use Rattle.gp_learner.specs.Table.{voter_cmp, vote_of, votes_held, votes_with, heard, learned_with, learner_take}
+use Rattle.gp_learner.specs.Table.{voter_cmp, vote_of, votes_held, votes_with, heard, learner_take}
 use Rattle.gp_learner.specs.Table as table
 use Rattle.gp_learner.proofs.Lookups.{lookup-insert_entry, voter_cmp_total}
 use Rattle.gp_epoch.specs.Cut.{first_checkpoint, cut}
@@ -23,10 +23,11 @@ use Rattle.gp_run.specs.Messages.{on_message}
 use Rattle.gp_run.specs.States.{learner_acts}
 use Rattle.gp_learner.specs.Epochs.{LearnerInEpoch, passed, learning, with_state, hearing, take, fall}
 use Rattle.gp_run.proofs.Choices.{chosen, chosen_where, with_message}
+use Rattle.gp_learner.proofs.Parts.{nothing_marked}
 use Rattle.gp_driver.proofs.Values.{heard_is_from}
 use Rattle.gp_driver.proofs.Hearing.{with_is_history}
 use Rattle.gp_driver.proofs.AcceptorsKeep.{newer_is}
-use Rattle.gp_driver.proofs.Closings.{MaybeSound, MaybeInOrder, AllSound, closed_by, standing_closes, after, nothing_is_plain}
+use Rattle.gp_driver.proofs.Closings.{MaybeSound, MaybeInOrder, AllSound, closed_by, standing_closes, after}
 
 -- its own configuration and number, and votes and a part that are histories
 pub record LearnerSound (config : Counts) (l : ℕ) (s : LearnerState) : Type 0 where
@@ -81,7 +82,7 @@ module _ (config : Counts) (l n : ℕ) where
   passes : (m : ℕ) (s : LearnerInEpoch) (v : History) → LearnerKept config l n s → IsHistory v → suc s.epoch ≤ m → LearnerKept config l m (passed s v)
   passes m s v h w le = record {
     sound = subst (λ (p : Counts × ℕ). LearnerSound config l (table.opening p.0 p.1)) (λ i. (sym h.sound.own_config i, sym h.sound.own_number i)) (opening_sound config l);
-    plain = nothing_is_plain;
+    plain = nothing_marked;
     learned = join_is_history s.learned v h.learned w;
     epoch = le;
   }
@@ -91,7 +92,7 @@ module _ (config : Counts) (l n : ℕ) where
   learns s (Some z) e h w le = record {
     state = record {
       sound = subst (λ (p : Counts × ℕ). LearnerSound config l (table.opening p.0 p.1)) (λ i. (sym h.own_config i, sym h.own_number i)) (opening_sound config l);
-      plain = nothing_is_plain;
+      plain = nothing_marked;
       learned = join_is_history s.learned (cut s.state.learned) w (cut_history s.state.learned h.part);
       epoch = omega (arith, le);
     };
@@ -132,7 +133,7 @@ module _ (config : Counts) (l n : ℕ) where
       (record {
         state = record {
           sound = subst (λ (p : Counts × ℕ). LearnerSound config l (table.opening p.0 p.1)) (λ j. (sym h.sound.own_config j, sym h.sound.own_number j)) (opening_sound config l);
-          plain = nothing_is_plain;
+          plain = nothing_marked;
           learned = empty_is_history;
           epoch = omega arith;
         };

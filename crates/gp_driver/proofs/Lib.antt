@@ -20,6 +20,7 @@ pub mod Counting
 pub mod Finishing
 pub mod Passes
 pub mod Preparing
+pub mod GoingOn
 pub mod Settled
 pub mod Leading
 pub mod MultiVotes

@@ -25,6 +25,7 @@ use Rattle.gp_acceptor.specs.Epochs.{AcceptorInEpoch}
 use Rattle.gp_acceptor.specs.Epochs as acceptor
 use Rattle.gp_learner.specs.Table.{vote_of}
 use Rattle.gp_learner.specs.Epochs.{LearnerInEpoch}
+use Rattle.gp_learner.proofs.Parts.{nothing_marked}
 use Rattle.gp_driver.specs.Sweeps.{is_of, places, sweep}
 use Rattle.gp_driver.specs.Driving.{first_round, opened}
 use Rattle.gp_driver.specs.Driven.{beginnings}
@@ -32,7 +33,6 @@ use Rattle.gp_driver.proofs.Lists.{Picked, filter-append, outs, length-outs, all
 use Rattle.gp_driver.proofs.Sweeping.{run, all_sent_outs}
 use Rattle.gp_driver.proofs.Roles.{CoordinatorsTook, coordinators_take, AcceptorsTook, acceptors_take}
 use Rattle.gp_driver.proofs.Collecting.{with_answers, HasSent, all_collected}
-use Rattle.gp_driver.proofs.Closings.{nothing_is_plain}
 use Rattle.gp_driver.proofs.Hearing.{nothing_before}
 use Rattle.gp_driver.proofs.Passing.{picks_new}
 use Rattle.gp_driver.proofs.Leading.{no_commands, leading}
@@ -134,7 +134,7 @@ module _ (acceptors learners : ℕ) (some : 0 < acceptors) where
   -- ---- acceptors vote for it
 
   voted : AreVoted acceptors learners empty (λ i. None) es4 (opened config)
-  voted = are_voted acceptors learners some es4 [] ((InEpoch 0 (Asked first_round) ∷ outs answers_of acceptors) ++ two_sent empty) empty empty_is_history nothing_is_plain
+  voted = are_voted acceptors learners some es4 [] ((InEpoch 0 (Asked first_round) ∷ outs answers_of acceptors) ++ two_sent empty) empty empty_is_history nothing_marked
       (took4.legal (omega arith) (took3.legal (took2.legal (omega arith) legal1))) sent4 two quiet
       (λ a h. ap (λ (s : AcceptorInEpoch). run acceptor.take s (two_sent empty)) (took4.acceptors a ∙ took3.acceptors a h ∙ ap (λ (u : AcceptorInEpoch × List Stamped). u.0) (asked a)) ∙ votes_nothing acceptors learners a)
       (λ l h. ap (λ s. s.epoch) (took4.learners l ∙ took3.learners l ∙ took2.learners l))

@@ -20,7 +20,8 @@ use Rattle.gp_run.specs.Legal.{Legal, sent_by, sent_at}
 use Rattle.gp_run.specs.States.{proposer_at, proposer_acts, coordinator_at, acceptor_at, learner_at, learner_acts}
 use Rattle.gp_learner.specs.Epochs.{LearnerInEpoch, fall, take}
 use Rattle.gp_run.proofs.Choices.{chosen}
-use Rattle.gp_driver.proofs.Closings.{MaybeSound, MaybeInOrder, IsSent, nothing_sent, quiet_in_order, AllSound, closed_by, closed-append, AreInOrder, in_order-append, after, after_is, after_grows, nothing_is_plain}
+use Rattle.gp_learner.proofs.Parts.{nothing_marked}
+use Rattle.gp_driver.proofs.Closings.{MaybeSound, MaybeInOrder, IsSent, nothing_sent, quiet_in_order, AllSound, closed_by, closed-append, AreInOrder, in_order-append, after, after_is, after_grows}
 use Rattle.gp_driver.proofs.CoordinatorsKeep as coordinator
 use Rattle.gp_driver.proofs.CoordinatorsKeep.{CoordinatorKept, coordinator_keeps, none_answered}
 use Rattle.gp_driver.proofs.AcceptorsKeep as acceptor
@@ -131,6 +132,6 @@ run_kept config [] legal = record {
   in_order = tt;
   coordinators = λ c. record { sound = record { own_config = refl; own_number = refl; value = λ v e. cc; answers = λ i a e. absurd (none_answered config.acceptors i a e) }; epoch = omega arith };
   acceptors = λ a. record { sound = acceptor.opening_sound config a; epoch = omega arith };
-  learners = λ l. record { sound = learner.opening_sound config l; plain = nothing_is_plain; learned = empty_is_history; epoch = omega arith };
+  learners = λ l. record { sound = learner.opening_sound config l; plain = nothing_marked; learned = empty_is_history; epoch = omega arith };
 }
 run_kept config (e ∷ es) legal = one_more config es (run_kept config es legal.0) e legal.1.own_messages

@@ -51,13 +51,13 @@ first_stands kind start j ms e =
 -- one turn, by the passes that are left
 pub turned : (config config_now : Counts) (es now target : List Entry) (f0 f1 : ℕ) (ready : Type 0) (left events : ℕ) (s : Settling config config_now es now target f0 f1 ready (suc left) events)
     (c2 : Counts) (zs : List Entry) (g1 : ℕ) (ready2 : Type 0) (left2 n m k : ℕ)
-    → Some k ≡ first_place (finals_of_pass config now) → zs ≡ closed config k (pass config now) → length zs ≡ length now + n + m → c2 ≡ config → f1 ≤ g1 → ready2 → left2 ≡ left
+    → Some k ≡ first_place (finals_of_pass config now) → zs ≡ closed config k (pass config now) → length zs ≡ length now + n + m → c2 ≡ config → g1 ≡ f1 → ready2 → left2 ≡ left
     → Settling config c2 es zs target f0 g1 ready2 left2 (events + n + m)
 turned config config_now es now target f0 f1 ready left events s c2 zs g1 ready2 left2 n m k h is more same l r e =
     let on = settling_on config config_now es now target f0 f1 ready left events s k h in
     record {
       same_config = same;
-      later = let a = s.later in omega (arith, a, l);
+      steady = l ∙ s.steady;
       is_ready = r;
       rest = (λ i. passes config (e i) (is i)) ∙ on.0;
       can = subst (λ (p : ℕ × List Entry). CanPass config p.0 p.1) (λ i. (sym e i, sym is i)) on.1;
@@ -132,7 +132,7 @@ module _ (config config_now : Counts) (es now target : List Entry) (f0 f1 : ℕ)
         let e : length (closed c3 k mid2) ≡ length (closed config k (pass config now)) = λ i. length (closed (same_config i) k ((same ∙ passed) i)) in
         omega (arith, a, e)
 
-    pub next_turn : (c4 : Counts) (zs : List Entry) (g : ℕ) (ready2 : Type 0) (n m : ℕ) → c4 ≡ c3 → zs ≡ closed c3 k mid2 → length mid ≡ length now + n → length zs ≡ length mid2 + m → f1 ≤ g → ready2
+    pub next_turn : (c4 : Counts) (zs : List Entry) (g : ℕ) (ready2 : Type 0) (n m : ℕ) → c4 ≡ c3 → zs ≡ closed c3 k mid2 → length mid ≡ length now + n → length zs ≡ length mid2 + m → g ≡ f1 → ready2
         → Settling config c4 es zs target f0 g ready2 left (events + n + m)
     next_turn c4 zs g ready2 n m e4 is more more2 l r =
         turned config config_now es now target f0 f1 ready left events s c4 zs g ready2 left n m k (sym some ∙ told)

@@ -11,6 +11,7 @@ use Rattle.gp_driver.specs.Settling.{checkpoints, prepared, settle, settling_pas
 use Rattle.gp_driver.specs.Settled.{Settles}
 use Rattle.gp_driver.proofs.Closings.{closed_by}
 use Rattle.gp_driver.proofs.Counting.{all_open}
+use Rattle.gp_driver.proofs.GoingOn.{settling_goes_on}
 use Rattle.gp_driver.proofs.Offers.{offered_there}
 use Rattle.gp_driver.proofs.Passes.{Finishes, finishes}
 use Rattle.gp_driver.proofs.Preparing.{is_prepared}
@@ -25,6 +26,7 @@ settles config some lead one es legal room =
     subst (λ n. Finishes config (suc n) (prepared config es)) same
     (finishes config some lead one (agrees config some) (prepared config es) (closed_by (messages es)) p.ready (omega (arith, same, r, room))) in
     record {
+      goes_on = settling_goes_on config es;
       legal = f.legal;
       learned = λ l h c t. f.shown l h c (sym (f.offers c) ∙ offered_there (messages (settle config es)) c t);
       some = f.some;

@@ -52,7 +52,7 @@ passes_grow config (suc n) es = by (finals_of_pass config es) (λ k. passes_grow
 -- those that are left from place k on lead to the target
 pub record TakingFinals (config config_now : Counts) (es now target : List Entry) (f0 f1 : ℕ) (ready : Type 0) (k taken : ℕ) : Type 0 where
   pub same_config : config_now ≡ config
-  pub later : f0 ≤ f1
+  pub steady : f1 ≡ f0
   pub is_ready : ready
   pub rest : closings config (places_from Kind.Final k (drop k (messages es))) now ≡ target
   pub same_start : take (length (messages es)) (messages now) ≡ messages es
@@ -96,27 +96,27 @@ module _ (config config_now : Counts) (es now target : List Entry) (f0 f1 : ℕ)
     within (suc n) [] e = absurd (omega (arith, e))
     within (suc n) (x ∷ xs) e = let r = within n xs (omega (arith, e)) in omega (arith, r)
 
-  pub finals_taken : (c1 c2 : Counts) (now1 now2 : List Entry) (g1 g2 : ℕ) (ready2 : Type 0) (n : ℕ) → is_there Kind.Final (slice_get (messages now) k) ≡ true → c1 ≡ config_now → now1 ≡ now → f1 ≤ g1
-      → now2 ≡ closings c1 (k ∷ []) now1 → c2 ≡ c1 → g1 ≤ g2 → length now2 ≡ length now1 + n → ready2 → TakingFinals config c2 es now2 target f0 g2 ready2 (k + 1) (taken + n)
+  pub finals_taken : (c1 c2 : Counts) (now1 now2 : List Entry) (g1 g2 : ℕ) (ready2 : Type 0) (n : ℕ) → is_there Kind.Final (slice_get (messages now) k) ≡ true → c1 ≡ config_now → now1 ≡ now → g1 ≡ f1
+      → now2 ≡ closings c1 (k ∷ []) now1 → c2 ≡ c1 → g2 ≡ g1 → length now2 ≡ length now1 + n → ready2 → TakingFinals config c2 es now2 target f0 g2 ready2 (k + 1) (taken + n)
   finals_taken c1 c2 now1 now2 g1 g2 ready2 n q e1 n1 l1 n2 e2 l2 s r =
       let m = at_place true q in
       let made : now2 ≡ closings config (k ∷ []) now = n2 ∙ (λ i. closings ((e1 ∙ t.same_config) i) (k ∷ []) (n1 i)) in
       let sent = closings_messages config k now in
       record {
         same_config = e2 ∙ e1 ∙ t.same_config;
-        later = let a = t.later in omega (arith, a, l1, l2);
+        steady = l2 ∙ l1 ∙ t.steady;
         is_ready = r;
         rest = (λ i. closings config (places_from Kind.Final (add-one k i) (drop (add-one k i) (messages es))) (made i)) ∙ sym (turn config k es now m.0 true m.1 m.2) ∙ t.rest;
         same_start = ap (λ zs. take (length (messages es)) (messages zs)) made ∙ ap (take (length (messages es))) sent.1 ∙ still_first (length (messages es)) (messages now) sent.0 finals_within ∙ t.same_start;
         entries = let a = t.entries in let b = ap length n1 in omega (arith, a, b, s);
       }
 
-  pub finals_passed : (c1 : Counts) (now1 : List Entry) (g1 : ℕ) (ready1 : Type 0) → is_there Kind.Final (slice_get (messages now) k) ≡ false → c1 ≡ config_now → now1 ≡ now → f1 ≤ g1 → ready1 → TakingFinals config c1 es now1 target f0 g1 ready1 (k + 1) taken
+  pub finals_passed : (c1 : Counts) (now1 : List Entry) (g1 : ℕ) (ready1 : Type 0) → is_there Kind.Final (slice_get (messages now) k) ≡ false → c1 ≡ config_now → now1 ≡ now → g1 ≡ f1 → ready1 → TakingFinals config c1 es now1 target f0 g1 ready1 (k + 1) taken
   finals_passed c1 now1 g1 ready1 q e1 n1 l1 r =
       let m = at_place false q in
       record {
         same_config = e1 ∙ t.same_config;
-        later = let a = t.later in omega (arith, a, l1);
+        steady = l1 ∙ t.steady;
         is_ready = r;
         rest = (λ i. closings config (places_from Kind.Final (add-one k i) (drop (add-one k i) (messages es))) (n1 i)) ∙ sym (turn config k es now m.0 false m.1 m.2) ∙ t.rest;
         same_start = ap (λ zs. take (length (messages es)) (messages zs)) n1 ∙ t.same_start;
@@ -149,7 +149,7 @@ closed_more config k es =
 -- the passes that are left lead to the target
 pub record Settling (config config_now : Counts) (es now target : List Entry) (f0 f1 : ℕ) (ready : Type 0) (left events : ℕ) : Type 0 where
   pub same_config : config_now ≡ config
-  pub later : f0 ≤ f1
+  pub steady : f1 ≡ f0
   pub is_ready : ready
   pub rest : passes config left now ≡ target
   pub can : CanPass config left now
@@ -179,7 +179,7 @@ enough_proposals config lead es legal n e =
 pub passes_start : (config : Counts) (es : List Entry) (n : ℕ) (ready : Type 0) (f : ℕ) → CanPass config n es → ready → Settling config config es es (passes config n es) f f ready (n - 0) 0
 passes_start config es n ready f can r = subst (λ m. Settling config config es es (passes config n es) f f ready m 0) (let e : n ≡ n - 0 = omega arith in e) (record {
   same_config = refl;
-  later = omega arith;
+  steady = refl;
   is_ready = r;
   rest = refl;
   can = can;

@@ -56,7 +56,7 @@ nothing_left (suc n) (x ∷ xs) = nothing_left n xs
 -- what is left to take from place k on leads to the target
 pub record Taking (config config_now : Counts) (es now target : List Entry) (faults faults_now : ℕ) (ready : Type 0) (node : Node) (kind : MsgKind) (end k taken : ℕ) : Type 0 where
   pub same_config : config_now ≡ config
-  pub later : faults ≤ faults_now
+  pub steady : faults_now ≡ faults
   pub is_ready : ready
   pub rest : run_onto config now (takes node (places_from kind k (drop k (take end (messages es))))) ≡ target
   pub same_start : take end (messages now) ≡ take end (messages es)
@@ -113,15 +113,15 @@ module _ (config config_now : Counts) (es now target : List Entry) (faults fault
       let m = here kind es now end k true h t.same_start t.within is in
       shorter config node kind end k es now target m.message h m.there m.is t.rest
 
-  pub next_taken : (c1 c2 : Counts) (now1 now2 : List Entry) (f1 f2 : ℕ) (ready2 : Type 0) → is_there kind (slice_get (messages now) k) ≡ true → c1 ≡ config_now → now1 ≡ now → faults_now ≤ f1
-      → now2 ≡ entry_after c1 now1 (Take node k) ∷ now1 → c2 ≡ c1 → f1 ≤ f2 → ready2 → Taking config c2 es now2 target faults f2 ready2 node kind end (k + 1) (taken + 1)
+  pub next_taken : (c1 c2 : Counts) (now1 now2 : List Entry) (f1 f2 : ℕ) (ready2 : Type 0) → is_there kind (slice_get (messages now) k) ≡ true → c1 ≡ config_now → now1 ≡ now → f1 ≡ faults_now
+      → now2 ≡ entry_after c1 now1 (Take node k) ∷ now1 → c2 ≡ c1 → f2 ≡ f1 → ready2 → Taking config c2 es now2 target faults f2 ready2 node kind end (k + 1) (taken + 1)
   next_taken c1 c2 now1 now2 f1 f2 ready2 is e1 n1 l1 n2 e2 l2 r =
       let m = here kind es now end k true h t.same_start t.within is in
       let made : now2 ≡ entry_after config now (Take node k) ∷ now = n2 ∙ (λ i. entry_after ((e1 ∙ t.same_config) i) (n1 i) (Take node k) ∷ n1 i) in
       let sent : messages now2 ≡ messages now ++ sent_at config now (Take node k) = ap messages made in
       record {
         same_config = e2 ∙ e1 ∙ t.same_config;
-        later = let a = t.later in omega (arith, a, l1, l2);
+        steady = l2 ∙ l1 ∙ t.steady;
         is_ready = r;
         rest = (λ i. run_onto config (made i) (takes node (places_from kind (add-one k i) (drop (add-one k i) (take end (messages es)))))) ∙ one_taken config node kind end k es now target m.message h m.there m.is t.rest;
         same_start = ap (take end) sent ∙ still_first end (messages now) (sent_at config now (Take node k)) t.within ∙ t.same_start;
@@ -129,13 +129,13 @@ module _ (config config_now : Counts) (es now target : List Entry) (faults fault
         entries = let a = t.entries in let b = ap length made in omega (arith, a, b);
       }
 
-  pub next_left : (c1 : Counts) (now1 : List Entry) (f1 : ℕ) (ready1 : Type 0) → is_there kind (slice_get (messages now) k) ≡ false → c1 ≡ config_now → now1 ≡ now → faults_now ≤ f1 → ready1
+  pub next_left : (c1 : Counts) (now1 : List Entry) (f1 : ℕ) (ready1 : Type 0) → is_there kind (slice_get (messages now) k) ≡ false → c1 ≡ config_now → now1 ≡ now → f1 ≡ faults_now → ready1
       → Taking config c1 es now1 target faults f1 ready1 node kind end (k + 1) taken
   next_left c1 now1 f1 ready1 is e1 n1 l1 r =
       let m = here kind es now end k false h t.same_start t.within is in
       record {
         same_config = e1 ∙ t.same_config;
-        later = let a = t.later in omega (arith, a, l1);
+        steady = l1 ∙ t.steady;
         is_ready = r;
         rest = (λ i. run_onto config (n1 i) (takes node (places_from kind (add-one k i) (drop (add-one k i) (take end (messages es)))))) ∙ one_left config node kind end k es now target m.message h m.there m.is t.rest;
         same_start = ap (λ zs. take end (messages zs)) n1 ∙ t.same_start;

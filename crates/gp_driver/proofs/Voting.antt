@@ -15,7 +15,7 @@ use Rattle.gp_acceptor.specs.State.{AcceptorState, nobody}
 use Rattle.gp_acceptor.specs.Table.{value_at, agreed, holding, with_value, next_vote, told_vote, counted, acceptor_take}
 use Rattle.gp_acceptor.proofs.Taking.{nobody_there, length-nobody}
 use Rattle.gp_acceptor.specs.Epochs.{AcceptorInEpoch, take, stepped}
-use Rattle.gp_driver.proofs.Rounds.{not_earlier_itself}
+use Rattle.gp_round.proofs.Orders.{not_earlier_itself}
 use Rattle.gp_driver.proofs.Values.{join_empty}
 
 -- in the first phase of a round

@@ -1,5 +1,5 @@
 -- What a stage is, and what a driver does to it.
-use Rattle.std.specs.Prelude.{◌≡◌, ◌≢◌, ◌≤◌, ◌<◌, ◌+◌, ◌-◌, ◌^◌, ◌⊎◌, ℕ, Bool, true, false, List, length, slice_get, Option, Some, Result, Ok, Err}
+use Rattle.std.specs.Prelude.{◌≡◌, ◌≢◌, ◌≤◌, ◌<◌, ◌+◌, ◌-◌, ◌^◌, ◌⊎◌, ℕ, min, Bool, true, false, List, ◌++◌, length, map, slice_get, Option, Some, Result, Ok, Err, OnOk}
 use Rattle.std.specs.List.{AllZip}
 use Rattle.gp_round.specs.Counts.{Counts}
 use Rattle.gp_msg.specs.declared.node.Node.{Node}
@@ -56,6 +56,21 @@ pub record NodeGoes (idle : Node → Type 0) (old new : StageNode) : Type 0 wher
 pub record NodesGo (idle : Node → Type 0) (old new : List StageNode) : Type 0 where
   pub each : AllZip (NodeGoes idle) old new
 
+-- how often the disks of these nodes failed, in the order of the nodes
+abbrev pub fault_counts : List StageNode → List ℕ
+fault_counts nodes = map (λ (n : StageNode). n.faults) nodes
+
+-- ---- the run
+
+-- the newer run is the older one with more entries
+abbrev pub Extends : List Entry → List Entry → Type 0
+Extends old new = (more : List Entry) × (new ≡ more ++ old)
+
+-- a stage later: the same nodes, and a run that extends the run before
+pub record StageGoes (idle : Node → Type 0) (old new : StageState) : Type 0 where
+  pub nodes : NodesGo idle old.nodes new.nodes
+  pub grows : Extends old.run new.run
+
 -- ---- faults
 
 -- the event is a crash of a node
@@ -68,6 +83,10 @@ is_fall (Fall node what) = true
 -- a count has risen, or is at its greatest value
 abbrev pub Rose : ℕ → ℕ → Type 0
 Rose before now = (before < now) ⊎ (now ≡ 2 ^ 64 - 1)
+
+-- a count has risen by one, or has stayed at its greatest value
+abbrev pub RoseByOne : ℕ → ℕ → Type 0
+RoseByOne before now = now ≡ min (before + 1) (2 ^ 64 - 1)
 
 -- the numbers are too great for an event, not a crash, that could come next
 pub record IsTooGreatForOne (config : Counts) (es : List Entry) (is_too_great : Event → ℕ → ℕ → Type 0) (size need : ℕ) : Type 0 where
@@ -96,15 +115,23 @@ IfDiskFailed (Err NoMemory) P = Unit {0}
 IfDiskFailed (Err Disk) P = P
 IfDiskFailed (Err (Full size need)) P = Unit {0}
 
--- if the result is the fault of a disk, the disk of one of these nodes failed
+-- unless the result is the fault of a disk, P holds
+abbrev pub UnlessDiskFailed : Result ℕ StageFault → Type 0 → Type 0
+UnlessDiskFailed (Ok n) P = P
+UnlessDiskFailed (Err NoMemory) P = P
+UnlessDiskFailed (Err Disk) P = Unit {0}
+UnlessDiskFailed (Err (Full size need)) P = P
+
+-- if the result is the fault of a disk, the disk of one of these nodes failed; otherwise none of them failed
 pub record FailsByNode (old new : List StageNode) (result : Result ℕ StageFault) : Type 0 where
   pub by_node : IfDiskFailed result (SomeNodeRose old new)
+  pub steady : UnlessDiskFailed result (fault_counts new ≡ fault_counts old)
 
--- a fault has a cause: Disk and Full come only if the count of faults rose, and the numbers of Full are too great
+-- a fault has a cause: Disk comes only if the count of faults rose; Full comes only if it rose by one, with numbers that are too great; after NoMemory it is unchanged
 abbrev pub HasCause : ℕ → ℕ → (ℕ → ℕ → Type 0) → StageFault → Type 0
-HasCause before now is_too_great NoMemory = Unit {0}
+HasCause before now is_too_great NoMemory = now ≡ before
 HasCause before now is_too_great Disk = Rose before now
-HasCause before now is_too_great (Full size need) = Rose before now × is_too_great size need
+HasCause before now is_too_great (Full size need) = RoseByOne before now × is_too_great size need
 
 -- ---- what a driver did
 
@@ -113,8 +140,9 @@ abbrev pub Outcome : List Entry → List Entry → List Entry → Type 0 → (St
 Outcome es zs target ready cause (Ok n) = (zs ≡ target) × (length zs ≡ length es + n) × ready
 Outcome es zs target ready cause (Err fault) = cause fault
 
--- a driver brought a stage to the target run, and the result is how many events this took; or a fault ended it
+-- a driver brought a stage to the target run, the result is how many events this took, and the count of faults is unchanged; or a fault ended it
 pub record HasDriven (old new : StageState) (target : List Entry) (result : Result ℕ StageFault) : Type 0 where
   pub same_config : new.config ≡ old.config
   pub later : old.faults ≤ new.faults
+  pub steady : OnOk result (new.faults ≡ old.faults)
   pub outcome : Outcome old.run new.run target new.is_ready (HasCause old.faults new.faults (IsTooGreatForOne old.config new.run new.is_too_great)) result

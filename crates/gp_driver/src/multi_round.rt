@@ -5,7 +5,7 @@ ghost use Rattle.gp_msg.specs.declared.event.Event.TheVariants.{Begin};
 ghost use Rattle.gp_run.specs.Runs.{entry_after};
 ghost use Rattle.gp_driver.specs.Driving.{first_round, opened, driven, all_driven, drive_multi};
 ghost use Rattle.gp_driver.specs.Driven.{AreNoCheckpoints, DrivesMulti};
-ghost use Rattle.gp_driver.specs.Stages.{HasDriven, IsProposer, Nobody, NodesGo, FailsByNode};
+ghost use Rattle.gp_driver.specs.Stages.{HasDriven, IsProposer, Nobody, StageGoes, FailsByNode};
 
 use crate::stage::{Stage, StageFault, config_of};
 use crate::sweep::{Role, make, sweep};
@@ -21,7 +21,7 @@ fn begin_first<S: Stage, W: Wait>(rt: &W, stage: &mut S) -> Result<u64, StageFau
     requires room { length (S.state stage.old).run < 2 ^ 31 }
     ensures driven { HasDriven (S.state stage.old) (S.state stage.new)
         (entry_after (S.state stage.old).config (S.state stage.old).run (Begin 0 first_round) ∷ (S.state stage.old).run) result }
-    ensures nodes { NodesGo IsProposer (S.state stage.old).nodes (S.state stage.new).nodes }
+    ensures goes { StageGoes IsProposer (S.state stage.old) (S.state stage.new) }
     ensures failed { FailsByNode (S.state stage.old).nodes (S.state stage.new).nodes result }
 {
     let round = Round {
@@ -48,7 +48,7 @@ fn lead_first<S: Stage, W: Wait>(rt: &W, stage: &mut S, config: &Config) -> Resu
     requires room { length (opened (S.state stage.old).config) ≤ 2 ^ 31 }
     ensures driven { HasDriven (S.state stage.old) (S.state stage.new)
         (opened (S.state stage.old).config) result }
-    ensures nodes { NodesGo IsProposer (S.state stage.old).nodes (S.state stage.new).nodes }
+    ensures goes { StageGoes IsProposer (S.state stage.old) (S.state stage.new) }
     ensures failed { FailsByNode (S.state stage.old).nodes (S.state stage.new).nodes result }
 {
     let begun = begin_first(rt, stage)?;
@@ -75,7 +75,7 @@ fn drive_one<S: Stage, W: Wait>(
     requires room { length (driven (S.state stage.old).config draft (S.state stage.old).run) ≤ 2 ^ 31 }
     ensures driven { HasDriven (S.state stage.old) (S.state stage.new)
         (driven (S.state stage.old).config draft (S.state stage.old).run) result }
-    ensures nodes { NodesGo Nobody (S.state stage.old).nodes (S.state stage.new).nodes }
+    ensures goes { StageGoes Nobody (S.state stage.old) (S.state stage.new) }
     ensures failed { FailsByNode (S.state stage.old).nodes (S.state stage.new).nodes result }
 {
     let start = stage.messages();
@@ -113,7 +113,7 @@ fn drive_each<S: Stage, W: Wait>(
     requires room { length (all_driven (S.state stage.old).config drafts.items (S.state stage.old).run) ≤ 2 ^ 31 }
     ensures driven { HasDriven (S.state stage.old) (S.state stage.new)
         (all_driven (S.state stage.old).config drafts.items (S.state stage.old).run) result }
-    ensures nodes { NodesGo Nobody (S.state stage.old).nodes (S.state stage.new).nodes }
+    ensures goes { StageGoes Nobody (S.state stage.old) (S.state stage.new) }
     ensures failed { FailsByNode (S.state stage.old).nodes (S.state stage.new).nodes result }
 {
     let mut events: u64 = 0;
@@ -132,10 +132,12 @@ fn drive_each<S: Stage, W: Wait>(
 /// acceptors, and the acceptors send their votes to the learners. Coordinator 2 takes no part.
 ///
 /// `NoMemory` means that memory ran out, which is possible at any step. `Disk` and `Full` are
-/// returned only if the stage's count of faults has risen or is 2^64 - 1. `Disk` is a fault of the
-/// disk of a listed node. The numbers of `Full` are too great for an event, not a crash, that fits
-/// the run as it is then. After a fault the configuration is the same; no clause says which events
-/// were made.
+/// returned only if the stage's count of faults has risen or is 2^64 - 1: for `Full` it has risen
+/// by one. `Disk` is a fault of the disk of a listed node. The numbers of `Full` are too great for
+/// an event, not a crash, that fits the run as it is then. After any other result the count is
+/// unchanged. After any result but `Disk` the counts of the disks of the listed nodes are
+/// unchanged. After a fault the configuration is the same and the run extends the run before; no
+/// clause says which events were made.
 pub fn drive_multi<S: Stage, W: Wait>(
     rt: &W,
     stage: &mut S,
@@ -148,7 +150,7 @@ pub fn drive_multi<S: Stage, W: Wait>(
     requires room { length (drive_multi (S.state stage.old).config drafts.items) ≤ 2 ^ 31 }
     ensures driven { HasDriven (S.state stage.old) (S.state stage.new)
         (drive_multi (S.state stage.old).config drafts.items) result }
-    ensures nodes { NodesGo Nobody (S.state stage.old).nodes (S.state stage.new).nodes }
+    ensures goes { StageGoes Nobody (S.state stage.old) (S.state stage.new) }
     ensures failed { FailsByNode (S.state stage.old).nodes (S.state stage.new).nodes result }
     ensures brings { DrivesMulti (S.state stage.old).config drafts.items }
 {

@@ -10,7 +10,7 @@ ghost use Rattle.gp_driver.specs.Sweeps.{places, swept};
 ghost use Rattle.gp_driver.specs.Roles.{node_of};
 ghost use Rattle.gp_driver.specs.declared.sweep.Role.TheVariants as Role;
 ghost use Rattle.gp_driver.specs.Settling.{closings, closed, pass, passes, CanPass, settle, checkpoints};
-ghost use Rattle.gp_driver.specs.Stages.{HasDriven, IsProposer, NodesGo, FailsByNode};
+ghost use Rattle.gp_driver.specs.Stages.{HasDriven, IsProposer, StageGoes, FailsByNode};
 ghost use Rattle.gp_driver.specs.Settled.{Settles};
 
 use crate::stage::{Stage, StageFault, config_of};
@@ -33,7 +33,7 @@ fn close<S: Stage, W: Wait>(
     requires room { length (closed (S.state stage.old).config k (S.state stage.old).run) ≤ 2 ^ 31 }
     ensures driven { HasDriven (S.state stage.old) (S.state stage.new)
         (closed (S.state stage.old).config k (S.state stage.old).run) result }
-    ensures nodes { NodesGo IsProposer (S.state stage.old).nodes (S.state stage.new).nodes }
+    ensures goes { StageGoes IsProposer (S.state stage.old) (S.state stage.new) }
     ensures failed { FailsByNode (S.state stage.old).nodes (S.state stage.new).nodes result }
 {
     let leader = show(rt, stage, Role::Coordinator, 1, k)?;
@@ -50,7 +50,7 @@ fn pass_once<S: Stage, W: Wait>(rt: &W, stage: &mut S, config: &Config) -> Resul
     requires room { length (pass (S.state stage.old).config (S.state stage.old).run) ≤ 2 ^ 31 }
     ensures driven { HasDriven (S.state stage.old) (S.state stage.new)
         (pass (S.state stage.old).config (S.state stage.old).run) result }
-    ensures nodes { NodesGo IsProposer (S.state stage.old).nodes (S.state stage.new).nodes }
+    ensures goes { StageGoes IsProposer (S.state stage.old) (S.state stage.new) }
     ensures failed { FailsByNode (S.state stage.old).nodes (S.state stage.new).nodes result }
 {
     let start = stage.messages();
@@ -90,7 +90,7 @@ fn spread<S: Stage, W: Wait>(
     requires room { length (closings (S.state stage.old).config (k ∷ []) (S.state stage.old).run) ≤ 2 ^ 31 }
     ensures driven { HasDriven (S.state stage.old) (S.state stage.new)
         (closings (S.state stage.old).config (k ∷ []) (S.state stage.old).run) result }
-    ensures nodes { NodesGo IsProposer (S.state stage.old).nodes (S.state stage.new).nodes }
+    ensures goes { StageGoes IsProposer (S.state stage.old) (S.state stage.new) }
     ensures failed { FailsByNode (S.state stage.old).nodes (S.state stage.new).nodes result }
 {
     let closers = close(rt, stage, config, k)?;
@@ -108,7 +108,7 @@ fn take_finals<S: Stage, W: Wait>(rt: &W, stage: &mut S, config: &Config) -> Res
         ≤ 2 ^ 31 }
     ensures driven { HasDriven (S.state stage.old) (S.state stage.new)
         (closings (S.state stage.old).config (places Kind.Final 0 (messages (S.state stage.old).run)) (S.state stage.old).run) result }
-    ensures nodes { NodesGo IsProposer (S.state stage.old).nodes (S.state stage.new).nodes }
+    ensures goes { StageGoes IsProposer (S.state stage.old) (S.state stage.new) }
     ensures failed { FailsByNode (S.state stage.old).nodes (S.state stage.new).nodes result }
 {
     let end = stage.messages();
@@ -135,7 +135,7 @@ fn make_passes<S: Stage, W: Wait>(
     requires room { length (passes (S.state stage.old).config limit (S.state stage.old).run) ≤ 2 ^ 31 }
     ensures driven { HasDriven (S.state stage.old) (S.state stage.new)
         (passes (S.state stage.old).config limit (S.state stage.old).run) result }
-    ensures nodes { NodesGo IsProposer (S.state stage.old).nodes (S.state stage.new).nodes }
+    ensures goes { StageGoes IsProposer (S.state stage.old) (S.state stage.new) }
     ensures failed { FailsByNode (S.state stage.old).nodes (S.state stage.new).nodes result }
 {
     let mut events: u64 = 0;
@@ -160,10 +160,13 @@ fn make_passes<S: Stage, W: Wait>(
 /// their numbers.
 ///
 /// `NoMemory` means that memory ran out, which is possible at any step. `Disk` and `Full` are
-/// returned only if the stage's count of faults has risen or is 2^64 - 1. `Disk` is a fault of the
-/// disk of a listed node. The numbers of `Full` are too great for an event, not a crash, that fits
-/// the run as it is then. Whatever the result is, no listed proposer makes an event. After a fault
-/// the configuration is the same; no clause says which events were made.
+/// returned only if the stage's count of faults has risen or is 2^64 - 1: for `Full` it has risen
+/// by one. `Disk` is a fault of the disk of a listed node. The numbers of `Full` are too great for
+/// an event, not a crash, that fits the run as it is then. After any other result the count is
+/// unchanged. After any result but `Disk` the counts of the disks of the listed nodes are
+/// unchanged. Whatever the result is, no listed proposer makes an event. After a fault the
+/// configuration is the same and the run extends the run before; no clause says which events were
+/// made.
 pub fn settle<S: Stage, W: Wait>(rt: &W, stage: &mut S) -> Result<u64, StageFault>
     requires ready { (S.state stage.old).is_ready }
     requires legal { Legal (S.state stage.old).config (S.state stage.old).run }
@@ -172,7 +175,7 @@ pub fn settle<S: Stage, W: Wait>(rt: &W, stage: &mut S) -> Result<u64, StageFaul
     requires room { length (settle (S.state stage.old).config (S.state stage.old).run) ≤ 2 ^ 31 }
     ensures driven { HasDriven (S.state stage.old) (S.state stage.new)
         (settle (S.state stage.old).config (S.state stage.old).run) result }
-    ensures nodes { NodesGo IsProposer (S.state stage.old).nodes (S.state stage.new).nodes }
+    ensures goes { StageGoes IsProposer (S.state stage.old) (S.state stage.new) }
     ensures failed { FailsByNode (S.state stage.old).nodes (S.state stage.new).nodes result }
     ensures brings { Settles (S.state stage.old).config (S.state stage.old).run }
 {

@@ -7,7 +7,7 @@ ghost use Rattle.gp_run.specs.Messages.{messages};
 ghost use Rattle.gp_run.specs.Runs.{entry_after};
 ghost use Rattle.gp_driver.specs.Sweeps.{is_there, places, took, swept, sweep, first_place};
 ghost use Rattle.gp_driver.specs.Roles.{node_of};
-ghost use Rattle.gp_driver.specs.Stages.{is_fall, AllBut, Anyone, HasDriven, IsProposer, NodesGo, FailsByNode};
+ghost use Rattle.gp_driver.specs.Stages.{is_fall, fault_counts, AllBut, Anyone, HasDriven, IsProposer, StageGoes, FailsByNode};
 
 use crate::stage::{Stage, StageFault};
 use gp_msg::{Event, MsgKind, Node};
@@ -18,8 +18,9 @@ pub fn is_kind<S: Stage, W: Wait>(rt: &W, stage: &mut S, kind: MsgKind, k: u64) 
     ensures there { result ≡ is_there kind (slice_get (messages (S.state stage.old).run) k) }
     ensures config { (S.state stage.new).config ≡ (S.state stage.old).config }
     ensures run { (S.state stage.new).run ≡ (S.state stage.old).run }
-    ensures later { (S.state stage.old).faults ≤ (S.state stage.new).faults }
-    ensures nodes { NodesGo Anyone (S.state stage.old).nodes (S.state stage.new).nodes }
+    ensures steady { (S.state stage.new).faults ≡ (S.state stage.old).faults }
+    ensures goes { StageGoes Anyone (S.state stage.old) (S.state stage.new) }
+    ensures counts { fault_counts (S.state stage.new).nodes ≡ fault_counts (S.state stage.old).nodes }
     ensures ready { (S.state stage.old).is_ready → (S.state stage.new).is_ready }
 {
     match stage.kind(rt, k) {
@@ -45,7 +46,7 @@ pub fn take_all<S: Stage, W: Wait>(
     requires room { length (took (S.state stage.old).config node kind start end (S.state stage.old).run) ≤ 2 ^ 31 }
     ensures driven { HasDriven (S.state stage.old) (S.state stage.new)
         (took (S.state stage.old).config node kind start end (S.state stage.old).run) result }
-    ensures nodes { NodesGo (AllBut node) (S.state stage.old).nodes (S.state stage.new).nodes }
+    ensures goes { StageGoes (AllBut node) (S.state stage.old) (S.state stage.new) }
     ensures failed { FailsByNode (S.state stage.old).nodes (S.state stage.new).nodes result }
 {
     let mut taken: u64 = 0;
@@ -96,7 +97,7 @@ pub fn sweep<S: Stage, W: Wait>(
         ≤ 2 ^ 31 }
     ensures driven { HasDriven (S.state stage.old) (S.state stage.new)
         (sweep (S.state stage.old).config (node_of role) count kind start (S.state stage.old).run) result }
-    ensures nodes { NodesGo IsProposer (S.state stage.old).nodes (S.state stage.new).nodes }
+    ensures goes { StageGoes IsProposer (S.state stage.old) (S.state stage.new) }
     ensures failed { FailsByNode (S.state stage.old).nodes (S.state stage.new).nodes result }
 {
     let end = stage.messages();
@@ -115,7 +116,7 @@ pub fn make<S: Stage, W: Wait>(rt: &W, stage: &mut S, event: Event) -> Result<u6
     requires fits { fits (S.state stage.old).config (S.state stage.old).run event ≡ true }
     ensures driven { HasDriven (S.state stage.old) (S.state stage.new)
         (entry_after (S.state stage.old).config (S.state stage.old).run event ∷ (S.state stage.old).run) result }
-    ensures nodes { NodesGo (AllBut (run_nodes.node_of event)) (S.state stage.old).nodes (S.state stage.new).nodes }
+    ensures goes { StageGoes (AllBut (run_nodes.node_of event)) (S.state stage.old) (S.state stage.new) }
     ensures failed { FailsByNode (S.state stage.old).nodes (S.state stage.new).nodes result }
 {
     match stage.step(rt, event) {
@@ -140,7 +141,7 @@ pub fn show<S: Stage, W: Wait>(
         ≤ 2 ^ 31 }
     ensures driven { HasDriven (S.state stage.old) (S.state stage.new)
         (swept (S.state stage.old).config (node_of role) count (k ∷ []) (S.state stage.old).run) result }
-    ensures nodes { NodesGo IsProposer (S.state stage.old).nodes (S.state stage.new).nodes }
+    ensures goes { StageGoes IsProposer (S.state stage.old) (S.state stage.new) }
     ensures failed { FailsByNode (S.state stage.old).nodes (S.state stage.new).nodes result }
 {
     let mut taken: u64 = 0;
@@ -162,8 +163,9 @@ pub fn first_since<S: Stage, W: Wait>(
     ensures first { result ≡ first_place (places kind start (messages (S.state stage.old).run)) }
     ensures config { (S.state stage.new).config ≡ (S.state stage.old).config }
     ensures run { (S.state stage.new).run ≡ (S.state stage.old).run }
-    ensures later { (S.state stage.old).faults ≤ (S.state stage.new).faults }
-    ensures nodes { NodesGo Anyone (S.state stage.old).nodes (S.state stage.new).nodes }
+    ensures steady { (S.state stage.new).faults ≡ (S.state stage.old).faults }
+    ensures goes { StageGoes Anyone (S.state stage.old) (S.state stage.new) }
+    ensures counts { fault_counts (S.state stage.new).nodes ≡ fault_counts (S.state stage.old).nodes }
     ensures ready { (S.state stage.old).is_ready → (S.state stage.new).is_ready }
 {
     let end = stage.messages();

@@ -1,8 +1,6 @@
 -- What a step of the cell that holds all nodes asks, and what it makes.
-use Rattle.std.proofs.Common.{◌≡◌, ℕ, ◌+◌, ◌<◌, ◌≤◌, ◌^◌, Bool, true, false, cond, List, [], ◌∷◌, length, slice_get, slice_set, sym, ap, ◌∙◌, subst, arith, Some, None, Result, Ok, Err}
+use Rattle.std.proofs.Common.{◌≡◌, ℕ, ◌+◌, ◌<◌, ◌^◌, List, length, slice_get, slice_set, sym, ap, ◌∙◌, subst, arith, Some, None, Result, Ok, Err}
 use Rattle.std.specs.Prelude.{OnOk, IfOk, IfErr}
-use Rattle.gp_msg.specs.declared.node.Node.{Node}
-use Rattle.gp_msg.specs.declared.record.Record.{Record}
 use Rattle.gp_wire.specs.Lists.{Has}
 use Rattle.gp_wire.specs.Known.{WireState, HoldsAll, records}
 use Rattle.gp_msg.specs.Records.{messages_in}
@@ -10,12 +8,12 @@ use Rattle.gp_work.specs.declared.moves.Move.{Move}
 use Rattle.gp_work.specs.declared.moves.Move.TheVariants.{Offer, Begin, Take}
 use Rattle.gp_work.specs.declared.faults.StepFault.{StepFault}
 use Rattle.gp_work.specs.Moves.{event_of, Fits, HasRoom}
-use Rattle.gp_rules.specs.Own.{own}
-use Rattle.gp_msg.specs.Nodes.{same_node}
+use Rattle.gp_wire.specs.Own.{own}
 use Rattle.gp_rules.specs.declared.rules.PaxosRules.{PaxosRules}
 use Rattle.gp_cell.specs.Cells.{CellState, PostsOne}
 use Rattle.gp_cell.specs.Passing.{GoesOn, posts_in}
 use Rattle.gp_cell.specs.Refusals.{CountsFaults, StepCause, faults_of, limit_of}
+use Rattle.gp_cell.proofs.Posting.{own_short}
 use Rattle.gp_stage.specs.Held.{seen_by}
 use Rattle.gp_stage.specs.Gathered.{rest_of}
 use Rattle.gp_stage.specs.Played.{CanPlay, HasPlayed, HasTakenOver}
@@ -35,14 +33,6 @@ pub record StepTells {D : Type 0} (faults : D → ℕ) (l r : CellState D) (mv :
   pub cause : IfErr result (StepCause l r mv)
   pub counts : CountsFaults (faults_of faults l.log) (faults_of faults r.log) result
   pub limit : limit_of r.log ≡ limit_of l.log
-
-own_short : (n : Node) (rs : List Record) → length (own n rs) ≤ length rs
-own_short n [] = omega arith
-own_short n (r ∷ rs) = by_test (same_node n r.node) (own_short n rs)
-  where
-    by_test : (b : Bool) → length (own n rs) ≤ length rs → length (cond b (r ∷ own n rs) (own n rs)) ≤ length (r ∷ rs)
-    by_test true l = omega arith
-    by_test false l = omega arith
 
 has_room : (k : ℕ) (mv : Move) → k < 2 ^ 31 → HasRoom k mv
 has_room k (Offer d) l = omega (arith, l)

@@ -1,5 +1,5 @@
 -- When a run can be settled.
-use Rattle.std.proofs.Common.{◌+◌, ◌*◌, ◌<◌, ◌≤◌, ◌^◌, List, length, arith}
+use Rattle.std.proofs.Common.{◌+◌, ◌<◌, List, arith}
 use Rattle.gp_round.specs.Counts.{Counts}
 use Rattle.gp_round.specs.Ranges.{AreInRange}
 use Rattle.gp_round.specs.declared.config.TheConstants.{LAST_COUNT}
@@ -10,11 +10,12 @@ use Rattle.gp_run.specs.TopCount.{top_count}
 use Rattle.gp_driver.specs.Settling.{checkpoints}
 use Rattle.gp_driver.proofs.SettleCode.{brings}
 use Rattle.gp_driver.proofs.Lengths.{settled_length, checkpoints_among}
-use Rattle.gp_stage.specs.Bounds.{CanSettle}
+use Rattle.gp_stage.specs.Bounds.{CanSettle, IsWithin}
 
-pub can_settle : (config : Counts) (es : List Entry) → AreInRange config.acceptors config.coordinators config.learners → Legal config es
-    → top_count config es + length (messages es) < LAST_COUNT → length es + 71 * length (messages es) + 50 ≤ 2 ^ 31 → CanSettle config es
-can_settle config es range legal rounds room =
+pub can_settle : (config : Counts) (es : List Entry) → AreInRange config.acceptors config.coordinators config.learners → Legal config es → IsWithin config es → CanSettle config es
+can_settle config es range legal within =
+    let rounds = within.rounds in
+    let room = within.room in
     let c = checkpoints_among (messages es) in
     let few : top_count config es + checkpoints (messages es) < LAST_COUNT = omega (arith, c, rounds) in
     let l = settled_length config range es (brings config range es legal few) in record {

@@ -4,7 +4,7 @@ use Rattle.std.specs.Prelude.{nat_lt, if◌then◌else◌}
 use Rattle.std.proofs.lemmas.Bool.{ltb-true, ltb-false}
 use Rattle.gp_cell.specs.Cells.{CellState}
 use Rattle.gp_cell.specs.Refusals.{faults_of}
-use Rattle.gp_driver.specs.Stages.{Rose}
+use Rattle.gp_driver.specs.Stages.{Rose, RoseByOne}
 use Rattle.gp_stage.specs.Held.{capped, disk_faults}
 use Rattle.gp_stage.specs.Gathered.{rest_of}
 use Rattle.gp_stage.proofs.Places.{same_value}
@@ -30,16 +30,18 @@ capped_rose m n h = by_size (λ y. (capped m < y) ⊎ (y ≡ 2 ^ 64 - 1)) n
     less small = ⊎_elim (λ (l : m < n). l) (λ (g : 2 ^ 64 - 1 ≤ n). omega (arith, g, small)) h
 
 -- one more, or the last value
-pub counted : (a b : ℕ) → b ≡ min (a + 1) (2 ^ 64 - 1) → (a < b) ⊎ (2 ^ 64 - 1 ≤ b)
+pub counted : (a b : ℕ) → b ≡ min (a + 1) (2 ^ 64 - 1) → (a ≤ b) ⊎ (2 ^ 64 - 1 ≤ b)
 counted a b e = by_test (nat_lt a (2 ^ 64 - 1)) refl
   where
-    by_test : (t : Bool) → nat_lt a (2 ^ 64 - 1) ≡ t → (a < b) ⊎ (2 ^ 64 - 1 ≤ b)
+    by_test : (t : Bool) → nat_lt a (2 ^ 64 - 1) ≡ t → (a ≤ b) ⊎ (2 ^ 64 - 1 ≤ b)
     by_test true t = let l = ltb-true a (2 ^ 64 - 1) t in inl (omega (arith, e, l))
     by_test false t = let l = ltb-false a (2 ^ 64 - 1) t in inr (omega (arith, e, l))
 
--- what is less is at most this
-pub at_most : (a b : ℕ) → (a < b) ⊎ (2 ^ 64 - 1 ≤ b) → (a ≤ b) ⊎ (2 ^ 64 - 1 ≤ b)
-at_most a b h = ⊎_elim (λ (l : a < b). inl (omega (arith, l))) (λ (g : 2 ^ 64 - 1 ≤ b). inr g) h
+-- one part of a sum was counted once more
+pub sum_by_one : (d a b : ℕ) → b ≡ min (a + 1) (2 ^ 64 - 1) → RoseByOne (capped (d + a)) (capped (d + b))
+sum_by_one d a b e = by_size (λ y. y ≡ min (capped (d + a) + 1) (2 ^ 64 - 1)) (d + b)
+    (λ low. by_size (λ x. d + b ≡ min (x + 1) (2 ^ 64 - 1)) (d + a) (λ l. omega (arith, e, low, l)) (λ l. absurd (omega (arith, e, low, l))))
+    (λ high. by_size (λ x. 2 ^ 64 - 1 ≡ min (x + 1) (2 ^ 64 - 1)) (d + a) (λ l. omega (arith, e, high, l)) (λ l. omega arith))
 
 -- two counts together
 pub both_at_most : (a b x y : ℕ) → x ≤ y → (a ≤ b) ⊎ (2 ^ 64 - 1 ≤ b) → (x + a ≤ y + b) ⊎ (2 ^ 64 - 1 ≤ y + b)
@@ -48,9 +50,6 @@ both_at_most a b x y k h = ⊎_elim (λ (l : a ≤ b). inl (omega (arith, k, l))
 pub first_rises : (a b x y : ℕ) → (x < y) ⊎ (2 ^ 64 - 1 ≤ y) → (a ≤ b) ⊎ (2 ^ 64 - 1 ≤ b) → (x + a < y + b) ⊎ (2 ^ 64 - 1 ≤ y + b)
 first_rises a b x y k h =
     ⊎_elim (λ (l : x < y). ⊎_elim (λ (m : a ≤ b). inl (omega (arith, l, m))) (λ (g : 2 ^ 64 - 1 ≤ b). inr (omega (arith, g))) h) (λ (g : 2 ^ 64 - 1 ≤ y). inr (omega (arith, g))) k
-
-pub second_rises : (a b x y : ℕ) → x ≤ y → (a < b) ⊎ (2 ^ 64 - 1 ≤ b) → (x + a < y + b) ⊎ (2 ^ 64 - 1 ≤ y + b)
-second_rises a b x y k h = ⊎_elim (λ (l : a < b). inl (omega (arith, k, l))) (λ (g : 2 ^ 64 - 1 ≤ b). inr (omega (arith, g))) h
 
 -- ---- the faults of disks
 

@@ -18,7 +18,7 @@ use Rattle.gp_cell.specs.Cells.{CellState, IsSameBut}
 use Rattle.gp_node.specs.Endings.{AreAllCells}
 use Rattle.gp_stage.specs.Held.{AreAllNodes, AreCellsOf, AreUp, seen_by}
 use Rattle.gp_stage.specs.Gathered.{AreBehind, AreGathered, AreSameBut, HasLooked, IsPlaced, rest_of}
-use Rattle.gp_rules.specs.Own.{IsBehind}
+use Rattle.gp_wire.specs.Own.{IsBehind}
 use Rattle.gp_stage.specs.Kept.{AreHeld, IsKept}
 use Rattle.gp_stage.specs.Tops.{AreTrue, top_of_cells}
 use Rattle.gp_stage.proofs.Places.{same_at, within, set_here, set_other, image_at}
@@ -27,15 +27,12 @@ use Rattle.gp_stage.proofs.Keeping.{is_kept, top_of_all}
 use Rattle.gp_stage.proofs.Staging.{holds_node, one_of, looked_placed, held_first, rests_same, seen_same}
 use Rattle.gp_stage.proofs.Taking.{same_length}
 
-front_taken : {A : Type 0} (xs ys : List A) (n : ℕ) → n ≡ length xs → take n (xs ++ ys) ≡ xs
-front_taken [] ys zero e = refl
-front_taken [] ys (suc n) e = absurd (omega (arith, e))
-front_taken (x ∷ xs) ys zero e = absurd (omega (arith, e))
-front_taken (x ∷ xs) ys (suc n) e = ap (λ l. x ∷ l) (front_taken xs ys n (omega (arith, e)))
-
 -- a list that was lent and comes back as long as it was
 pub lent_back : {A : Type 0} (xs rest : List A) (n : ℕ) → n ≡ length xs → take n (xs ++ rest) ≡ xs
-lent_back xs rest n e = front_taken xs rest n e
+lent_back [] rest zero e = refl
+lent_back [] rest (suc n) e = absurd (omega (arith, e))
+lent_back (x ∷ xs) rest zero e = absurd (omega (arith, e))
+lent_back (x ∷ xs) rest (suc n) e = ap (λ l. x ∷ l) (lent_back xs rest n (omega (arith, e)))
 
 -- the cells of a configuration are some
 pub some_cells : {D : Type 0} (config : Counts) (nodes : List Node) (cells : List (CellState D)) → AreAllNodes config nodes → AreCellsOf nodes cells → 0 < length cells

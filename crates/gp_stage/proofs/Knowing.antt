@@ -1,5 +1,5 @@
 -- What is known of the messages once one record more is there.
-use Rattle.std.proofs.Common.{◌≡◌, ℕ, zero, suc, ◌≤◌, cond, max, List, [], ◌∷◌, ◌++◌, length, map, slice_get, refl, sym, ap, ◌∙◌, append_assoc, inl, inr, arith, Option, Some, None, option_map, option_to_list}
+use Rattle.std.proofs.Common.{◌≡◌, ℕ, zero, suc, ◌≤◌, cond, max, List, [], ◌∷◌, ◌++◌, length, map, slice_get, refl, sym, ap, ◌∙◌, inl, inr, arith, Option, Some, None, option_map, option_to_list}
 use Rattle.std.proofs.lemmas.List.{map-append, append-nil, length-map}
 use Rattle.gp_round.specs.Counts.{Counts}
 use Rattle.gp_msg.specs.declared.record.Record.{Record}
@@ -13,18 +13,15 @@ use Rattle.gp_run.specs.TopCount.{rounds_of, greatest_count, top_of_messages}
 use Rattle.gp_run.proofs.Telling.{messages-entries}
 use Rattle.gp_world.proofs.Showing.{tops-append}
 use Rattle.gp_msg.specs.Records.{messages_in}
-use Rattle.gp_rules.specs.SameNodes.{same_tells}
+use Rattle.gp_wire.proofs.SameNodes.{same_tells}
 use Rattle.gp_rules.specs.Still.{entries_append}
 use Rattle.gp_rules.specs.declared.roles.Core.{Core}
 use Rattle.gp_rules.specs.Cores.{acts, core_at, part_in}
 use Rattle.gp_rules.specs.Lawful.{IsLawful}
 use Rattle.gp_cell.proofs.Acting.{core_role}
+use Rattle.gp_wire.proofs.Placing.{messages-push}
 use Rattle.gp_stage.specs.Tops.{top_in}
 use Rattle.gp_stage.proofs.Sending.{Tops, acts_tops}
-
-pub sent_more : (rs : List Record) (x : Record) → messages_in (rs ++ x ∷ []) ≡ messages_in rs ++ x.out
-sent_more [] x = append-nil x.out
-sent_more (r ∷ rs) x = ap (λ ms. r.out ++ ms) (sent_more rs x) ∙ sym (append_assoc r.out (messages_in rs) x.out)
 
 -- the message behind some others
 first_behind : (ms out : List Msg) (k : ℕ) → k ≡ length ms → slice_get (ms ++ out) k ≡ slice_get out 0
@@ -49,16 +46,16 @@ module _ (config : Counts) (before list : List Record) (x : Record) (kinds : Lis
 
   -- what the wire answers for the next message
   pub next_kind : option_map kind_of (slice_get (messages_in list) (length kinds)) ≡ option_map kind_of (slice_get x.out 0)
-  next_kind = ap (option_map kind_of) (ap (λ l. slice_get (messages_in l) (length kinds)) list_is ∙ ap (λ l. slice_get l (length kinds)) (sent_more before x) ∙ first_behind (messages_in before) x.out (length kinds) kinds_length)
+  next_kind = ap (option_map kind_of) (ap (λ l. slice_get (messages_in l) (length kinds)) list_is ∙ ap (λ l. slice_get l (length kinds)) (messages-push before x) ∙ first_behind (messages_in before) x.out (length kinds) kinds_length)
 
   all_sent : messages (newest_first list) ≡ messages (newest_first before) ++ map message_of x.out
-  all_sent = messages-entries list ∙ ap (map message_of) (ap messages_in list_is ∙ sent_more before x) ∙ map-append message_of (messages_in before) x.out ∙ ap (λ l. l ++ map message_of x.out) (sym (messages-entries before))
+  all_sent = messages-entries list ∙ ap (map message_of) (ap messages_in list_is ∙ messages-push before x) ∙ map-append message_of (messages_in before) x.out ∙ ap (λ l. l ++ map message_of x.out) (sym (messages-entries before))
 
   all_tops : top_of_messages (messages (newest_first list)) ≡ max top (top_of_messages (map message_of x.out))
   all_tops = ap top_of_messages all_sent ∙ tops-append (messages (newest_first before)) (map message_of x.out) ∙ ap (λ t. max t (top_of_messages (map message_of x.out))) (sym top_is)
 
   all_kinds : map kind_of (messages_in list) ≡ kinds ++ map kind_of x.out
-  all_kinds = ap (map kind_of) (ap messages_in list_is ∙ sent_more before x) ∙ map-append kind_of (messages_in before) x.out ∙ ap (λ l. l ++ map kind_of x.out) (sym kinds_are)
+  all_kinds = ap (map kind_of) (ap messages_in list_is ∙ messages-push before x) ∙ map-append kind_of (messages_in before) x.out ∙ ap (λ l. l ++ map kind_of x.out) (sym kinds_are)
 
   -- nothing was sent
   none_out : (out : List Msg) → option_map kind_of (slice_get out 0) ≡ None → out ≡ []

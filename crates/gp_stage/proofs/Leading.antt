@@ -1,5 +1,5 @@
 -- The greatest count of the rounds of coordinators, by their cells.
-use Rattle.std.proofs.Common.{◌≡◌, ℕ, zero, suc, ◌<◌, ◌≤◌, true, max, List, [], ◌∷◌, ◌++◌, slice_get, refl, sym, ap, ◌∙◌, arith, Option, Some, None}
+use Rattle.std.proofs.Common.{◌≡◌, ℕ, zero, suc, ◌<◌, ◌≤◌, true, List, [], ◌∷◌, slice_get, refl, sym, ap, ◌∙◌, arith, Option, Some, None}
 use Rattle.std.proofs.lemmas.Bool.{ltb-true, lt-ltb}
 use mathlib.Core.Logic.{dite}
 use native.Mathlib.Decide.{ℕ_discrete}
@@ -19,21 +19,18 @@ use Rattle.gp_rules.specs.Still.{core_still, entries_append}
 use Rattle.gp_rules.proofs.Runs.{core_is}
 use Rattle.gp_cell.specs.Cells.{CellState}
 use Rattle.gp_cell.proofs.Posting.{nothing_own}
+use Rattle.gp_world.proofs.Showing.{greatest-append}
 use Rattle.gp_stage.specs.Kept.{AreHeld}
 use Rattle.gp_stage.specs.Tops.{top_in, coordinator_top, top_of_cells}
-
-greatest_append : (rs qs : List Round) → greatest_count (rs ++ qs) ≡ max (greatest_count rs) (greatest_count qs)
-greatest_append [] qs = omega arith
-greatest_append (r ∷ rs) qs = let h = greatest_append rs qs in omega (arith, h)
 
 -- the greatest count of the rounds of some nodes is at most this if that of each node is
 rounds_up_to : (n : ℕ) (f : ℕ → List Round) (t : ℕ) → ((c : ℕ) → c < n → greatest_count (f c) ≤ t) → greatest_count (rounds_below n f) ≤ t
 rounds_up_to zero f t h = omega arith
-rounds_up_to (suc n) f t h = let a = rounds_up_to n f t (λ c l. h c (omega (arith, l))) in let b = h n (omega arith) in let e = greatest_append (rounds_below n f) (f n) in omega (arith, a, b, e)
+rounds_up_to (suc n) f t h = let a = rounds_up_to n f t (λ c l. h c (omega (arith, l))) in let b = h n (omega arith) in let e = greatest-append (rounds_below n f) (f n) in omega (arith, a, b, e)
 
 up_to_rounds : (n : ℕ) (f : ℕ → List Round) (c : ℕ) → c < n → greatest_count (f c) ≤ greatest_count (rounds_below n f)
 up_to_rounds zero f c l = absurd (omega (arith, l))
-up_to_rounds (suc n) f c l = let e = greatest_append (rounds_below n f) (f n) in dite (ℕ_discrete c n)
+up_to_rounds (suc n) f c l = let e = greatest-append (rounds_below n f) (f n) in dite (ℕ_discrete c n)
     (λ is. let s = ap (λ k. greatest_count (f k)) is in omega (arith, e, s))
     (λ other. let h = up_to_rounds n f c (omega (arith, l, other)) in omega (arith, e, h))
 

@@ -14,8 +14,8 @@ use Rattle.gp_wire.specs.Told.{all_of}
 use Rattle.gp_wire.specs.Known.{WireState, PassState, records, record_of, old_of}
 use Rattle.gp_wire.specs.Passes.{met, spent}
 use Rattle.gp_wire.proofs.Words.{has_left, has_right}
-use Rattle.gp_rules.specs.Own.{own, IsBehind}
-use Rattle.gp_rules.proofs.OwnRecords.{own_append, own_foreign}
+use Rattle.gp_wire.specs.Own.{own, IsBehind}
+use Rattle.gp_wire.proofs.OwnRecords.{own_append, own_foreign}
 use Rattle.gp_rules.specs.declared.rules.PaxosRules.{PaxosRules}
 use Rattle.gp_cell.specs.Cells.{CellState, OwnLawful}
 use Rattle.gp_cell.specs.Working.{IsAt}

@@ -20,8 +20,8 @@ use Rattle.gp_wire.specs.Told.{longer}
 use Rattle.gp_wire.specs.Known.{WireState, PassState, HoldsAll, records, record_of, old_of}
 use Rattle.gp_wire.specs.Passes.{met, spent}
 use Rattle.gp_wire.proofs.Words.{has_right}
-use Rattle.gp_rules.specs.Own.{own, IsBehind}
-use Rattle.gp_rules.specs.SameNodes.{same_tells}
+use Rattle.gp_wire.specs.Own.{own, IsBehind}
+use Rattle.gp_wire.proofs.SameNodes.{same_tells}
 use Rattle.gp_rules.specs.Still.{entries_append}
 use Rattle.gp_rules.specs.declared.rules.PaxosRules.{PaxosRules}
 use Rattle.gp_rules.specs.Lawful.{IsLawful}

@@ -1,5 +1,5 @@
 -- What a step of a stage does to its nodes: the cell that made the move posts a record or none, and no disk's count falls.
-use Rattle.std.proofs.Common.{◌≡◌, ◌≢◌, ◌≤◌, ◌<◌, ◌-◌, ◌^◌, ℕ, zero, suc, true, false, Bool, inl, inr, List, [], ◌∷◌, ◌++◌, length, map, slice_get, refl, sym, ap, ◌∙◌, subst, arith, Some, Result, Ok, Err}
+use Rattle.std.proofs.Common.{◌≡◌, ◌≢◌, ℕ, zero, suc, true, false, Bool, inl, inr, List, [], ◌∷◌, ◌++◌, length, map, slice_get, refl, sym, ap, ◌∙◌, subst, arith, Some, Result, Ok, Err}
 use Rattle.std.specs.Prelude.{nat_lt}
 use Rattle.std.specs.List.{AllZip}
 use Rattle.std.proofs.lemmas.Bool.{ltb-true, ltb-false}
@@ -12,14 +12,15 @@ use Rattle.gp_wire.specs.Known.{WireState}
 use Rattle.gp_work.specs.declared.moves.Move.{Move}
 use Rattle.gp_work.specs.declared.faults.StepFault.{StepFault}
 use Rattle.gp_work.specs.declared.faults.StepFault.TheVariants as step
-use Rattle.gp_rules.specs.Own.{own, own_events, event_in}
-use Rattle.gp_rules.proofs.OwnRecords.{own_append}
+use Rattle.gp_wire.specs.Own.{own, own_events, event_in}
+use Rattle.gp_wire.proofs.OwnRecords.{own_append}
 use Rattle.gp_rules.specs.declared.rules.PaxosRules.{PaxosRules}
 use Rattle.gp_cell.specs.Cells.{CellState}
-use Rattle.gp_cell.specs.Refusals.{faults_of, limit_of}
+use Rattle.gp_cell.specs.Refusals.{FailsByDisk, faults_of, limit_of}
 use Rattle.gp_edge.specs.Faults as edge
 use Rattle.gp_driver.specs.declared.stage.StageFault.{StageFault}
-use Rattle.gp_driver.specs.Stages.{StageNode, AllBut, NodeGoes, NodesGo, HasRisen, SomeNodeRose, IfDiskFailed, FailsByNode}
+use Rattle.gp_driver.specs.declared.stage.StageFault.TheVariants as stage
+use Rattle.gp_driver.specs.Stages.{StageNode, AllBut, NodeGoes, NodesGo, HasRisen, SomeNodeRose, FailsByNode, fault_counts}
 use Rattle.gp_driver.proofs.Going.{nodes_still}
 use Rattle.gp_stage.specs.Held.{HeldCells, seen_by, stage_node, whole_list}
 use Rattle.gp_stage.specs.Gathered.{AreSameBut, rest_of}
@@ -39,6 +40,15 @@ each_goes idle f g [] [] e h = tt
 each_goes idle f g [] (y ∷ new) e h = absurd (omega (arith, e))
 each_goes idle f g (x ∷ old) [] e h = absurd (omega (arith, e))
 each_goes idle f g (x ∷ old) (y ∷ new) e h = (h 0 x y refl refl, each_goes idle f g old new (omega (arith, e)) (λ i. h (suc i)))
+
+each_count : {D : Type 0} (faults : D → ℕ) (before now : List Record) (old new : List (CellState D)) → length new ≡ length old
+    → ((i : ℕ) (x y : CellState D) → slice_get old i ≡ Some x → slice_get new i ≡ Some y → faults_of faults y.log ≡ faults_of faults x.log)
+    → fault_counts (map (stage_node faults now) new) ≡ fault_counts (map (stage_node faults before) old)
+each_count faults before now [] [] e h = refl
+each_count faults before now [] (y ∷ new) e h = absurd (omega (arith, e))
+each_count faults before now (x ∷ old) [] e h = absurd (omega (arith, e))
+each_count faults before now (x ∷ old) (y ∷ new) e h =
+    let a = h 0 x y refl refl in let b = each_count faults before now old new (omega (arith, e)) (λ i. h (suc i)) in (λ j. a j ∷ b j)
 
 -- what cells with the same logs are as nodes
 by_rest : {D : Type 0} (faults : D → ℕ) (list : List Record) (cells : List (CellState D))
@@ -89,6 +99,15 @@ module _ {D : Type 0} (faults : D → ℕ) (wire : WireState PaxosRules) (old ne
         (λ n. other_goes idle now i x y n a b (h x.node)));
   }
 
+  -- no disk failed
+  counts_steady : ¬ FailsByDisk r → (before now : List Record) → fault_counts (map (stage_node faults now) new) ≡ fault_counts (map (stage_node faults before) old)
+  counts_steady none before now = each_count faults before now old new p.length_is (λ i x y a b. dite (ℕ_discrete i at)
+      (λ is.
+      let x_is : p.before ≡ x = same_at old at p.before x p.before_is (subst (λ j. slice_get old j ≡ Some x) is a) in
+      let y_is : p.after ≡ y = same_at new at p.after y p.after_is (subst (λ j. slice_get new j ≡ Some y) is b) in
+      ap (λ (c : CellState D). faults_of faults c.log) (sym y_is) ∙ p.counts.steady none ∙ ap (λ (c : CellState D). faults_of faults c.log) x_is)
+      (λ n. ap (λ (q : _). faults_of faults q.3) (same_value (rest_of y) (rest_of x) (sym (map_at rest_of new i y b) ∙ p.others i n ∙ map_at rest_of old i x a))))
+
 -- a record of another node is none of this node's
 other_events : (n : Node) (list now : List Record) (x : Record) → now ≡ list ++ x ∷ [] → n ≢ x.node → own_events n now ≡ own_events n list
 other_events n list now x e other = ap (λ l. own_events n l) e ∙ ap (map event_in) (own_append n list (x ∷ []) ∙ ap (λ l. own n list ++ l) (own_other n x other) ∙ append-nil (own n list))
@@ -123,11 +142,15 @@ module _ {D : Type 0} (faults : D → ℕ) (wire : WireState PaxosRules) (old ne
     rose = risen (faults_of faults p.before.log) (faults_of faults p.after.log) (p.counts.failed tt);
   }
 
+  -- no disk failed in a move that was made
+  pub posted_steady : (n : ℕ) → HasPlayed faults wire old new holder at mv (Ok n) → fault_counts (map (stage_node faults now) new) ≡ fault_counts (map (stage_node faults before) old)
+  posted_steady n p = counts_steady faults wire old new holder at mv (Ok n) p (λ none. none) before now
+
   pub refused_fails : (f : StepFault) (p : HasPlayed faults wire old new holder at mv (Err f)) → FailsByNode (map (stage_node faults before) old) (map (stage_node faults now) new) (Err (stage_fault f))
-  refused_fails step.Waiting p = record { by_node = tt }
-  refused_fails step.NoMemory p = record { by_node = tt }
-  refused_fails step.Disk p = record { by_node = failed_there p }
-  refused_fails (step.Full size need) p = record { by_node = tt }
+  refused_fails step.Waiting p = record { by_node = tt; steady = counts_steady faults wire old new holder at mv (Err step.Waiting) p (λ none. none) before now }
+  refused_fails step.NoMemory p = record { by_node = tt; steady = counts_steady faults wire old new holder at mv (Err step.NoMemory) p (λ none. none) before now }
+  refused_fails step.Disk p = record { by_node = failed_there p; steady = tt }
+  refused_fails (step.Full size need) p = record { by_node = tt; steady = counts_steady faults wire old new holder at mv (Err (step.Full size need)) p (λ none. none) before now }
 
 -- ---- what the stage shows
 
@@ -146,6 +169,13 @@ module _ {D : Type 0} (faults : D → ℕ) (idle : Node → Type 0) where
   -- nothing has changed
   pub nodes_kept : (now old : HeldCells D) → old ≡ now → NodesGo idle (nodes_of faults now) (nodes_of faults old)
   nodes_kept now old before = nodes_than now old before (nodes_of faults old) (nodes_still idle (nodes_of faults old))
+
+-- no disk failed
+pub fails_than : {D : Type 0} (faults : D → ℕ) (now old : HeldCells D) → old ≡ now → (nodes : List StageNode) (n : ℕ) → fault_counts nodes ≡ fault_counts (nodes_of faults old) → FailsByNode (nodes_of faults now) nodes (Ok n)
+fails_than {D} faults now old before nodes n e = record { by_node = tt; steady = e ∙ ap (λ (h : HeldCells D). fault_counts (nodes_of faults h)) before }
+
+pub fails_kept : {D : Type 0} (faults : D → ℕ) (now old : HeldCells D) → old ≡ now → FailsByNode (nodes_of faults now) (nodes_of faults old) (Err stage.NoMemory)
+fails_kept {D} faults now old before = record { by_node = tt; steady = ap (λ (h : HeldCells D). fault_counts (nodes_of faults h)) before }
 
 -- ---- what became of one cell
 

@@ -18,7 +18,7 @@ use Rattle.gp_run.specs.Runs.{newest_first, entry_after}
 use Rattle.gp_run.specs.TopCount.{top_count, top_of_messages}
 use Rattle.gp_run.proofs.Fitting.{node_there}
 use Rattle.gp_run.proofs.Telling.{as_many_messages}
-use Rattle.gp_driver.specs.Stages.{HasCause}
+use Rattle.gp_driver.specs.Stages.{HasCause, RoseByOne}
 use Rattle.gp_wire.specs.Known.{WireState, records}
 use Rattle.gp_msg.specs.Records.{messages_in}
 use Rattle.gp_work.specs.declared.moves.Move.{Move}
@@ -28,13 +28,13 @@ use Rattle.gp_work.specs.declared.faults.StepFault.TheVariants.{Waiting, NoMemor
 use Rattle.gp_work.specs.Moves.{event_of, Fits}
 use Rattle.gp_rules.specs.declared.rules.PaxosRules.{PaxosRules}
 use Rattle.gp_cell.specs.Cells.{CellState}
-use Rattle.gp_cell.specs.Refusals.{IsTooGreat, faults_of}
+use Rattle.gp_cell.specs.Refusals.{FailsByDisk, IsTooGreat, faults_of}
 use Rattle.gp_stage.specs.Held.{HasCell, AreUp, IsTooGreatIn, capped, disk_faults, seen_by}
 use Rattle.gp_stage.specs.Gathered.{AreSameBut, rest_of}
 use Rattle.gp_stage.specs.Kept.{AreHeld, IsKept}
 use Rattle.gp_stage.specs.Played.{CanPlay, HasPlayed, KnewBefore, stage_fault}
 use Rattle.gp_stage.proofs.Places.{same_at, map_at, mapped_at}
-use Rattle.gp_stage.proofs.Faulting.{capped_rose, first_rises, second_rises, all_same, one_changes, one_of_all}
+use Rattle.gp_stage.proofs.Faulting.{capped_rose, first_rises, sum_by_one, all_same, one_changes, one_of_all}
 
 -- a move of an event that may happen fits the node of the event
 move_fits : (config : Counts) (have : ℕ) (n : Node) (mv : Move) → n ≡ node_of (event_of n mv) → fits_among config have (event_of n mv) ≡ true → Fits config n mv
@@ -119,6 +119,9 @@ module _ {D : Type 0} (faults : D → ℕ) (wire : WireState PaxosRules) (old ne
   pub sum_grows : (r : Result ℕ StepFault) → HasPlayed faults wire old new holder at mv r → disk_faults faults old ≤ disk_faults faults new
   sum_grows r p = let e = one_changes faults old new at p.before p.after p.before_is p.after_is p.others in let l = p.counts.never_falls in omega (arith, e, l)
 
+  pub sum_steady : (r : Result ℕ StepFault) → ¬ FailsByDisk r → HasPlayed faults wire old new holder at mv r → disk_faults faults new ≡ disk_faults faults old
+  sum_steady r none p = let e = one_changes faults old new at p.before p.after p.before_is p.after_is p.others in let s = p.counts.steady none in omega (arith, e, s)
+
   sum_rises : HasPlayed faults wire old new holder at mv (Err Disk) → (disk_faults faults old < disk_faults faults new) ⊎ (2 ^ 64 - 1 ≤ disk_faults faults new)
   sum_rises p = by_test (nat_lt (disk_faults faults old) (disk_faults faults new)) refl
     where
@@ -130,14 +133,16 @@ module _ {D : Type 0} (faults : D → ℕ) (wire : WireState PaxosRules) (old ne
           let b = one_of_all faults new at p.after p.after_is in inr (omega (arith, s, e, l, b))
 
   pub fault_caused : (config : Counts) (id : TableId) (nodes : List Node) (fulls more : ℕ) (event : Event) (f : StepFault) (p : HasPlayed faults wire old new holder at mv (Err f)) → event_of p.before.node mv ≡ event → (fulls ≤ more) ⊎ (2 ^ 64 - 1 ≤ more)
-      → ((size need : ℕ) → f ≡ Full size need → (fulls < more) ⊎ (2 ^ 64 - 1 ≤ more))
+      → (f ≡ NoMemory → more ≡ fulls) → ((size need : ℕ) → f ≡ Full size need → more ≡ min (fulls + 1) (2 ^ 64 - 1))
       → HasCause (capped (disk_faults faults old + fulls)) (capped (disk_faults faults new + more))
       (λ size need. IsTooGreatIn (record { config = config; wire = id; nodes = nodes; cells = new; holder = at; fulls = more }) event size need) (stage_fault f)
-  fault_caused config id nodes fulls more event Waiting p is l h = absurd p.cause
-  fault_caused config id nodes fulls more event NoMemory p is l h = tt
-  fault_caused config id nodes fulls more event Disk p is l h = capped_rose (disk_faults faults old + fulls) (disk_faults faults new + more) (first_rises fulls more (disk_faults faults old) (disk_faults faults new) (sum_rises p) l)
-  fault_caused config id nodes fulls more event (Full size need) p is l h = (
-    capped_rose (disk_faults faults old + fulls) (disk_faults faults new + more) (second_rises fulls more (disk_faults faults old) (disk_faults faults new) (sum_grows (Err (Full size need)) p) (h size need refl)),
+  fault_caused config id nodes fulls more event Waiting p is l s h = absurd p.cause
+  fault_caused config id nodes fulls more event NoMemory p is l s h =
+      let d = sum_steady (Err NoMemory) (λ none. none) p in let m = s refl in
+      let same : disk_faults faults new + more ≡ disk_faults faults old + fulls = omega (arith, d, m) in ap capped same
+  fault_caused config id nodes fulls more event Disk p is l s h = capped_rose (disk_faults faults old + fulls) (disk_faults faults new + more) (first_rises fulls more (disk_faults faults old) (disk_faults faults new) (sum_rises p) l)
+  fault_caused config id nodes fulls more event (Full size need) p is l s h = (
+    subst (λ d. RoseByOne (capped (disk_faults faults old + fulls)) (capped (d + more))) (sym (sum_steady (Err (Full size need)) (λ none. none) p)) (sum_by_one (disk_faults faults old) fulls more (h size need refl)),
     record {
       place = at;
       cell = p.after;

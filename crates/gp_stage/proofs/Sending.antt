@@ -21,9 +21,8 @@ use Rattle.gp_coordinator.specs.Replies.{reply_at}
 use Rattle.gp_coordinator.specs.Epochs as coordinator
 use Rattle.gp_coordinator.specs.Epochs.{CoordinatorInEpoch}
 use Rattle.gp_run.specs.TopCount.{rounds_of, message_rounds, greatest_count}
-use Rattle.gp_run.proofs.Choices.{chosen, left_true, with_message}
+use Rattle.gp_run.proofs.Choices.{chosen, with_message}
 use Rattle.gp_run.specs.States.{proposer_acts, coordinator_acts, acceptor_acts, learner_acts}
-use Rattle.gp_acceptor.proofs.Rejoining.{same_round_is}
 use Rattle.gp_proposer.specs.State.{ProposerState}
 use Rattle.gp_command.specs.declared.command.Command.{Command}
 use Rattle.gp_learner.specs.Table as learner_table
@@ -33,6 +32,8 @@ use Rattle.gp_rules.specs.declared.roles.Core.{Core}
 use Rattle.gp_rules.specs.declared.roles.Core.TheVariants.{Proposer, Coordinator, Acceptor, Learner}
 use Rattle.gp_rules.specs.Cores.{acts, part_in}
 use Rattle.gp_cell.specs.Plans.{HasRole}
+use Rattle.gp_round.proofs.Counting.{left_true}
+use Rattle.gp_round.proofs.Orders.{same_round_is}
 use Rattle.gp_stage.specs.Tops.{top_in}
 
 -- the message, if there is one, has rounds up to this count and one of it

@@ -11,7 +11,7 @@ use Rattle.gp_rules.specs.declared.rules.PaxosRules.{PaxosRules}
 use Rattle.gp_cell.specs.Cells.{CellState, IsSameBut, OwnLawful}
 use Rattle.gp_stage.specs.Held.{AreAllNodes, AreCellsOf}
 use Rattle.gp_stage.specs.Gathered.{AreGathered, AreSameBut, HasLooked, IsPlaced, rest_of}
-use Rattle.gp_rules.specs.Own.{IsBehind}
+use Rattle.gp_wire.specs.Own.{IsBehind}
 use Rattle.gp_stage.specs.Kept.{AreHeld}
 use Rattle.gp_stage.proofs.Places.{same_at, same_list, within}
 use Rattle.gp_stage.proofs.Meeting.{behind_itself}

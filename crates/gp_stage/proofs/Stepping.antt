@@ -1,5 +1,5 @@
 -- A move of one of the cells, once its pass holds all nodes.
-use Rattle.std.proofs.Common.{◌≡◌, ◌≢◌, ℕ, ◌+◌, ◌<◌, true, List, [], ◌∷◌, ◌++◌, length, map, slice_get, refl, sym, ap, ◌∙◌, subst, arith, Some, None, option_map, Result, Ok, Err}
+use Rattle.std.proofs.Common.{◌≡◌, ◌≢◌, ℕ, ◌+◌, ◌<◌, true, List, [], ◌∷◌, ◌++◌, length, map, slice_get, sym, ap, ◌∙◌, subst, arith, Some, None, option_map, Result, Ok, Err}
 use Rattle.std.specs.Prelude.{nat_lt}
 use Rattle.std.proofs.lemmas.Option.{slice_get-map}
 use Rattle.std.proofs.lemmas.List.{length-map}
@@ -10,10 +10,9 @@ use Rattle.gp_msg.specs.declared.node.Node.TheVariants as node
 use Rattle.gp_msg.specs.declared.record.Record.{Record}
 use Rattle.gp_msg.specs.Messages.{message_of, entry_of}
 use Rattle.gp_run.specs.Messages.{messages}
-use Rattle.gp_msg.specs.Nodes.{is_present, node_of}
+use Rattle.gp_msg.specs.Nodes.{is_present}
 use Rattle.gp_run.specs.Legal.{fits}
 use Rattle.gp_run.specs.Runs.{newest_first, entry_after}
-use Rattle.gp_run.proofs.Choices.{right_true}
 use Rattle.gp_run.proofs.Telling.{messages-entries}
 use Rattle.gp_wire.specs.Known.{WireState, records}
 use Rattle.gp_msg.specs.Records.{messages_in}
@@ -27,27 +26,14 @@ use Rattle.gp_rules.specs.declared.rules.PaxosRules.{PaxosRules}
 use Rattle.gp_cell.specs.Cells.{CellState, PostsOne}
 use Rattle.gp_cell.specs.Passing.{GoesOn}
 use Rattle.gp_cell.specs.Refusals.{CountsFaults, StepCause, faults_of, limit_of}
+use Rattle.gp_round.proofs.Counting.{right_true}
+use Rattle.gp_cell.proofs.Stepping.{node_is as node_of_move}
 use Rattle.gp_stage.specs.Held.{seen_by}
 use Rattle.gp_stage.specs.Gathered.{AreSameBut, rest_of}
 use Rattle.gp_stage.specs.Kept.{AreHeld}
 use Rattle.gp_stage.specs.Played.{HasPlayed, PlayCause}
 use Rattle.gp_stage.proofs.Places.{image_at}
 use Rattle.gp_stage.proofs.Moving.{nothing_more, entry_more, held_refused, held_posted, one_more, item_node, lawful_now}
-
--- the node of an event of a move that fits it
-pub node_of_move : (config : Counts) (n : Node) (mv : Move) → Fits config n mv → node_of (event_of n mv) ≡ n
-node_of_move config (node.Proposer p) (Offer d) f = refl
-node_of_move config (node.Proposer p) (Begin r) f = absurd f
-node_of_move config (node.Proposer p) (Take k) f = refl
-node_of_move config (node.Coordinator c) (Offer d) f = absurd f
-node_of_move config (node.Coordinator c) (Begin r) f = refl
-node_of_move config (node.Coordinator c) (Take k) f = refl
-node_of_move config (node.Acceptor a) (Offer d) f = absurd f
-node_of_move config (node.Acceptor a) (Begin r) f = absurd f
-node_of_move config (node.Acceptor a) (Take k) f = refl
-node_of_move config (node.Learner l) (Offer d) f = absurd f
-node_of_move config (node.Learner l) (Begin r) f = absurd f
-node_of_move config (node.Learner l) (Take k) f = refl
 
 -- a message that an event takes was sent
 not_beyond : (config : Counts) (n : Node) (rs : List Record) (mv : Move) → fits config (newest_first rs) (event_of n mv) ≡ true → IsBeyond (length (messages_in rs)) mv → ⊥

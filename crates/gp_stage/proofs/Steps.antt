@@ -1,5 +1,5 @@
 -- A step of a stage, by the lists that it lends: the cells that were there, that made the move, and that looked once more.
-use Rattle.std.proofs.Common.{◌≡◌, ◌⊎◌, ℕ, ◌+◌, ◌-◌, ◌<◌, ◌≤◌, ◌^◌, List, ◌∷◌, ◌++◌, length, map, slice_get, take, sym, ap, ◌∙◌, subst, inl, arith, Some, Bool, false, Result, Ok, Err}
+use Rattle.std.proofs.Common.{◌≡◌, ◌⊎◌, ℕ, ◌+◌, ◌-◌, ◌<◌, ◌≤◌, ◌^◌, min, List, ◌∷◌, ◌++◌, length, map, slice_get, take, sym, ap, ◌∙◌, subst, inl, arith, Some, Bool, false, Result, Ok, Err}
 use Rattle.std.specs.Prelude.{OnOk, is_err}
 use Rattle.atomic_table.specs.Seated.{TableId}
 use Rattle.gp_round.specs.Counts.{Counts}
@@ -11,13 +11,13 @@ use Rattle.gp_msg.specs.Reads.{kind_of}
 use Rattle.gp_run.specs.Messages.{messages}
 use Rattle.gp_run.specs.Runs.{newest_first, entry_after}
 use Rattle.gp_run.specs.TopCount.{top_count, top_of_messages}
-use Rattle.gp_driver.specs.Stages.{AllBut, HasCause, NodesGo, FailsByNode}
+use Rattle.gp_driver.specs.Stages.{AllBut, HasCause, NodesGo, FailsByNode, fault_counts}
 use Rattle.gp_driver.specs.declared.stage.StageFault.{StageFault}
 use Rattle.gp_wire.specs.Known.{WireState}
 use Rattle.gp_msg.specs.Records.{messages_in}
 use Rattle.gp_work.specs.declared.moves.Move.{Move}
 use Rattle.gp_work.specs.declared.faults.StepFault.{StepFault}
-use Rattle.gp_work.specs.declared.faults.StepFault.TheVariants.{Full}
+use Rattle.gp_work.specs.declared.faults.StepFault.TheVariants.{NoMemory, Full}
 use Rattle.gp_work.specs.Moves.{event_of}
 use Rattle.gp_rules.specs.declared.rules.PaxosRules.{PaxosRules}
 use Rattle.gp_cell.specs.Cells.{CellState}
@@ -29,8 +29,8 @@ use Rattle.gp_stage.proofs.Places.{same_at, within}
 use Rattle.gp_stage.proofs.Taking.{same_length}
 use Rattle.gp_stage.proofs.Faulting.{capped_grows, both_at_most}
 use Rattle.gp_stage.proofs.Founding.{lent_back, up_still}
-use Rattle.gp_stage.proofs.Nodes.{nodes_same, posted_goes, refused_goes, refused_fails}
-use Rattle.gp_stage.proofs.Performing.{up_played, list_posted, count_posted, list_refused, knew, kept_refused, sum_grows, fault_caused, kept_again, sum_still}
+use Rattle.gp_stage.proofs.Nodes.{nodes_same, posted_goes, posted_steady, refused_goes, refused_fails}
+use Rattle.gp_stage.proofs.Performing.{up_played, list_posted, count_posted, list_refused, knew, kept_refused, sum_grows, sum_steady, fault_caused, kept_again, sum_still}
 
 module _ {D : Type 0} (faults : D → ℕ) (wire : WireState PaxosRules) (config : Counts) (items lent played : List (CellState D)) (value : lent ≡ items) (len : ℕ) (long : len ≡ length items) (holder at : ℕ) (mv : Move) where
   from_items : (r : Result ℕ StepFault) → HasPlayed faults wire lent played holder at mv r → HasPlayed faults wire items played holder at mv r
@@ -80,6 +80,18 @@ module _ {D : Type 0} (faults : D → ℕ) (wire : WireState PaxosRules) (config
           let a = sum_grows faults wire items played holder at mv (Ok n) p in let b = ap (disk_faults faults) back in
           let s = sum_still faults again kept same in let k = ap (disk_faults faults) kept_back in omega (arith, a, b, s, k)))
 
+      pub told_steady : (fulls : ℕ) → capped (disk_faults faults (take len (kept ++ last)) + fulls) ≡ capped (disk_faults faults items + fulls)
+      told_steady fulls =
+          let a = sum_steady faults wire items played holder at mv (Ok n) (λ none. none) p in let b = ap (disk_faults faults) back in
+          let s = sum_still faults again kept same in let k = ap (disk_faults faults) kept_back in
+          let sum : disk_faults faults (take len (kept ++ last)) + fulls ≡ disk_faults faults items + fulls = omega (arith, a, b, s, k) in ap capped sum
+
+      -- no disk failed
+      pub told_counts : (before now : List Record) → fault_counts (map (stage_node faults now) (take len (kept ++ last))) ≡ fault_counts (map (stage_node faults before) items)
+      told_counts before now =
+          ap (λ cells. fault_counts (map (stage_node faults now) cells)) kept_back ∙ ap fault_counts (nodes_same faults now again kept same)
+          ∙ ap (λ cells. fault_counts (map (stage_node faults now) cells)) back ∙ posted_steady faults wire items played holder at mv before now n p
+
       module _ (list : seen_by (slice_get kept at) ≡ seen_by (slice_get again at)) where
         list_now : seen_by (slice_get (take len (kept ++ last)) at) ≡ seen_by (slice_get played at)
         list_now = ap (λ l. seen_by (slice_get l at)) kept_back ∙ list ∙ ap (λ l. seen_by (slice_get l at)) back
@@ -126,17 +138,21 @@ module _ {D : Type 0} (faults : D → ℕ) (wire : WireState PaxosRules) (config
         both_at_most fulls more (disk_faults faults items) (disk_faults faults (take len (played ++ rest)))
         (let a = sum_grows faults wire items played holder at mv (Err f) q in let b = ap (disk_faults faults) (played_back (Err f) given rest) in omega (arith, a, b)) l)
 
-    pub fault_cause : (id : TableId) (nodes : List Node) (fulls more : ℕ) (event : Event) (x : CellState D) → slice_get items at ≡ Some x → event_of x.node mv ≡ event → (fulls ≤ more) ⊎ (2 ^ 64 - 1 ≤ more) → ((size need : ℕ) → f ≡ Full size need → (fulls < more) ⊎ (2 ^ 64 - 1 ≤ more))
+    pub fault_cause : (id : TableId) (nodes : List Node) (fulls more : ℕ) (event : Event) (x : CellState D) → slice_get items at ≡ Some x → event_of x.node mv ≡ event → (fulls ≤ more) ⊎ (2 ^ 64 - 1 ≤ more)
+        → (f ≡ NoMemory → more ≡ fulls) → ((size need : ℕ) → f ≡ Full size need → more ≡ min (fulls + 1) (2 ^ 64 - 1))
         → HasCause (capped (disk_faults faults items + fulls)) (capped (disk_faults faults (take len (played ++ rest)) + more))
         (λ size need. IsTooGreatIn (record { config = config; wire = id; nodes = nodes; cells = take len (played ++ rest); holder = at; fulls = more }) event size need) (stage_fault f)
-    fault_cause id nodes fulls more event x x_is is l h = subst (λ cells. HasCause (capped (disk_faults faults items + fulls)) (capped (disk_faults faults cells + more))
+    fault_cause id nodes fulls more event x x_is is l s h = subst (λ cells. HasCause (capped (disk_faults faults items + fulls)) (capped (disk_faults faults cells + more))
         (λ size need. IsTooGreatIn (record { config = config; wire = id; nodes = nodes; cells = cells; holder = at; fulls = more }) event size need) (stage_fault f)) (sym (played_back (Err f) given rest))
-        (fault_caused faults wire items played holder at mv config id nodes fulls more event f q (event_before (Err f) q event x x_is is) l h)
+        (fault_caused faults wire items played holder at mv config id nodes fulls more event f q (event_before (Err f) q event x x_is is) l s h)
 
 -- ---- what the stage shows before and after
 
 pub later_than : {D : Type 0} (faults : D → ℕ) (now old : HeldCells D) → old ≡ now → (n : ℕ) → capped (disk_faults faults old.cells + old.fulls) ≤ n → capped (disk_faults faults now.cells + now.fulls) ≤ n
 later_than {D} faults now old before n l = subst (λ (h : HeldCells D). capped (disk_faults faults h.cells + h.fulls) ≤ n) before l
+
+pub steady_than : {D : Type 0} (faults : D → ℕ) (now old : HeldCells D) → old ≡ now → (n : ℕ) → n ≡ capped (disk_faults faults old.cells + old.fulls) → n ≡ capped (disk_faults faults now.cells + now.fulls)
+steady_than {D} faults now old before n e = subst (λ (h : HeldCells D). n ≡ capped (disk_faults faults h.cells + h.fulls)) before e
 
 module _ {D : Type 0} (faults : D → ℕ) (now self old new : HeldCells D) (before : old ≡ now) (after : self ≡ new) where
   pub later_shown : capped (disk_faults faults old.cells + old.fulls) ≤ capped (disk_faults faults new.cells + new.fulls) → capped (disk_faults faults now.cells + now.fulls) ≤ capped (disk_faults faults self.cells + self.fulls)

@@ -1,5 +1,5 @@
 -- What a stage tells of its messages, and whether its run can be settled.
-use Rattle.std.proofs.Common.{◌≡◌, ℕ, ◌+◌, ◌*◌, ◌<◌, ◌≤◌, ◌^◌, List, length, reverse, slice_get, get_or, Bor, refl, sym, ap, ◌∙◌, arith, Some}
+use Rattle.std.proofs.Common.{◌≡◌, ℕ, ◌+◌, ◌*◌, ◌<◌, ◌≤◌, List, length, reverse, slice_get, get_or, Bor, refl, sym, ap, ◌∙◌, arith, Some}
 use Rattle.std.specs.Prelude.{Option, None, IfSome, MatchOption}
 use Rattle.std.specs.Option.{option_map, option_copied}
 use Rattle.std.proofs.lemmas.List.{length-map, length-reverse}
@@ -18,10 +18,10 @@ use Rattle.gp_wire.specs.Known.{WireState, records, record_of}
 use Rattle.gp_msg.specs.Records.{messages_in}
 use Rattle.gp_rules.specs.declared.rules.PaxosRules.{PaxosRules}
 use Rattle.gp_cell.specs.Cells.{CellState}
-use Rattle.gp_stage.specs.declared.settling.TheConstants.{MOST_ROUNDS}
+use Rattle.gp_stage.specs.declared.settling.TheConstants.{MOST_ENTRIES, MOST_ROUNDS}
 use Rattle.gp_stage.specs.Held.{seen_by}
 use Rattle.gp_stage.specs.Kept.{IsKept}
-use Rattle.gp_stage.specs.Bounds.{CanSettle}
+use Rattle.gp_stage.specs.Bounds.{CanSettle, IsWithin}
 use Rattle.gp_stage.proofs.Founded.{legal_kept}
 use Rattle.gp_stage.proofs.Bounding.{can_settle}
 
@@ -38,11 +38,22 @@ module _ {D : Type 0} (wire : WireState PaxosRules) (config : Counts) (cells : L
   kind_at i = ap (λ l. slice_get l i) k.kinds_are ∙ slice_get-map reads.kind_of (messages_in (seen_by (slice_get cells holder))) i
       ∙ sym (kind_told (slice_get (messages_in (seen_by (slice_get cells holder))) i)) ∙ ap (option_map kind_of) (sym (message-entries (seen_by (slice_get cells holder)) i))
 
-  pub within_bounds : (c : CellState D) (count entries : ℕ) → slice_get cells holder ≡ Some c → AreInRange config.acceptors config.coordinators config.learners → count ≡ length kinds → entries ≡ length c.pass.seen
-      → top + count ≤ MOST_ROUNDS → entries + 71 * count + 50 ≤ 2 ^ 31 → CanSettle config (newest_first (seen_by (slice_get cells holder)))
-  within_bounds c count entries at range many long rounds room =
-      let e : entries ≡ length (newest_first (seen_by (slice_get cells holder))) = long ∙ sym (length-map c.pass.seen record_of) ∙ sym (length-reverse (records c.pass)) ∙ sym (length-map (reverse (records c.pass)) entry_of)
-      ∙ ap (λ o. length (newest_first (seen_by o))) (sym at) in
-      let m = many ∙ as_many_kinds in let t = k.top_is in
-      can_settle config (newest_first (seen_by (slice_get cells holder))) range (legal_kept wire config cells holder kinds sent top k)
-      (omega (arith, t, m, rounds)) (omega (arith, e, m, room))
+  pub can_settle_within : AreInRange config.acceptors config.coordinators config.learners → IsWithin config (newest_first (seen_by (slice_get cells holder))) → CanSettle config (newest_first (seen_by (slice_get cells holder)))
+  can_settle_within range within = can_settle config (newest_first (seen_by (slice_get cells holder))) range (legal_kept wire config cells holder kinds sent top k) within
+
+  -- the numbers of messages and entries that the code compares are those of the run
+  module _ (c : CellState D) (count entries : ℕ) (at : slice_get cells holder ≡ Some c) (many : count ≡ length kinds) (long : entries ≡ length c.pass.seen) where
+    as_many_entries : entries ≡ length (newest_first (seen_by (slice_get cells holder)))
+    as_many_entries = long ∙ sym (length-map c.pass.seen record_of) ∙ sym (length-reverse (records c.pass)) ∙ sym (length-map (reverse (records c.pass)) entry_of)
+        ∙ ap (λ o. length (newest_first (seen_by o))) (sym at)
+
+    pub is_within : top + count ≤ MOST_ROUNDS → entries + 71 * count + 50 ≤ MOST_ENTRIES → IsWithin config (newest_first (seen_by (slice_get cells holder)))
+    is_within low short =
+        let e = as_many_entries in let m = many ∙ as_many_kinds in let t = k.top_is in
+        record { rounds = omega (arith, t, m, low); room = omega (arith, e, m, short) }
+
+    pub is_low : IsWithin config (newest_first (seen_by (slice_get cells holder))) → top + count ≤ MOST_ROUNDS
+    is_low within = let m = many ∙ as_many_kinds in let t = k.top_is in let l = within.rounds in omega (arith, t, m, l)
+
+    pub is_short : IsWithin config (newest_first (seen_by (slice_get cells holder))) → entries + 71 * count + 50 ≤ MOST_ENTRIES
+    is_short within = let e = as_many_entries in let m = many ∙ as_many_kinds in let l = within.room in omega (arith, e, m, l)

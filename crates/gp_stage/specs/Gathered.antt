@@ -10,7 +10,7 @@ use Rattle.gp_wire.specs.Lists.{Has}
 use Rattle.gp_wire.specs.Rule.{Begins}
 use Rattle.gp_wire.specs.Known.{WireState, PassState, records, old_of}
 use Rattle.gp_wire.specs.Passes.{met, spent}
-use Rattle.gp_rules.specs.Own.{own, IsBehind}
+use Rattle.gp_wire.specs.Own.{IsBehind}
 use Rattle.gp_rules.specs.declared.rules.PaxosRules.{PaxosRules}
 use Rattle.gp_cell.specs.Cells.{CellState, OwnLawful}
 use Rattle.gp_stage.specs.Held.{with_pass}

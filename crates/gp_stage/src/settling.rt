@@ -1,11 +1,11 @@
 //! Settling the run of cells.
-ghost use Rattle.std.specs.Prelude.{IsTrue, OnOk};
+ghost use Rattle.std.specs.Prelude.{◌↔◌, ◌≤◌, ◌+◌, ◌*◌, IsTrue, OnOk};
 ghost use Rattle.gp_run.specs.Runs.{newest_first};
 ghost use Rattle.gp_driver.specs.Settling.{settle};
-ghost use Rattle.gp_driver.specs.Stages.{HasDriven, IsProposer, NodesGo, FailsByNode};
+ghost use Rattle.gp_driver.specs.Stages.{HasDriven, IsProposer, StageGoes, FailsByNode};
 ghost use Rattle.gp_driver.specs.Settled.{Settles};
 ghost use Rattle.gp_stage.specs.Held.{AreUp, stage_of, whole_list};
-ghost use Rattle.gp_stage.specs.Bounds.{CanSettle};
+ghost use Rattle.gp_stage.specs.Bounds.{CanSettle, IsWithin};
 
 use crate::cells::CellStage;
 use gp_driver::{StageFault, settle};
@@ -21,10 +21,28 @@ pub const MOST_ROUNDS: u64 = LAST_COUNT as u64 - 1;
 /// at most this.
 pub const MOST_ENTRIES: u64 = 2_147_483_648;
 
+// Whether the rounds of a run with this top count and so many messages are within the bound.
+fn is_low(top: u32, messages: u64) -> bool
+    ensures { IsTrue result ↔ (top + messages ≤ MOST_ROUNDS) }
+{
+    messages <= MOST_ROUNDS && top as u64 + messages <= MOST_ROUNDS
+}
+
+// Whether a run of so many entries and messages is short enough.
+fn is_short(entries: u64, messages: u64) -> bool
+    ensures { IsTrue result ↔ (entries + 71 * messages + 50 ≤ MOST_ENTRIES) }
+{
+    if messages > MOST_ENTRIES {
+        return false;
+    }
+    entries <= MOST_ENTRIES && entries + 71 * messages + 50 <= MOST_ENTRIES
+}
+
 impl<'a, D: Disk, G: Gate> CellStage<'a, D, G> {
-    // Whether the run is within the bounds of settling.
+    // Whether the run is within the bounds of settling. Then it can be settled.
     fn can_settle(&self) -> bool
-        ensures { IsTrue result → CanSettle self.now.config (newest_first (whole_list self.now)) }
+        ensures within { IsTrue result ↔ IsWithin self.now.config (newest_first (whole_list self.now)) }
+        ensures can { IsTrue result → CanSettle self.now.config (newest_first (whole_list self.now)) }
     {
         let _counts = (
             self.config.acceptors(),
@@ -33,10 +51,7 @@ impl<'a, D: Disk, G: Gate> CellStage<'a, D, G> {
         );
         let messages = self.kinds.len() as u64;
         let entries = self.cells[self.holder].seen();
-        messages <= MOST_ROUNDS
-            && entries <= MOST_ENTRIES
-            && self.top as u64 + messages <= MOST_ROUNDS
-            && entries + 71 * messages + 50 <= MOST_ENTRIES
+        is_low(self.top, messages) && is_short(entries, messages)
     }
 }
 
@@ -46,12 +61,14 @@ impl<'a, D: Disk, G: Gate> CellStage<'a, D, G> {
 /// `NoMemory` is returned if memory runs out. It is also returned if the run has too many rounds
 /// and messages for `MOST_ROUNDS`, or if the settled run might be longer than `MOST_ENTRIES`.
 ///
-/// `Disk` and `Full` are returned only if the stage's count of faults has risen or is 2^64 - 1.
-/// `Disk` is a fault of the disk of one of the cells. The numbers of `Full` are too great for an
-/// event, not a crash, that fits the run as it is then.
+/// `Disk` and `Full` are returned only if the stage's count of faults has risen or is 2^64 - 1: for
+/// `Full` it has risen by one. `Disk` is a fault of the disk of one of the cells. The numbers of
+/// `Full` are too great for an event, not a crash, that fits the run as it is then. After any other
+/// result the count is unchanged. After any result but `Disk` the counts of all disks are
+/// unchanged.
 ///
-/// Whatever the result is, the cells keep their order, the count of faults of each disk does not
-/// decrease, and no proposer makes an event.
+/// Whatever the result is, the run extends the run before, the cells keep their order, the count of
+/// faults of each disk does not decrease, and no proposer makes an event.
 pub fn settle_cells<D: Disk, G: Gate, W: Wait>(
     rt: &W,
     stage: &mut CellStage<'_, D, G>,
@@ -59,7 +76,7 @@ pub fn settle_cells<D: Disk, G: Gate, W: Wait>(
     requires { AreUp stage.old.cells }
     ensures driven { HasDriven (stage_of D.faults stage.old) (stage_of D.faults stage.new)
         (settle stage.old.config (newest_first (whole_list stage.old))) result }
-    ensures nodes { NodesGo IsProposer (stage_of D.faults stage.old).nodes (stage_of D.faults stage.new).nodes }
+    ensures goes { StageGoes IsProposer (stage_of D.faults stage.old) (stage_of D.faults stage.new) }
     ensures failed { FailsByNode (stage_of D.faults stage.old).nodes (stage_of D.faults stage.new).nodes result }
     ensures brings { OnOk result (Settles stage.old.config (newest_first (whole_list stage.old))) }
 {

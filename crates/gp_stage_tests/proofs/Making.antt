@@ -1,5 +1,5 @@
 -- The nodes of the configuration of a scene, and the cells of the passes of a new wire.
-use Rattle.std.proofs.Common.{◌≡◌, ℕ, zero, suc, ◌+◌, ◌<◌, true, List, [], ◌∷◌, ◌++◌, length, map, reverse, slice_get, refl, sym, ap, ◌∙◌, subst, append_assoc, inl, inr, ⊎_elim, arith, Some, None}
+use Rattle.std.proofs.Common.{◌≡◌, ℕ, zero, suc, ◌+◌, ◌<◌, true, List, [], ◌∷◌, ◌++◌, map, reverse, slice_get, refl, sym, ap, ◌∙◌, subst, append_assoc, inl, inr, ⊎_elim, arith, Some, None}
 use Rattle.std.proofs.lemmas.List.{reverse-append, reverse-reverse, map-append, append-nil}
 use Rattle.std.proofs.lemmas.Bool.{ltb-true}
 use Rattle.gp_round.specs.Counts.{Counts}
@@ -184,10 +184,6 @@ module _ (wire : WireState PaxosRules) (cells : List (CellState MemDiskState)) (
       ready_more [] h (suc i) x e = absurd cc
       ready_more (y ∷ cs) h zero x e = h 0 x e
       ready_more (y ∷ cs) h (suc i) x e = ready_more cs (λ j z a. h (suc j) z a) i x e
-
-pub no_items : {A : Type 0} (xs : List A) → length xs ≡ 0 → xs ≡ []
-no_items [] e = refl
-no_items (x ∷ xs) e = absurd (omega (arith, e))
 
 pub all_made : (wire : WireState PaxosRules) (cells : List (CellState MemDiskState)) (left : List PassState) → AreMade wire cells left → left ≡ [] → map node_of_cell cells ≡ wire.nodes
 all_made wire cells left m e = sym (append-nil (map node_of_cell cells)) ∙ ap (λ l. map node_of_cell cells ++ map node_of_pass (reverse l)) (sym e) ∙ m.nodes

@@ -5,7 +5,7 @@ use gp_edge::{Idle, MemDisk};
 use gp_history::Hist;
 use gp_msg::Node;
 use gp_node::{Cell, finish};
-use gp_stage::{CellStage, settle_cells};
+use gp_stage::{CellStage, MOST_ENTRIES, MOST_ROUNDS, settle_cells};
 use std::alloc::Global;
 use std::process::Abort;
 use std::sync::Wait;
@@ -32,18 +32,18 @@ fn check_settled<R: Wait + Abort>(rt: &R, alloc: Global) -> Result<(), Fail> {
     let Ok(mut stage) = CellStage::new(alloc, rt, config, wire, &Idle, cells) else {
         return Err(Fail::from("no stage"));
     };
-    assert_eq!(rt; stage.messages(), 2);
-    assert_eq!(rt; stage.top_count(), 0);
+    assert!(rt; stage.messages() == 2);
+    assert!(rt; stage.top_count() == 0);
     let settled = settle_cells(rt, &mut stage);
     assert!(rt; matches!(settled, Ok(EVENTS)));
-    assert_eq!(rt; stage.top_count(), 1);
+    assert!(rt; stage.top_count() == 1);
     let (wire, cells) = stage.into_parts();
-    assert_eq!(rt; learned_by(&cells), 2);
+    assert!(rt; learned_by(&cells) == 2);
     let Ok(finished) = finish(alloc, wire, cells) else {
         return Err(Fail::from("no end"));
     };
-    assert_eq!(rt; finished.posted.records().len() as u64, EVENTS + 2);
-    assert_eq!(rt; finished.logs.len(), NODES.len());
+    assert!(rt; finished.posted.records().len() as u64 == EVENTS + 2);
+    assert!(rt; finished.logs.len() == NODES.len());
     Ok(())
 }
 
@@ -66,6 +66,14 @@ fn faults_end_settling(rt: HostRuntime) -> Result<(), Fail> {
             Some(StageFault::Full { .. })
         )
     );
+    Ok(())
+}
+
+// The contract of settling cites both constants, so it does not fix them.
+#[test]
+fn the_bounds_of_settling_are_these(rt: HostRuntime) -> Result<(), Fail> {
+    assert_eq!(rt; MOST_ROUNDS, 999_999);
+    assert_eq!(rt; MOST_ENTRIES, 2_147_483_648);
     Ok(())
 }
 

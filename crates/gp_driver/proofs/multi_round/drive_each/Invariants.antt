@@ -10,4 +10,4 @@ abbrev pub invariant-loop-draft : goal.invariant-loop-draft
 invariant-loop-draft g l =
     WithNodes
     (DrivingEach (g.S.Stage.state l.fn.stage).config (g.S.Stage.state l.stage).config (g.S.Stage.state l.fn.stage).run (g.S.Stage.state l.stage).run (all_driven (g.S.Stage.state l.fn.stage).config l.fn.drafts.items (g.S.Stage.state l.fn.stage).run) (g.S.Stage.state l.fn.stage).faults (g.S.Stage.state l.stage).faults (g.S.Stage.state l.stage).is_ready (into_iter_items l.draft-iterator) l.events)
-    Nobody (g.S.Stage.state l.fn.stage).nodes (g.S.Stage.state l.stage).nodes
+    Nobody (g.S.Stage.state l.fn.stage) (g.S.Stage.state l.stage)

@@ -6,7 +6,7 @@ use Rattle.gp_run.specs.Messages.{messages}
 use Rattle.std.proofs.lemmas.Result.{err_from_is_err_and}
 use Rattle.gp_driver.proofs.PassingCode.{same_sweep}
 use Rattle.gp_driver.proofs.DrivingCode.{offered_room, pushed_room, voted_room, voted_order}
-use Rattle.gp_driver.proofs.Going.{failed_on, nodes_on, none_idle}
+use Rattle.gp_driver.proofs.Going.{failed_on, goes_on, none_idle}
 use Rattle.gp_driver.proofs.multi_round.drive_one.Goals as goal
 
 pub make-requires-clause-room : goal.make-requires-clause-room
@@ -48,32 +48,32 @@ sweep-requires-3-clause-order g c =
     let b = c.messages-start.ensures in
     omega (arith, t, a, b)
 
-pub returns-in_err-offered-clause-nodes : goal.returns-in_err-offered-clause-nodes
-returns-in_err-offered-clause-nodes g c = none_idle _ _ _ c.in_err-offered.ensures.nodes
+pub returns-in_err-offered-clause-goes : goal.returns-in_err-offered-clause-goes
+returns-in_err-offered-clause-goes g c = none_idle _ _ _ c.in_err-offered.ensures.goes
 
-pub returns-in_err-pushed-clause-nodes : goal.returns-in_err-pushed-clause-nodes
-returns-in_err-pushed-clause-nodes g c = nodes_on _ _ _ _ (none_idle _ _ _ c.in_ok-offered.ensures.nodes) (none_idle _ _ _ c.in_err-pushed.ensures.nodes)
+pub returns-in_err-pushed-clause-goes : goal.returns-in_err-pushed-clause-goes
+returns-in_err-pushed-clause-goes g c = goes_on _ _ _ _ (none_idle _ _ _ c.in_ok-offered.ensures.goes) (none_idle _ _ _ c.in_err-pushed.ensures.goes)
 
-pub returns-in_err-voted-clause-nodes : goal.returns-in_err-voted-clause-nodes
-returns-in_err-voted-clause-nodes g c = nodes_on _ _ _ _ (nodes_on _ _ _ _ (none_idle _ _ _ c.in_ok-offered.ensures.nodes) (none_idle _ _ _ c.in_ok-pushed.ensures.nodes)) (none_idle _ _ _ c.in_err-voted.ensures.nodes)
+pub returns-in_err-voted-clause-goes : goal.returns-in_err-voted-clause-goes
+returns-in_err-voted-clause-goes g c = goes_on _ _ _ _ (goes_on _ _ _ _ (none_idle _ _ _ c.in_ok-offered.ensures.goes) (none_idle _ _ _ c.in_ok-pushed.ensures.goes)) (none_idle _ _ _ c.in_err-voted.ensures.goes)
 
-pub returns-in_err-heard-clause-nodes : goal.returns-in_err-heard-clause-nodes
-returns-in_err-heard-clause-nodes g c = nodes_on _ _ _ _ (nodes_on _ _ _ _ (nodes_on _ _ _ _ (none_idle _ _ _ c.in_ok-offered.ensures.nodes) (none_idle _ _ _ c.in_ok-pushed.ensures.nodes)) (none_idle _ _ _ c.in_ok-voted.ensures.nodes)) (none_idle _ _ _ c.in_err-heard.ensures.nodes)
+pub returns-in_err-heard-clause-goes : goal.returns-in_err-heard-clause-goes
+returns-in_err-heard-clause-goes g c = goes_on _ _ _ _ (goes_on _ _ _ _ (goes_on _ _ _ _ (none_idle _ _ _ c.in_ok-offered.ensures.goes) (none_idle _ _ _ c.in_ok-pushed.ensures.goes)) (none_idle _ _ _ c.in_ok-voted.ensures.goes)) (none_idle _ _ _ c.in_err-heard.ensures.goes)
 
-pub returns-clause-nodes : goal.returns-clause-nodes
-returns-clause-nodes g c = nodes_on _ _ _ _ (nodes_on _ _ _ _ (nodes_on _ _ _ _ (none_idle _ _ _ c.in_ok-offered.ensures.nodes) (none_idle _ _ _ c.in_ok-pushed.ensures.nodes)) (none_idle _ _ _ c.in_ok-voted.ensures.nodes)) (none_idle _ _ _ c.in_ok-heard.ensures.nodes)
+pub returns-clause-goes : goal.returns-clause-goes
+returns-clause-goes g c = goes_on _ _ _ _ (goes_on _ _ _ _ (goes_on _ _ _ _ (none_idle _ _ _ c.in_ok-offered.ensures.goes) (none_idle _ _ _ c.in_ok-pushed.ensures.goes)) (none_idle _ _ _ c.in_ok-voted.ensures.goes)) (none_idle _ _ _ c.in_ok-heard.ensures.goes)
 
 pub returns-in_err-pushed-clause-failed : goal.returns-in_err-pushed-clause-failed
 returns-in_err-pushed-clause-failed g c =
     let p = err_from_is_err_and c.from_residual-in_err-pushed.result c.from_residual-in_err-pushed.ensures.1 in
-    rw (p.1, p.2) (failed_on _ _ _ _ _ (none_idle _ _ _ c.in_ok-offered.ensures.nodes) c.in_err-pushed.ensures.failed)
+    rw (p.1, p.2) (failed_on _ _ _ _ _ (none_idle _ _ _ c.in_ok-offered.ensures.goes).nodes c.in_ok-offered.ensures.failed.steady c.in_err-pushed.ensures.failed)
 
 pub returns-in_err-voted-clause-failed : goal.returns-in_err-voted-clause-failed
 returns-in_err-voted-clause-failed g c =
     let p = err_from_is_err_and c.from_residual-in_err-voted.result c.from_residual-in_err-voted.ensures.1 in
-    rw (p.1, p.2) (failed_on _ _ _ _ _ (nodes_on _ _ _ _ (none_idle _ _ _ c.in_ok-offered.ensures.nodes) (none_idle _ _ _ c.in_ok-pushed.ensures.nodes)) c.in_err-voted.ensures.failed)
+    rw (p.1, p.2) (failed_on _ _ _ _ _ (goes_on _ _ _ _ (none_idle _ _ _ c.in_ok-offered.ensures.goes) (none_idle _ _ _ c.in_ok-pushed.ensures.goes)).nodes (c.in_ok-pushed.ensures.failed.steady ∙ c.in_ok-offered.ensures.failed.steady) c.in_err-voted.ensures.failed)
 
 pub returns-in_err-heard-clause-failed : goal.returns-in_err-heard-clause-failed
 returns-in_err-heard-clause-failed g c =
     let p = err_from_is_err_and c.from_residual-in_err-heard.result c.from_residual-in_err-heard.ensures.1 in
-    rw (p.1, p.2) (failed_on _ _ _ _ _ (nodes_on _ _ _ _ (nodes_on _ _ _ _ (none_idle _ _ _ c.in_ok-offered.ensures.nodes) (none_idle _ _ _ c.in_ok-pushed.ensures.nodes)) (none_idle _ _ _ c.in_ok-voted.ensures.nodes)) c.in_err-heard.ensures.failed)
+    rw (p.1, p.2) (failed_on _ _ _ _ _ (goes_on _ _ _ _ (goes_on _ _ _ _ (none_idle _ _ _ c.in_ok-offered.ensures.goes) (none_idle _ _ _ c.in_ok-pushed.ensures.goes)) (none_idle _ _ _ c.in_ok-voted.ensures.goes)).nodes (c.in_ok-voted.ensures.failed.steady ∙ c.in_ok-pushed.ensures.failed.steady ∙ c.in_ok-offered.ensures.failed.steady) c.in_err-heard.ensures.failed)

@@ -5,7 +5,7 @@ use Rattle.gp_msg.specs.declared.message.MsgKind.TheVariants as Kind
 use Rattle.std.proofs.lemmas.Result.{err_from_is_err_and}
 use Rattle.gp_driver.proofs.PassingCode.{same_sweep}
 use Rattle.gp_driver.proofs.DrivingCode.{opened_room3, opened_room4, opened_room5, first_begun}
-use Rattle.gp_driver.proofs.Going.{failed_on, nodes_on}
+use Rattle.gp_driver.proofs.Going.{failed_on, goes_on}
 use Rattle.gp_driver.proofs.multi_round.lead_first.Goals as goal
 
 pub sweep-requires-2-clause-room : goal.sweep-requires-2-clause-room
@@ -53,45 +53,45 @@ sweep-requires-4-clause-room g c =
     let r = c.requires.room in
     omega (arith, t, a, r)
 
-pub returns-in_err-led-clause-nodes : goal.returns-in_err-led-clause-nodes
-returns-in_err-led-clause-nodes g c = nodes_on _ _ _ _ c.in_ok-begun.ensures.nodes c.in_err-led.ensures.nodes
+pub returns-in_err-led-clause-goes : goal.returns-in_err-led-clause-goes
+returns-in_err-led-clause-goes g c = goes_on _ _ _ _ c.in_ok-begun.ensures.goes c.in_err-led.ensures.goes
 
-pub returns-in_err-asked-clause-nodes : goal.returns-in_err-asked-clause-nodes
-returns-in_err-asked-clause-nodes g c = nodes_on _ _ _ _ (nodes_on _ _ _ _ c.in_ok-begun.ensures.nodes c.in_ok-led.ensures.nodes) c.in_err-asked.ensures.nodes
+pub returns-in_err-asked-clause-goes : goal.returns-in_err-asked-clause-goes
+returns-in_err-asked-clause-goes g c = goes_on _ _ _ _ (goes_on _ _ _ _ c.in_ok-begun.ensures.goes c.in_ok-led.ensures.goes) c.in_err-asked.ensures.goes
 
-pub returns-in_err-answered-clause-nodes : goal.returns-in_err-answered-clause-nodes
-returns-in_err-answered-clause-nodes g c = nodes_on _ _ _ _ (nodes_on _ _ _ _ (nodes_on _ _ _ _ c.in_ok-begun.ensures.nodes c.in_ok-led.ensures.nodes) c.in_ok-asked.ensures.nodes) c.in_err-answered.ensures.nodes
+pub returns-in_err-answered-clause-goes : goal.returns-in_err-answered-clause-goes
+returns-in_err-answered-clause-goes g c = goes_on _ _ _ _ (goes_on _ _ _ _ (goes_on _ _ _ _ c.in_ok-begun.ensures.goes c.in_ok-led.ensures.goes) c.in_ok-asked.ensures.goes) c.in_err-answered.ensures.goes
 
-pub returns-in_err-voted-clause-nodes : goal.returns-in_err-voted-clause-nodes
-returns-in_err-voted-clause-nodes g c = nodes_on _ _ _ _ (nodes_on _ _ _ _ (nodes_on _ _ _ _ (nodes_on _ _ _ _ c.in_ok-begun.ensures.nodes c.in_ok-led.ensures.nodes) c.in_ok-asked.ensures.nodes) c.in_ok-answered.ensures.nodes) c.in_err-voted.ensures.nodes
+pub returns-in_err-voted-clause-goes : goal.returns-in_err-voted-clause-goes
+returns-in_err-voted-clause-goes g c = goes_on _ _ _ _ (goes_on _ _ _ _ (goes_on _ _ _ _ (goes_on _ _ _ _ c.in_ok-begun.ensures.goes c.in_ok-led.ensures.goes) c.in_ok-asked.ensures.goes) c.in_ok-answered.ensures.goes) c.in_err-voted.ensures.goes
 
-pub returns-in_err-heard-clause-nodes : goal.returns-in_err-heard-clause-nodes
-returns-in_err-heard-clause-nodes g c = nodes_on _ _ _ _ (nodes_on _ _ _ _ (nodes_on _ _ _ _ (nodes_on _ _ _ _ (nodes_on _ _ _ _ c.in_ok-begun.ensures.nodes c.in_ok-led.ensures.nodes) c.in_ok-asked.ensures.nodes) c.in_ok-answered.ensures.nodes) c.in_ok-voted.ensures.nodes) c.in_err-heard.ensures.nodes
+pub returns-in_err-heard-clause-goes : goal.returns-in_err-heard-clause-goes
+returns-in_err-heard-clause-goes g c = goes_on _ _ _ _ (goes_on _ _ _ _ (goes_on _ _ _ _ (goes_on _ _ _ _ (goes_on _ _ _ _ c.in_ok-begun.ensures.goes c.in_ok-led.ensures.goes) c.in_ok-asked.ensures.goes) c.in_ok-answered.ensures.goes) c.in_ok-voted.ensures.goes) c.in_err-heard.ensures.goes
 
-pub returns-clause-nodes : goal.returns-clause-nodes
-returns-clause-nodes g c = nodes_on _ _ _ _ (nodes_on _ _ _ _ (nodes_on _ _ _ _ (nodes_on _ _ _ _ (nodes_on _ _ _ _ c.in_ok-begun.ensures.nodes c.in_ok-led.ensures.nodes) c.in_ok-asked.ensures.nodes) c.in_ok-answered.ensures.nodes) c.in_ok-voted.ensures.nodes) c.in_ok-heard.ensures.nodes
+pub returns-clause-goes : goal.returns-clause-goes
+returns-clause-goes g c = goes_on _ _ _ _ (goes_on _ _ _ _ (goes_on _ _ _ _ (goes_on _ _ _ _ (goes_on _ _ _ _ c.in_ok-begun.ensures.goes c.in_ok-led.ensures.goes) c.in_ok-asked.ensures.goes) c.in_ok-answered.ensures.goes) c.in_ok-voted.ensures.goes) c.in_ok-heard.ensures.goes
 
 pub returns-in_err-led-clause-failed : goal.returns-in_err-led-clause-failed
 returns-in_err-led-clause-failed g c =
     let p = err_from_is_err_and c.from_residual-in_err-led.result c.from_residual-in_err-led.ensures.1 in
-    rw (p.1, p.2) (failed_on _ _ _ _ _ c.in_ok-begun.ensures.nodes c.in_err-led.ensures.failed)
+    rw (p.1, p.2) (failed_on _ _ _ _ _ c.in_ok-begun.ensures.goes.nodes c.in_ok-begun.ensures.failed.steady c.in_err-led.ensures.failed)
 
 pub returns-in_err-asked-clause-failed : goal.returns-in_err-asked-clause-failed
 returns-in_err-asked-clause-failed g c =
     let p = err_from_is_err_and c.from_residual-in_err-asked.result c.from_residual-in_err-asked.ensures.1 in
-    rw (p.1, p.2) (failed_on _ _ _ _ _ (nodes_on _ _ _ _ c.in_ok-begun.ensures.nodes c.in_ok-led.ensures.nodes) c.in_err-asked.ensures.failed)
+    rw (p.1, p.2) (failed_on _ _ _ _ _ (goes_on _ _ _ _ c.in_ok-begun.ensures.goes c.in_ok-led.ensures.goes).nodes (c.in_ok-led.ensures.failed.steady ∙ c.in_ok-begun.ensures.failed.steady) c.in_err-asked.ensures.failed)
 
 pub returns-in_err-answered-clause-failed : goal.returns-in_err-answered-clause-failed
 returns-in_err-answered-clause-failed g c =
     let p = err_from_is_err_and c.from_residual-in_err-answered.result c.from_residual-in_err-answered.ensures.1 in
-    rw (p.1, p.2) (failed_on _ _ _ _ _ (nodes_on _ _ _ _ (nodes_on _ _ _ _ c.in_ok-begun.ensures.nodes c.in_ok-led.ensures.nodes) c.in_ok-asked.ensures.nodes) c.in_err-answered.ensures.failed)
+    rw (p.1, p.2) (failed_on _ _ _ _ _ (goes_on _ _ _ _ (goes_on _ _ _ _ c.in_ok-begun.ensures.goes c.in_ok-led.ensures.goes) c.in_ok-asked.ensures.goes).nodes (c.in_ok-asked.ensures.failed.steady ∙ c.in_ok-led.ensures.failed.steady ∙ c.in_ok-begun.ensures.failed.steady) c.in_err-answered.ensures.failed)
 
 pub returns-in_err-voted-clause-failed : goal.returns-in_err-voted-clause-failed
 returns-in_err-voted-clause-failed g c =
     let p = err_from_is_err_and c.from_residual-in_err-voted.result c.from_residual-in_err-voted.ensures.1 in
-    rw (p.1, p.2) (failed_on _ _ _ _ _ (nodes_on _ _ _ _ (nodes_on _ _ _ _ (nodes_on _ _ _ _ c.in_ok-begun.ensures.nodes c.in_ok-led.ensures.nodes) c.in_ok-asked.ensures.nodes) c.in_ok-answered.ensures.nodes) c.in_err-voted.ensures.failed)
+    rw (p.1, p.2) (failed_on _ _ _ _ _ (goes_on _ _ _ _ (goes_on _ _ _ _ (goes_on _ _ _ _ c.in_ok-begun.ensures.goes c.in_ok-led.ensures.goes) c.in_ok-asked.ensures.goes) c.in_ok-answered.ensures.goes).nodes (c.in_ok-answered.ensures.failed.steady ∙ c.in_ok-asked.ensures.failed.steady ∙ c.in_ok-led.ensures.failed.steady ∙ c.in_ok-begun.ensures.failed.steady) c.in_err-voted.ensures.failed)
 
 pub returns-in_err-heard-clause-failed : goal.returns-in_err-heard-clause-failed
 returns-in_err-heard-clause-failed g c =
     let p = err_from_is_err_and c.from_residual-in_err-heard.result c.from_residual-in_err-heard.ensures.1 in
-    rw (p.1, p.2) (failed_on _ _ _ _ _ (nodes_on _ _ _ _ (nodes_on _ _ _ _ (nodes_on _ _ _ _ (nodes_on _ _ _ _ c.in_ok-begun.ensures.nodes c.in_ok-led.ensures.nodes) c.in_ok-asked.ensures.nodes) c.in_ok-answered.ensures.nodes) c.in_ok-voted.ensures.nodes) c.in_err-heard.ensures.failed)
+    rw (p.1, p.2) (failed_on _ _ _ _ _ (goes_on _ _ _ _ (goes_on _ _ _ _ (goes_on _ _ _ _ (goes_on _ _ _ _ c.in_ok-begun.ensures.goes c.in_ok-led.ensures.goes) c.in_ok-asked.ensures.goes) c.in_ok-answered.ensures.goes) c.in_ok-voted.ensures.goes).nodes (c.in_ok-voted.ensures.failed.steady ∙ c.in_ok-answered.ensures.failed.steady ∙ c.in_ok-asked.ensures.failed.steady ∙ c.in_ok-led.ensures.failed.steady ∙ c.in_ok-begun.ensures.failed.steady) c.in_err-heard.ensures.failed)

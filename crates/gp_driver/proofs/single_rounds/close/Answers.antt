@@ -5,7 +5,7 @@ use Rattle.std.proofs.lemmas.Result.{err_from_is_err_and}
 use Rattle.gp_driver.specs.Sweeps.{swept}
 use Rattle.gp_driver.proofs.Driving.{swept_grows}
 use Rattle.gp_driver.proofs.PassingCode.{one_coordinator}
-use Rattle.gp_driver.proofs.Going.{failed_on, nodes_on}
+use Rattle.gp_driver.proofs.Going.{failed_on, goes_on}
 use Rattle.gp_driver.proofs.single_rounds.close.Goals as goal
 
 pub show-requires-clause-present : goal.show-requires-clause-present
@@ -17,13 +17,13 @@ show-requires-clause-room g c =
     let r = c.requires.room in
     omega (arith, a, r)
 
-pub returns-in_err-voters-clause-nodes : goal.returns-in_err-voters-clause-nodes
-returns-in_err-voters-clause-nodes g c = nodes_on _ _ _ _ c.in_ok-leader.ensures.nodes c.in_err-voters.ensures.nodes
+pub returns-in_err-voters-clause-goes : goal.returns-in_err-voters-clause-goes
+returns-in_err-voters-clause-goes g c = goes_on _ _ _ _ c.in_ok-leader.ensures.goes c.in_err-voters.ensures.goes
 
-pub returns-clause-nodes : goal.returns-clause-nodes
-returns-clause-nodes g c = nodes_on _ _ _ _ c.in_ok-leader.ensures.nodes c.in_ok-voters.ensures.nodes
+pub returns-clause-goes : goal.returns-clause-goes
+returns-clause-goes g c = goes_on _ _ _ _ c.in_ok-leader.ensures.goes c.in_ok-voters.ensures.goes
 
 pub returns-in_err-voters-clause-failed : goal.returns-in_err-voters-clause-failed
 returns-in_err-voters-clause-failed g c =
     let p = err_from_is_err_and c.from_residual-in_err-voters.result c.from_residual-in_err-voters.ensures.1 in
-    rw (p.1, p.2) (failed_on _ _ _ _ _ c.in_ok-leader.ensures.nodes c.in_err-voters.ensures.failed)
+    rw (p.1, p.2) (failed_on _ _ _ _ _ c.in_ok-leader.ensures.goes.nodes c.in_ok-leader.ensures.failed.steady c.in_err-voters.ensures.failed)

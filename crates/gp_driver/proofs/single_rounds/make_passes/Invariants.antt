@@ -10,4 +10,4 @@ abbrev pub invariant-loop-pass : goal.invariant-loop-pass
 invariant-loop-pass g l =
     WithNodes
     (Settling (g.S.Stage.state l.fn.stage).config (g.S.Stage.state l.stage).config (g.S.Stage.state l.fn.stage).run (g.S.Stage.state l.stage).run (passes (g.S.Stage.state l.fn.stage).config l.fn.limit (g.S.Stage.state l.fn.stage).run) (g.S.Stage.state l.fn.stage).faults (g.S.Stage.state l.stage).faults (g.S.Stage.state l.stage).is_ready (l.fn.limit - l._pass) l.events)
-    IsProposer (g.S.Stage.state l.fn.stage).nodes (g.S.Stage.state l.stage).nodes
+    IsProposer (g.S.Stage.state l.fn.stage) (g.S.Stage.state l.stage)

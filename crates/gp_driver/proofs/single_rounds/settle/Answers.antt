@@ -2,7 +2,7 @@
 use Rattle.std.proofs.Common.{length, ap, ◌∙◌, arith}
 use Rattle.std.proofs.lemmas.Result.{err_from_is_err_and}
 use Rattle.gp_driver.proofs.SettleCode.{brings, finals_fit, prepared_fits, sweep_fits, proposals_fit, can_begin, passes_settle, steps_fit, range_of}
-use Rattle.gp_driver.proofs.Going.{failed_on, nodes_on}
+use Rattle.gp_driver.proofs.Going.{failed_on, goes_on}
 use Rattle.gp_driver.proofs.single_rounds.settle.Goals as goal
 
 pub take_finals-requires-clause-room : goal.take_finals-requires-clause-room
@@ -71,15 +71,16 @@ returns-clause-driven g c =
     let x = c.in_ok-finals.ensures.driven in
     let y = c.in_ok-proposals.ensures.driven in
     let z = c.in_ok-passes.ensures.driven in
-    let l1 = x.later in
-    let l2 = y.later in
-    let l3 = z.later in
+    let l1 = x.steady in
+    let l2 = y.steady in
+    let l3 = z.steady in
     let m1 = x.outcome.1 in
     let m2 = y.outcome.1 in
     let m3 = z.outcome.1 in
     record {
       same_config = z.same_config ∙ y.same_config ∙ x.same_config;
       later = omega (arith, l1, l2, l3);
+      steady = l3 ∙ l2 ∙ l1;
       outcome = (
         z.outcome.0 ∙ passes_settle _ range (g.S.Stage.state c.args.stage.now).run c.requires.legal b _ _ _ _ _ _ x.same_config x.outcome.0 x.outcome.1 y.same_config y.outcome.0 y.outcome.1,
         omega (arith, m1, m2, m3),
@@ -99,21 +100,21 @@ returns-in_err-passes-clause-brings g c = brings (g.S.Stage.state c.args.stage.n
 pub returns-clause-brings : goal.returns-clause-brings
 returns-clause-brings g c = brings (g.S.Stage.state c.args.stage.now).config (range_of _ _ c.config_of-config.ensures.same c.config_of-config.ensures.range) (g.S.Stage.state c.args.stage.now).run c.requires.legal c.requires.rounds
 
-pub returns-in_err-proposals-clause-nodes : goal.returns-in_err-proposals-clause-nodes
-returns-in_err-proposals-clause-nodes g c = nodes_on _ _ _ _ c.in_ok-finals.ensures.nodes c.in_err-proposals.ensures.nodes
+pub returns-in_err-proposals-clause-goes : goal.returns-in_err-proposals-clause-goes
+returns-in_err-proposals-clause-goes g c = goes_on _ _ _ _ c.in_ok-finals.ensures.goes c.in_err-proposals.ensures.goes
 
-pub returns-in_err-passes-clause-nodes : goal.returns-in_err-passes-clause-nodes
-returns-in_err-passes-clause-nodes g c = nodes_on _ _ _ _ (nodes_on _ _ _ _ c.in_ok-finals.ensures.nodes c.in_ok-proposals.ensures.nodes) c.in_err-passes.ensures.nodes
+pub returns-in_err-passes-clause-goes : goal.returns-in_err-passes-clause-goes
+returns-in_err-passes-clause-goes g c = goes_on _ _ _ _ (goes_on _ _ _ _ c.in_ok-finals.ensures.goes c.in_ok-proposals.ensures.goes) c.in_err-passes.ensures.goes
 
-pub returns-clause-nodes : goal.returns-clause-nodes
-returns-clause-nodes g c = nodes_on _ _ _ _ (nodes_on _ _ _ _ c.in_ok-finals.ensures.nodes c.in_ok-proposals.ensures.nodes) c.in_ok-passes.ensures.nodes
+pub returns-clause-goes : goal.returns-clause-goes
+returns-clause-goes g c = goes_on _ _ _ _ (goes_on _ _ _ _ c.in_ok-finals.ensures.goes c.in_ok-proposals.ensures.goes) c.in_ok-passes.ensures.goes
 
 pub returns-in_err-proposals-clause-failed : goal.returns-in_err-proposals-clause-failed
 returns-in_err-proposals-clause-failed g c =
     let p = err_from_is_err_and c.from_residual-in_err-proposals.result c.from_residual-in_err-proposals.ensures.1 in
-    rw (p.1, p.2) (failed_on _ _ _ _ _ c.in_ok-finals.ensures.nodes c.in_err-proposals.ensures.failed)
+    rw (p.1, p.2) (failed_on _ _ _ _ _ c.in_ok-finals.ensures.goes.nodes c.in_ok-finals.ensures.failed.steady c.in_err-proposals.ensures.failed)
 
 pub returns-in_err-passes-clause-failed : goal.returns-in_err-passes-clause-failed
 returns-in_err-passes-clause-failed g c =
     let p = err_from_is_err_and c.from_residual-in_err-passes.result c.from_residual-in_err-passes.ensures.1 in
-    rw (p.1, p.2) (failed_on _ _ _ _ _ (nodes_on _ _ _ _ c.in_ok-finals.ensures.nodes c.in_ok-proposals.ensures.nodes) c.in_err-passes.ensures.failed)
+    rw (p.1, p.2) (failed_on _ _ _ _ _ (goes_on _ _ _ _ c.in_ok-finals.ensures.goes c.in_ok-proposals.ensures.goes).nodes (c.in_ok-proposals.ensures.failed.steady ∙ c.in_ok-finals.ensures.failed.steady) c.in_err-passes.ensures.failed)

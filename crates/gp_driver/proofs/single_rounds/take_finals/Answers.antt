@@ -8,7 +8,7 @@ use Rattle.gp_driver.specs.Sweeps.{places}
 use Rattle.gp_driver.specs.Settling.{closings}
 use Rattle.gp_driver.specs.Stages.{IsProposer}
 use Rattle.gp_driver.proofs.SettlingCode.{TakingFinals, same_closings, finals_room, finals_taken, finals_passed}
-use Rattle.gp_driver.proofs.Going.{failed_on, WithNodes, nodes_on, all_idle, nodes_still}
+use Rattle.gp_driver.proofs.Going.{failed_on, WithNodes, goes_on, all_idle, goes_still}
 use Rattle.gp_driver.proofs.single_rounds.take_finals.Goals as goal
 use Rattle.gp_driver.proofs.single_rounds.take_finals.Goals.{then-is_kind+in_ok-taken, else-is_kind}
 
@@ -40,32 +40,35 @@ loop-k-preserved g c =
     let target = closings (g.S.Stage.state c.args.stage.now).config (places Kind.Final 0 (messages (g.S.Stage.state c.args.stage.now).run)) (g.S.Stage.state c.args.stage.now).run in
     elim c.if-is_kind.branch [
       | then-is_kind+in_ok-taken w ↦
-          subst (λ (n : ℕ). WithNodes (TakingFinals (g.S.Stage.state c.args.stage.now).config (g.S.Stage.state c.if-is_kind.stage).config (g.S.Stage.state c.args.stage.now).run (g.S.Stage.state c.if-is_kind.stage).run target (g.S.Stage.state c.args.stage.now).faults (g.S.Stage.state c.if-is_kind.stage).faults (g.S.Stage.state c.if-is_kind.stage).is_ready (c.loop-k.k + 1) n) IsProposer (g.S.Stage.state c.args.stage.now).nodes (g.S.Stage.state c.if-is_kind.stage).nodes) (sym w.taken-is)
-          (subst (λ (s : g.row.S.Denot). WithNodes (TakingFinals (g.S.Stage.state c.args.stage.now).config (g.S.Stage.state s).config (g.S.Stage.state c.args.stage.now).run (g.S.Stage.state s).run target (g.S.Stage.state c.args.stage.now).faults (g.S.Stage.state s).faults (g.S.Stage.state s).is_ready (c.loop-k.k + 1) (c.loop-k.taken + w.in_ok-taken.field-0)) IsProposer (g.S.Stage.state c.args.stage.now).nodes (g.S.Stage.state s).nodes) (sym w.stage-is)
+          subst (λ (n : ℕ). WithNodes (TakingFinals (g.S.Stage.state c.args.stage.now).config (g.S.Stage.state c.if-is_kind.stage).config (g.S.Stage.state c.args.stage.now).run (g.S.Stage.state c.if-is_kind.stage).run target (g.S.Stage.state c.args.stage.now).faults (g.S.Stage.state c.if-is_kind.stage).faults (g.S.Stage.state c.if-is_kind.stage).is_ready (c.loop-k.k + 1) n) IsProposer (g.S.Stage.state c.args.stage.now) (g.S.Stage.state c.if-is_kind.stage)) (sym w.taken-is)
+          (subst (λ (s : g.row.S.Denot). WithNodes (TakingFinals (g.S.Stage.state c.args.stage.now).config (g.S.Stage.state s).config (g.S.Stage.state c.args.stage.now).run (g.S.Stage.state s).run target (g.S.Stage.state c.args.stage.now).faults (g.S.Stage.state s).faults (g.S.Stage.state s).is_ready (c.loop-k.k + 1) (c.loop-k.taken + w.in_ok-taken.field-0)) IsProposer (g.S.Stage.state c.args.stage.now) (g.S.Stage.state s)) (sym w.stage-is)
           (record {
             known = let o = w.in_ok-taken.ensures.driven.outcome in
-                finals_taken _ _ _ _ _ _ _ _ _ _ t here _ _ _ _ _ _ _ _ (sym c.is_kind.ensures.there ∙ w.if-is_kind.true) c.is_kind.ensures.config c.is_kind.ensures.run c.is_kind.ensures.later o.0 w.in_ok-taken.ensures.driven.same_config w.in_ok-taken.ensures.driven.later o.1 o.2;
-            nodes = nodes_on _ _ _ _ (nodes_on _ _ _ _ c.loop-k.invariant.nodes (all_idle _ _ _ c.is_kind.ensures.nodes)) w.in_ok-taken.ensures.nodes;
+                finals_taken _ _ _ _ _ _ _ _ _ _ t here _ _ _ _ _ _ _ _ (sym c.is_kind.ensures.there ∙ w.if-is_kind.true) c.is_kind.ensures.config c.is_kind.ensures.run c.is_kind.ensures.steady o.0 w.in_ok-taken.ensures.driven.same_config w.in_ok-taken.ensures.driven.steady o.1 o.2;
+            goes = goes_on _ _ _ _ (goes_on _ _ _ _ c.loop-k.invariant.goes (all_idle _ _ _ c.is_kind.ensures.goes)) w.in_ok-taken.ensures.goes;
+            counts = w.in_ok-taken.ensures.failed.steady ∙ c.is_kind.ensures.counts ∙ c.loop-k.invariant.counts;
           }))
       | else-is_kind w ↦
-          subst (λ (n : ℕ). WithNodes (TakingFinals (g.S.Stage.state c.args.stage.now).config (g.S.Stage.state c.if-is_kind.stage).config (g.S.Stage.state c.args.stage.now).run (g.S.Stage.state c.if-is_kind.stage).run target (g.S.Stage.state c.args.stage.now).faults (g.S.Stage.state c.if-is_kind.stage).faults (g.S.Stage.state c.if-is_kind.stage).is_ready (c.loop-k.k + 1) n) IsProposer (g.S.Stage.state c.args.stage.now).nodes (g.S.Stage.state c.if-is_kind.stage).nodes) (sym w.taken-is)
-          (subst (λ (s : g.row.S.Denot). WithNodes (TakingFinals (g.S.Stage.state c.args.stage.now).config (g.S.Stage.state s).config (g.S.Stage.state c.args.stage.now).run (g.S.Stage.state s).run target (g.S.Stage.state c.args.stage.now).faults (g.S.Stage.state s).faults (g.S.Stage.state s).is_ready (c.loop-k.k + 1) c.loop-k.taken) IsProposer (g.S.Stage.state c.args.stage.now).nodes (g.S.Stage.state s).nodes) (sym w.stage-is)
+          subst (λ (n : ℕ). WithNodes (TakingFinals (g.S.Stage.state c.args.stage.now).config (g.S.Stage.state c.if-is_kind.stage).config (g.S.Stage.state c.args.stage.now).run (g.S.Stage.state c.if-is_kind.stage).run target (g.S.Stage.state c.args.stage.now).faults (g.S.Stage.state c.if-is_kind.stage).faults (g.S.Stage.state c.if-is_kind.stage).is_ready (c.loop-k.k + 1) n) IsProposer (g.S.Stage.state c.args.stage.now) (g.S.Stage.state c.if-is_kind.stage)) (sym w.taken-is)
+          (subst (λ (s : g.row.S.Denot). WithNodes (TakingFinals (g.S.Stage.state c.args.stage.now).config (g.S.Stage.state s).config (g.S.Stage.state c.args.stage.now).run (g.S.Stage.state s).run target (g.S.Stage.state c.args.stage.now).faults (g.S.Stage.state s).faults (g.S.Stage.state s).is_ready (c.loop-k.k + 1) c.loop-k.taken) IsProposer (g.S.Stage.state c.args.stage.now) (g.S.Stage.state s)) (sym w.stage-is)
           (record {
-            known = finals_passed _ _ _ _ _ _ _ _ _ _ t here _ _ _ _ (sym c.is_kind.ensures.there ∙ w.if-is_kind.false) c.is_kind.ensures.config c.is_kind.ensures.run c.is_kind.ensures.later (c.is_kind.ensures.ready t.is_ready);
-            nodes = nodes_on _ _ _ _ c.loop-k.invariant.nodes (all_idle _ _ _ c.is_kind.ensures.nodes);
+            known = finals_passed _ _ _ _ _ _ _ _ _ _ t here _ _ _ _ (sym c.is_kind.ensures.there ∙ w.if-is_kind.false) c.is_kind.ensures.config c.is_kind.ensures.run c.is_kind.ensures.steady (c.is_kind.ensures.ready t.is_ready);
+            goes = goes_on _ _ _ _ c.loop-k.invariant.goes (all_idle _ _ _ c.is_kind.ensures.goes);
+            counts = c.is_kind.ensures.counts ∙ c.loop-k.invariant.counts;
           }))
     ]
 
 pub loop-k-init : goal.loop-k-init
 loop-k-init g c = record {
-  known = record { same_config = refl; later = omega arith; is_ready = c.requires.ready; rest = refl; same_start = take-length (messages (g.S.Stage.state c.args.stage.now).run); entries = omega arith };
-  nodes = nodes_still _ _;
+  known = record { same_config = refl; steady = refl; is_ready = c.requires.ready; rest = refl; same_start = take-length (messages (g.S.Stage.state c.args.stage.now).run); entries = omega arith };
+  goes = goes_still _ _;
+  counts = refl;
 }
 
-pub returns-in_err-taken-clause-nodes : goal.returns-in_err-taken-clause-nodes
-returns-in_err-taken-clause-nodes g c = nodes_on _ _ _ _ (nodes_on _ _ _ _ c.loop-k.invariant.nodes (all_idle _ _ _ c.is_kind.ensures.nodes)) c.in_err-taken.ensures.nodes
+pub returns-in_err-taken-clause-goes : goal.returns-in_err-taken-clause-goes
+returns-in_err-taken-clause-goes g c = goes_on _ _ _ _ (goes_on _ _ _ _ c.loop-k.invariant.goes (all_idle _ _ _ c.is_kind.ensures.goes)) c.in_err-taken.ensures.goes
 
 pub returns-in_err-taken-clause-failed : goal.returns-in_err-taken-clause-failed
 returns-in_err-taken-clause-failed g c =
     let p = err_from_is_err_and c.from_residual.result c.from_residual.ensures.1 in
-    rw (p.1, p.2) (failed_on _ _ _ _ _ (nodes_on _ _ _ _ c.loop-k.invariant.nodes (all_idle _ _ _ c.is_kind.ensures.nodes)) c.in_err-taken.ensures.failed)
+    rw (p.1, p.2) (failed_on _ _ _ _ _ (goes_on _ _ _ _ c.loop-k.invariant.goes (all_idle _ _ _ c.is_kind.ensures.goes)).nodes (c.is_kind.ensures.counts ∙ c.loop-k.invariant.counts) c.in_err-taken.ensures.failed)

@@ -13,4 +13,4 @@ invariant-loop-k g l =
     WithNodes
     (TakingFinals (g.S.Stage.state l.initial.stage).config (g.S.Stage.state l.stage).config (g.S.Stage.state l.initial.stage).run (g.S.Stage.state l.stage).run (closings (g.S.Stage.state l.initial.stage).config (places Kind.Final 0 (messages (g.S.Stage.state l.initial.stage).run)) (g.S.Stage.state l.initial.stage).run)
     (g.S.Stage.state l.initial.stage).faults (g.S.Stage.state l.stage).faults (g.S.Stage.state l.stage).is_ready l.k l.taken)
-    IsProposer (g.S.Stage.state l.initial.stage).nodes (g.S.Stage.state l.stage).nodes
+    IsProposer (g.S.Stage.state l.initial.stage) (g.S.Stage.state l.stage)

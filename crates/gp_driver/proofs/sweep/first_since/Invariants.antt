@@ -8,4 +8,4 @@ abbrev pub invariant-loop-k : goal.invariant-loop-k
 invariant-loop-k g l =
     WithNodes
     (Searching (g.S.Stage.state l.initial.stage).config (g.S.Stage.state l.stage).config (g.S.Stage.state l.initial.stage).run (g.S.Stage.state l.stage).run (g.S.Stage.state l.initial.stage).faults (g.S.Stage.state l.stage).faults (g.S.Stage.state l.initial.stage).is_ready (g.S.Stage.state l.stage).is_ready l.kind l.start l.k)
-    Anyone (g.S.Stage.state l.initial.stage).nodes (g.S.Stage.state l.stage).nodes
+    Anyone (g.S.Stage.state l.initial.stage) (g.S.Stage.state l.stage)

@@ -11,4 +11,4 @@ invariant-loop-i g l =
     WithNodes
     (Sweeping (g.S.Stage.state l.initial.stage).config (g.S.Stage.state l.stage).config (g.S.Stage.state l.initial.stage).run (g.S.Stage.state l.stage).run (g.S.Stage.state l.initial.stage).faults (g.S.Stage.state l.stage).faults (g.S.Stage.state l.stage).is_ready
     (node_of l.role) (l.k ∷ []) l.i l.taken)
-    IsProposer (g.S.Stage.state l.initial.stage).nodes (g.S.Stage.state l.stage).nodes
+    IsProposer (g.S.Stage.state l.initial.stage) (g.S.Stage.state l.stage)

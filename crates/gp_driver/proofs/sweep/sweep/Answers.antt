@@ -1,11 +1,11 @@
 -- One node more is through.
-use Rattle.std.proofs.Common.{suc, length, refl, ap, arith, rules}
+use Rattle.std.proofs.Common.{suc, length, refl, ap, ◌∙◌, arith, rules}
 use Rattle.gp_run.specs.Messages.{messages}
 use Rattle.std.proofs.lemmas.Result.{err_from_is_err_and}
 use Rattle.gp_driver.specs.Sweeps.{places}
 use Rattle.gp_driver.specs.Roles.{node_of}
 use Rattle.gp_driver.proofs.Driving.{swept_grows, sweeping_within, sweeping_on, sweeping_next}
-use Rattle.gp_driver.proofs.Going.{failed_on, nodes_on, role_goes, nodes_still}
+use Rattle.gp_driver.proofs.Going.{failed_on, goes_on, role_goes, goes_still}
 use Rattle.gp_driver.proofs.sweep.sweep.Goals as goal
 
 pub take_all-requires-clause-within : goal.take_all-requires-clause-within
@@ -36,17 +36,18 @@ pub loop-i-preserved : goal.loop-i-preserved
 loop-i-preserved g c =
     let o = c.in_ok-taken.ensures.driven.outcome in
     record {
-      known = sweeping_next _ _ _ _ _ _ _ _ _ _ _ c.loop-i.invariant.known _ _ _ _ _ _ c.in_ok-taken.ensures.driven.same_config c.in_ok-taken.ensures.driven.later o.0 (sweeping_on _ _ _ _ _ _ _ _ _ _ _ c.loop-i.invariant.known c.args.kind c.args.start c.messages-end.result c.node.result c.messages-end.ensures c.node.ensures refl) o.1 o.2;
-      nodes = nodes_on _ _ _ _ c.loop-i.invariant.nodes (role_goes c.args.role c.loop-i.i _ c.node.ensures _ _ c.in_ok-taken.ensures.nodes);
+      known = sweeping_next _ _ _ _ _ _ _ _ _ _ _ c.loop-i.invariant.known _ _ _ _ _ _ c.in_ok-taken.ensures.driven.same_config c.in_ok-taken.ensures.driven.steady o.0 (sweeping_on _ _ _ _ _ _ _ _ _ _ _ c.loop-i.invariant.known c.args.kind c.args.start c.messages-end.result c.node.result c.messages-end.ensures c.node.ensures refl) o.1 o.2;
+      goes = goes_on _ _ _ _ c.loop-i.invariant.goes (role_goes c.args.role c.loop-i.i _ c.node.ensures _ _ c.in_ok-taken.ensures.goes);
+      counts = c.in_ok-taken.ensures.failed.steady ∙ c.loop-i.invariant.counts;
     }
 
 pub loop-i-init : goal.loop-i-init
-loop-i-init g c = record { known = search rules; nodes = nodes_still _ _ }
+loop-i-init g c = record { known = search rules; goes = goes_still _ _; counts = refl }
 
-pub returns-in_err-taken-clause-nodes : goal.returns-in_err-taken-clause-nodes
-returns-in_err-taken-clause-nodes g c = nodes_on _ _ _ _ c.loop-i.invariant.nodes (role_goes c.args.role c.loop-i.i _ c.node.ensures _ _ c.in_err-taken.ensures.nodes)
+pub returns-in_err-taken-clause-goes : goal.returns-in_err-taken-clause-goes
+returns-in_err-taken-clause-goes g c = goes_on _ _ _ _ c.loop-i.invariant.goes (role_goes c.args.role c.loop-i.i _ c.node.ensures _ _ c.in_err-taken.ensures.goes)
 
 pub returns-in_err-taken-clause-failed : goal.returns-in_err-taken-clause-failed
 returns-in_err-taken-clause-failed g c =
     let p = err_from_is_err_and c.from_residual.result c.from_residual.ensures.1 in
-    rw (p.1, p.2) (failed_on _ _ _ _ _ c.loop-i.invariant.nodes c.in_err-taken.ensures.failed)
+    rw (p.1, p.2) (failed_on _ _ _ _ _ c.loop-i.invariant.goes.nodes c.loop-i.invariant.counts c.in_err-taken.ensures.failed)

@@ -14,4 +14,4 @@ invariant-loop-k g l =
     (Taking (g.S.Stage.state l.initial.stage).config (g.S.Stage.state l.stage).config (g.S.Stage.state l.initial.stage).run (g.S.Stage.state l.stage).run
     (run_onto (g.S.Stage.state l.initial.stage).config (g.S.Stage.state l.initial.stage).run (takes l.node (places l.kind l.start (take l.end (messages (g.S.Stage.state l.initial.stage).run)))))
     (g.S.Stage.state l.initial.stage).faults (g.S.Stage.state l.stage).faults (g.S.Stage.state l.stage).is_ready l.node l.kind l.end l.k l.taken)
-    (AllBut l.node) (g.S.Stage.state l.initial.stage).nodes (g.S.Stage.state l.stage).nodes
+    (AllBut l.node) (g.S.Stage.state l.initial.stage) (g.S.Stage.state l.stage)

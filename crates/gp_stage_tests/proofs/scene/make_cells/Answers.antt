@@ -1,5 +1,6 @@
 use Rattle.std.proofs.Common.{sym, ◌∙◌}
-use Rattle.gp_stage_tests.proofs.Making.{all_made, no_items, next_fresh, next_there, none_made, one_made}
+use Rattle.gp_wire.proofs.Ends.{empty_is}
+use Rattle.gp_stage_tests.proofs.Making.{all_made, next_fresh, next_there, none_made, one_made}
 use Rattle.gp_stage_tests.proofs.scene.make_cells.Goals as goal
 
 pub loop-pass-init : goal.loop-pass-init
@@ -15,7 +16,7 @@ pub loop-pass-preserved : goal.loop-pass-preserved
 loop-pass-preserved g c = one_made c.args.wire.now _ _ c.pop.new.self.items c.in-Some.pass c.loop-pass.invariant c.in-Some.ensures.items c.in_ok-make_cell.field-0 c.push.new.self.items c.in_ok-make_cell.ensures c.in_ok-push.ensures.items
 
 pub returns-clause-nodes : goal.returns-clause-nodes
-returns-clause-nodes g c = all_made c.args.wire.now _ c.loop-pass.left.items c.loop-pass.invariant (no_items c.loop-pass.left.items (sym c.loop-pass.left.ok.0 ∙ c.in_default.ensures.cases.0))
+returns-clause-nodes g c = all_made c.args.wire.now _ c.loop-pass.left.items c.loop-pass.invariant (empty_is c.loop-pass.left.items (sym c.loop-pass.left.ok.0 ∙ c.in_default.ensures.cases.0))
 
 pub returns-clause-ready : goal.returns-clause-ready
 returns-clause-ready g c = c.loop-pass.invariant.ready

@@ -1,17 +1,18 @@
-use Rattle.std.proofs.Common.{◌≡◌, true, ◌∷◌, ◌++◌, length, drop, slice_get, take, sym, ap, ◌∙◌, subst, inl, arith, Err}
+use Rattle.std.proofs.Common.{◌≡◌, ◌+◌, true, ◌∷◌, ◌++◌, length, drop, slice_get, take, refl, sym, ap, ◌∙◌, subst, inl, arith, Err}
 use Rattle.gp_run.specs.Legal.{fits}
 use Rattle.gp_msg.specs.Nodes.{node_of}
 use Rattle.gp_run.specs.Runs.{newest_first, entry_after}
 use Rattle.gp_work.specs.Moves.{event_of}
+use Rattle.gp_work.specs.declared.faults.StepFault.TheVariants.{NoMemory}
 use Rattle.gp_driver.specs.Stages.{AllBut, Anyone, FailsByNode}
-use Rattle.gp_stage.specs.Held.{HeldCells, HasCell, AreUp, whole_list}
+use Rattle.gp_stage.specs.Held.{HeldCells, HasCell, AreUp, capped, disk_faults, whole_list}
 use Rattle.gp_stage.specs.Kept.{IsKept}
 use Rattle.gp_stage.specs.Played.{CanPlay, KnewBefore, stage_fault}
 use Rattle.gp_stage.proofs.Places.{within}
 use Rattle.gp_stage.proofs.Performing.{has_cell, can_play}
-use Rattle.gp_stage.proofs.Steps.{ask_held, ask_here, ask_up, ask_knew, told_kept, told_up, told_later, told_entry, told_nodes, told_count, fault_kept, fault_list, fault_nodes, fault_fails, fault_later, fault_cause, later_shown, cause_shown, later_than, unfailed}
-use Rattle.gp_stage.proofs.Nodes.{nodes_kept, nodes_shown, nodes_than, fails_shown}
-use Rattle.gp_stage.proofs.Faulting.{at_most, counted}
+use Rattle.gp_stage.proofs.Steps.{ask_held, ask_here, ask_up, ask_knew, told_kept, told_up, told_later, told_entry, told_nodes, told_count, fault_kept, fault_list, fault_nodes, fault_fails, fault_later, fault_cause, later_shown, cause_shown, later_than, steady_than, told_steady, told_counts, unfailed}
+use Rattle.gp_stage.proofs.Nodes.{nodes_kept, nodes_shown, nodes_than, fails_kept, fails_shown, fails_than}
+use Rattle.gp_stage.proofs.Faulting.{counted}
 use Rattle.gp_stage.proofs.playing.CellStageStage.step.Goals as goal
 use Rattle.gp_stage.proofs.playing.CellStageStage.step.Goals.{in-Full, in_default-fault}
 
@@ -20,6 +21,12 @@ returns-then-is_err-clause-nodes g c = nodes_kept g.D.Disk.faults (AllBut (node_
 
 pub returns-then-is_err-clause-idle : goal.returns-then-is_err-clause-idle
 returns-then-is_err-clause-idle g c = nodes_kept g.D.Disk.faults Anyone c.args.self.now _ c.self.view_is
+
+pub returns-then-is_err-clause-failed : goal.returns-then-is_err-clause-failed
+returns-then-is_err-clause-failed g c = fails_kept g.D.Disk.faults c.args.self.now _ c.self.view_is
+
+pub returns-then-is_err-clause-cause : goal.returns-then-is_err-clause-cause
+returns-then-is_err-clause-cause g c = ap (λ (h : HeldCells g.row.D.Denot). capped (disk_faults g.D.Disk.faults h.cells + h.fulls)) c.self.view_is
 
 pub unreachable-requires : goal.unreachable-requires
 unreachable-requires g c = let i = c.self.inside in
@@ -104,6 +111,18 @@ returns-in-Ok-clause-later g c = let i = c.self.inside in let k = c.keep_up-sent
     (told_later g.D.Disk.faults i.wire i.config i.cells.items c.deref_mut.result.now c.play_at-stepped.new.cells c.deref_mut.ensures.value i.cells.len i.cells.ok.0 i.holder c.in-Some.at c.move_of-node.result.1
     c.in-Ok.messages c.in-Ok.ensures _ c.deref_mut-in-Ok.result.now c.deref_mut-in-Ok.ensures.value c.keep_up-sent.new.cells k.same _ i.fulls)
 
+pub returns-in-Ok-clause-steady : goal.returns-in-Ok-clause-steady
+returns-in-Ok-clause-steady g c = let i = c.self.inside in let k = c.keep_up-sent.ensures in
+    steady_than g.D.Disk.faults c.args.self.now _ c.self.view_is _
+    (told_steady g.D.Disk.faults i.wire i.config i.cells.items c.deref_mut.result.now c.play_at-stepped.new.cells c.deref_mut.ensures.value i.cells.len i.cells.ok.0 i.holder c.in-Some.at c.move_of-node.result.1
+    c.in-Ok.messages c.in-Ok.ensures _ c.deref_mut-in-Ok.result.now c.deref_mut-in-Ok.ensures.value c.keep_up-sent.new.cells k.same _ i.fulls)
+
+pub returns-in-Ok-clause-failed : goal.returns-in-Ok-clause-failed
+returns-in-Ok-clause-failed g c = let i = c.self.inside in let k = c.keep_up-sent.ensures in
+    fails_than g.D.Disk.faults c.args.self.now _ c.self.view_is _ _
+    (told_counts g.D.Disk.faults i.wire i.config i.cells.items c.deref_mut.result.now c.play_at-stepped.new.cells c.deref_mut.ensures.value i.cells.len i.cells.ok.0 i.holder c.in-Some.at c.move_of-node.result.1
+    c.in-Ok.messages c.in-Ok.ensures _ c.deref_mut-in-Ok.result.now c.deref_mut-in-Ok.ensures.value c.keep_up-sent.new.cells k.same _ _ _)
+
 pub returns-in-Ok-clause-nodes : goal.returns-in-Ok-clause-nodes
 returns-in-Ok-clause-nodes g c = let i = c.self.inside in let k = c.keep_up-sent.ensures in let f = c.in-Some.ensures.found in let m = c.move_of-node.ensures in
     nodes_than g.D.Disk.faults (AllBut (node_of c.args.event)) c.args.self.now _ c.self.view_is _
@@ -132,7 +151,7 @@ returns-after-fault-clause-later g c = let i = c.self.inside in
     c.in-Err.fault c.in-Err.ensures (drop (length c.play_at-stepped.new.cells) i.cells.items) in
     elim c.match-fault.branch [
       | in-Full w ↦ later_shown g.D.Disk.faults c.args.self.now c.match-fault.self _ _ c.self.view_is w.self-is
-          (later i.fulls w.saturating_add-self-inside.result (at_most i.fulls w.saturating_add-self-inside.result (counted i.fulls w.saturating_add-self-inside.result w.saturating_add-self-inside.ensures)))
+          (later i.fulls w.saturating_add-self-inside.result (counted i.fulls w.saturating_add-self-inside.result w.saturating_add-self-inside.ensures))
       | in_default-fault w ↦ later_shown g.D.Disk.faults c.args.self.now c.match-fault.self _ _ c.self.view_is w.self-is (later i.fulls i.fulls (inl (omega arith)))
     ]
 
@@ -160,12 +179,12 @@ returns-after-fault-clause-cause g c = let i = c.self.inside in let f = c.in-Som
     c.in-Err.fault c.in-Err.ensures (drop (length c.play_at-stepped.new.cells) i.cells.items) in
     let x_is = ap (λ l. slice_get l c.in-Some.at) (sym c.deref.ensures.value) ∙ f.1 in let event_is = ap (λ n. event_of n c.move_of-node.result.1) f.2 ∙ m.event in
     elim c.match-fault.branch [
-      | in-Full w ↦ let more = w.saturating_add-self-inside.result in let up = counted i.fulls more w.saturating_add-self-inside.ensures in
+      | in-Full w ↦ let more = w.saturating_add-self-inside.result in let up = w.saturating_add-self-inside.ensures in
           cause_shown g.D.Disk.faults c.args.self.now c.match-fault.self _ _ c.self.view_is w.self-is c.args.event c.in-Err.fault c.fault_of.result c.fault_of.ensures
-          (cause i.wire.id i.wire.nodes i.fulls more c.args.event f.0 x_is event_is (at_most i.fulls more up) (λ size need is. up))
+          (cause i.wire.id i.wire.nodes i.fulls more c.args.event f.0 x_is event_is (counted i.fulls more up) (λ (e : c.in-Err.fault ≡ NoMemory). cc (w.in-Full.is)) (λ size need is. up))
       | in_default-fault w ↦
           cause_shown g.D.Disk.faults c.args.self.now c.match-fault.self _ _ c.self.view_is w.self-is c.args.event c.in-Err.fault c.fault_of.result c.fault_of.ensures
-          (cause i.wire.id i.wire.nodes i.fulls i.fulls c.args.event f.0 x_is event_is (inl (omega arith)) (λ size need is. absurd (w.in_default-fault.not-Full size need is)))
+          (cause i.wire.id i.wire.nodes i.fulls i.fulls c.args.event f.0 x_is event_is (inl (omega arith)) (λ e. refl) (λ size need is. absurd (w.in_default-fault.not-Full size need is)))
     ]
 
 pub returns-after-fault-clause-failed : goal.returns-after-fault-clause-failed
