@@ -1,5 +1,5 @@
 -- What a caller decides is what is called.
-use Rattle.std.proofs.Common.{◌≡◌, ℕ, cond, List, [], ◌∷◌, ◌++◌, length, Option, Result, Ok, Err, inl, inr, refl, sym, ap, ◌∙◌, subst, arith, length-append}
+use Rattle.std.proofs.Common.{◌≡◌, ℕ, cond, List, [], ◌++◌, Option, Result, Ok, Err, inl, inr, sym, ap, ◌∙◌, subst}
 use Rattle.std.specs.Prelude.{IfOk, IsTrue, ◌↔◌}
 use Rattle.std.specs.Option.{option_map}
 use Rattle.std.proofs.lemmas.Bool.Decides.{eqb_tells}
@@ -13,11 +13,11 @@ use Rattle.gp_msg.specs.declared.node.Node.{Node}
 use Rattle.gp_msg.specs.declared.node.Node.TheVariants.{Coordinator}
 use Rattle.gp_msg.specs.declared.record.Record.{Record}
 use Rattle.gp_run.specs.Runs.{newest_first}
-use Rattle.gp_rules.specs.Own.{own}
-use Rattle.gp_rules.proofs.OwnRecords.{own_append}
+use Rattle.gp_wire.specs.Own.{own}
+use Rattle.gp_wire.proofs.OwnRecords.{own_append}
 use Rattle.gp_rules.specs.Cores.{core_at, part_in}
 use Rattle.gp_rules.specs.Still.{core_still, entries_append}
-use Rattle.gp_cell.proofs.Posting.{nothing_own}
+use Rattle.gp_cell.proofs.Posting.{nothing_own, back_empty}
 use Rattle.gp_collide.specs.Watched.{Watched, watched}
 use Rattle.gp_phase.specs.declared.caller.Call.{Call}
 use Rattle.gp_caller.specs.declared.policy.TheConstants.{FIRST_ROUND, LEADER}
@@ -27,13 +27,9 @@ use Rattle.gp_caller.specs.Calling.{CallerState, IsCalled, Decides, entered, new
 
 -- ---- a coordinator stands where it stood, if it posted nothing
 
-empty_rest : (xs ys : List Record) → xs ++ ys ≡ xs → ys ≡ []
-empty_rest xs [] e = refl
-empty_rest xs (y ∷ ys) e = absurd (let n = ap length e in let l = length-append xs (y ∷ ys) in omega arith)
-
 pub stands_still : (config : Counts) (n : Node) (ps more qs : List Record) (e : ℕ) (r : Round) → qs ≡ ps ++ more → own n qs ≡ own n ps → StandsIn config n ps e r → StandsIn config n qs e r
 stands_still config n ps more qs e r grown same stands =
-    let nothing : own n more ≡ [] = empty_rest (own n ps) (own n more) (sym (ap (own n) grown ∙ own_append n ps more) ∙ same) in
+    let nothing : own n more ≡ [] = back_empty (own n ps) (own n more) (sym (ap (own n) grown ∙ own_append n ps more) ∙ same) in
     let still : core_at config n (newest_first qs) ≡ core_at config n (newest_first ps) =
     ap (λ rs. core_at config n (newest_first rs)) grown ∙ ap (core_at config n) (entries_append ps more) ∙ core_still config n (newest_first more) (newest_first ps) (nothing_own n more nothing) in
     ap part_in still ∙ stands

@@ -1,23 +1,23 @@
 -- What a caller that adapts calls next follows the round that it called last.
-use Rattle.std.proofs.Common.{◌≡◌, ◌≢◌, inl, inr, ℕ, ◌+◌, ◌<◌, min, Bool, true, false, cond, List, [], ◌∷◌, ◌++◌, length, take, get_or, Option, Some, None, refl, sym, ap, ◌∙◌, subst, arith, eq-eqb}
+use Rattle.std.proofs.Common.{◌≡◌, ◌≢◌, inl, inr, ℕ, ◌+◌, ◌<◌, ◌≤◌, min, Bool, true, false, cond, List, [], ◌∷◌, ◌++◌, length, take, get_or, Option, Some, None, refl, sym, ap, ◌∙◌, subst, arith, eq-eqb}
 use Rattle.std.specs.Prelude.{nat_lt, nat_eq, ◌&&◌, IsTrue, ◌↔◌}
-use Rattle.std.proofs.lemmas.Bool.{ltb-true}
+use Rattle.std.proofs.lemmas.Bool.{ltb-true, leb-true}
 use Rattle.std.proofs.lemmas.Bool.Decides.{eqb_tells}
 use Rattle.std.proofs.lemmas.List.{take_more}
 use Rattle.gp_round.specs.Configs.{lead_of}
 use Rattle.gp_round.specs.declared.round.Mode.{Mode}
 use Rattle.gp_round.specs.declared.round.Mode.TheVariants.{Single, Multi, Fast}
 use Rattle.gp_round.specs.declared.round.Round.{Round}
-use Rattle.gp_run.proofs.Choices.{left_true, right_true}
 use Rattle.gp_adapt.specs.declared.scene.TheConstants.{MOST_CLASHES}
 use Rattle.gp_adapt.specs.Choices.{mode_after}
-use Rattle.gp_adapt.specs.Courses.{CourseState, is_calm_next, after_quiet, moved, begins}
+use Rattle.gp_adapt.specs.Courses.{CourseState, opening, is_calm_next, after_quiet, moved, begins}
 use Rattle.gp_collide.specs.Watched.{Watched}
 use Rattle.gp_collide.specs.Clashes.{HasClash}
 use Rattle.gp_phase.specs.declared.caller.Call.{Call}
+use Rattle.gp_round.proofs.Counting.{left_true, right_true}
 use Rattle.gp_caller.specs.declared.policy.TheConstants.{LEADER, CALM}
 use Rattle.gp_round.specs.declared.config.TheConstants.{LAST_COUNT}
-use Rattle.gp_caller.specs.Adapting.{first_there, last_for, or_zero, NextMode, MayFollow, MayCall, Follows, IsOverLast, clashes_before, IsInCourse}
+use Rattle.gp_caller.specs.Adapting.{first_there, last_for, or_zero, NextMode, MayFollow, MayCall, Follows, IsOverLast, clashes_before, IsInCourse, course_at, ComesAtCalm, IsOneLook}
 
 -- ---- the round that was called last for an epoch
 
@@ -61,8 +61,8 @@ after_clash Single n next e f = let is : next ≡ Single = f ∙ ap (λ k. mode_
 -- and once they came back to none
 after_return : (m : Mode) (n : ℕ) (next : Mode) → n ≡ clashes_before m → nat_lt 0 n ≡ true → next ≡ mode_after 0 → NextMode m false next
 after_return Fast n next e some f = absurd (cc)
-after_return Multi n next e some f = inr f
-after_return Single n next e some f = inr f
+after_return Multi n next e some f = inr (refl, f)
+after_return Single n next e some f = inr (refl, f)
 
 -- the course once a first call was made, and the round that is called by it
 abbrev begun_at : ℕ → ℕ → ℕ → CourseState
@@ -102,6 +102,56 @@ next_follows s (Some q) clashed r h some count mode lead =
     let low : q.count < LAST_COUNT = ltb-true q.count LAST_COUNT (right_true (begins s clashed) (nat_lt q.count LAST_COUNT) some) in
     let f = by_begun s q r clashed h.1 h.0 (h.3 low) (left_true (begins s clashed) (nat_lt q.count LAST_COUNT) some) mode in
     (record { count = count; lead = lead; mode = f.0 }, (f.1, f.2, omega (arith, count), λ l. f.3))
+
+-- ---- looks
+
+-- the course at a look in the epoch of the look before, and in another one
+pub same_epoch : (before epoch : ℕ) (s : CourseState) → epoch ≡ before → s ≡ course_at before epoch s
+same_epoch before epoch s is = sym (ap (λ b. cond b s (opening s.calm)) (eq-eqb epoch before is))
+
+pub other_epoch : (before epoch : ℕ) (s : CourseState) → epoch ≢ before → opening s.calm ≡ course_at before epoch s
+other_epoch before epoch s other =
+    let no : nat_eq epoch before ≡ false = elim (eqb_tells epoch before) [ inl t ↦ absurd (other t.1) | inr t ↦ t.0 ] in
+    sym (ap (λ b. cond b s (opening s.calm)) no)
+
+fast_after_none : (n : ℕ) → mode_after n ≡ Fast → n ≡ 0
+fast_after_none n e =
+    elim (eqb_tells n 0) [
+      | inl none ↦ none.1
+      | inr some ↦ elim (eqb_tells n 1) [
+        | inl one ↦ absurd (let wrong : Multi ≡ Fast = sym (ap (λ b. cond b Fast (cond (nat_eq n 1) Multi Single)) some.0 ∙ ap (λ b. cond b Multi Single) one.0) ∙ e in cc)
+        | inr more ↦ absurd (let wrong : Single ≡ Fast = sym (ap (λ b. cond b Fast (cond (nat_eq n 1) Multi Single)) some.0 ∙ ap (λ b. cond b Multi Single) more.0) ∙ e in cc)
+      ]
+    ]
+
+-- a fast round is called at a calm
+calm_at : (calm n quiet : ℕ) (clashed : Bool) (m : Mode) → calm ≡ CALM → begins (begun_at calm n quiet) clashed ≡ true → m ≡ mode_after (moved (begun_at calm n quiet) clashed).clashes → m ≡ Fast
+    → (clashed ≡ false) × (CALM ≤ quiet + 1)
+calm_at calm n quiet true m at some mode fast =
+    let none : min MOST_CLASHES (n + 1) ≡ 0 = fast_after_none (min MOST_CLASHES (n + 1)) (sym mode ∙ fast) in
+    absurd (omega (arith, none))
+calm_at calm n quiet false m at some mode fast =
+    let ends : is_calm_next (begun_at calm n quiet) ≡ true = left_true (is_calm_next (begun_at calm n quiet)) (nat_lt 0 n) some in
+    (refl, subst (λ (k : ℕ). k ≤ quiet + 1) at (leb-true calm (quiet + 1) ends))
+
+comes_at_calm : (s : CourseState) (clashed : Bool) (call : Call) → s.calm ≡ CALM → begins s clashed ≡ true → call.round.mode ≡ mode_after (moved s clashed).clashes → ComesAtCalm s clashed call
+comes_at_calm s clashed call at some mode = λ begun fast.
+    let same : begun_at s.calm s.clashes s.quiet ≡ s = λ i. record s { begun = sym begun i } in
+    calm_at s.calm s.clashes s.quiet clashed call.round.mode at (ap (λ t. begins t clashed) same ∙ some) (mode ∙ ap (λ t. mode_after (moved t clashed).clashes) (sym same)) fast
+
+calm_is : (s : CourseState) (last : Option Round) → IsInCourse s last → s.calm ≡ CALM
+calm_is s None h = ap (λ (t : CourseState). t.calm) h
+calm_is s (Some q) h = h.0
+
+-- a look that calls a round, and one that calls none
+pub looked : (s : CourseState) (w : Watched) (after : CourseState) (clashed : Bool) (call : Call) (last : Option Round) (count : ℕ) → IsTrue clashed ↔ HasClash w → IsInCourse s last → after ≡ moved s clashed
+    → true ≡ (begins s clashed && nat_lt count LAST_COUNT) → call.round.mode ≡ mode_after (moved s clashed).clashes → IsOneLook s w after (Some call)
+looked s w after clashed call last count clash h course some mode =
+    let begun = left_true (begins s clashed) (nat_lt count LAST_COUNT) (sym some) in
+    record { clashed = clashed; clash = clash; course = course; begun = begun; calm = comes_at_calm s clashed call (calm_is s last h) begun mode }
+
+pub looked_only : (s : CourseState) (w : Watched) (after : CourseState) (clashed : Bool) → IsTrue clashed ↔ HasClash w → after ≡ moved s clashed → IsOneLook s w after None
+looked_only s w after clashed clash course = record { clashed = clashed; clash = clash; course = course; begun = tt; calm = tt }
 
 -- ---- what a caller decides
 

@@ -30,7 +30,7 @@ pub saw_on : (s : SightState) (p q : PassState) → GoesOn p q → Saw s (record
 saw_on s p q g h = subst (Saw s) (sym g.grown) (saw_lasts s (records p) g.more h)
 
 -- the message at a place is among the first of one more
-take_more : {A : Type 0} (xs : List A) (k : ℕ) (x : A) → slice_get xs k ≡ Some x → take (suc k) xs ≡ take k xs ++ x ∷ []
+pub take_more : {A : Type 0} (xs : List A) (k : ℕ) (x : A) → slice_get xs k ≡ Some x → take (suc k) xs ≡ take k xs ++ x ∷ []
 take_more [] k x e = absurd (cc)
 take_more (y ∷ xs) zero x e = let is : y ≡ x = cc in ap (λ z. z ∷ []) is
 take_more (y ∷ xs) (suc k) x e = ap (λ l. y ∷ l) (take_more xs k x e)

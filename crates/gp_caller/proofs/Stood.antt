@@ -16,17 +16,11 @@ use Rattle.gp_rules.specs.Cores.{opening, core_at, part_in}
 use Rattle.gp_cell.specs.Cells.{Keeps, last_or, last_entry}
 use Rattle.gp_cell.specs.Plans.{HasRole}
 use Rattle.gp_cell.proofs.Acting.{core_role}
+use Rattle.gp_cell.proofs.Lasting.{last_there}
 
 -- the durable part of a coordinator to which nothing has happened
 abbrev opening_part : EpochPart
 opening_part = record { epoch = 0; part = Coordinators round_zero }
-
-last_some : (first : EpochPart) (ds : List Durable) (d : Durable) → last ds ≡ Some d → last_or first ds ≡ part_of d
-last_some first [] d e = absurd (cc)
-last_some first (x ∷ []) d e = ap part_of (let is : x ≡ d = cc in is)
-last_some first (x ∷ y ∷ ds) d e =
-    let more : length (x ∷ y ∷ ds) - 1 ≡ suc (length (y ∷ ds) - 1) = omega arith in
-    last_some (part_of x) (y ∷ ds) d (ap (λ (i : ℕ). slice_get (x ∷ y ∷ ds) i) (sym more) ∙ e)
 
 last_none : (first : EpochPart) (ds : List Durable) → last ds ≡ None → last_or first ds ≡ first
 last_none first [] e = refl
@@ -66,7 +60,7 @@ module _ {D : Type 0} (config : Counts) (c : ℕ) (log : Option (LogState D)) wh
           sym (ap (λ (p : EpochPart). p.epoch) same),
           let parts : Coordinators round_zero ≡ Coordinators s.state.round = ap (λ (p : EpochPart). p.part) same in sym (let is : round_zero ≡ s.state.round = cc in is),
         );
-        some = λ d e. sym (last_some opening_part l.entries d e) ∙ k.1;
+        some = λ d e. sym (last_there opening_part l.entries d e) ∙ k.1;
       }
 
   pub stands : (n : Node) (core : Core) (es : List Entry) → n ≡ node.Coordinator c → core ≡ core_at config n es → Keeps (part_in (opening config n)) (part_in core) log → Stands (part_in (core_at config n es)) log

@@ -1,5 +1,5 @@
 -- Which round a caller that adapts may call for what was seen.
-use Rattle.std.specs.Prelude.{◌≡◌, ◌↔◌, ◌<◌, ◌⊎◌, ℕ, ◌+◌, Bool, true, false, cond, nat_eq, List, [], ◌∷◌, Option, Some, None, IsTrue}
+use Rattle.std.specs.Prelude.{◌≡◌, ◌↔◌, ◌<◌, ◌≤◌, ◌⊎◌, ℕ, ◌+◌, Bool, true, false, cond, nat_eq, List, [], ◌∷◌, Option, Some, None, IsTrue, IfSome}
 use Rattle.std.specs.Coded.{Coded-set}
 use Rattle.std.proofs.Props.{props}
 use Rattle.gp_round.specs.Counts.{Counts}
@@ -38,11 +38,11 @@ abbrev pub or_zero : Option Round → Round
 or_zero None = round_zero
 or_zero (Some r) = r
 
--- in which mode a round may follow one of this mode: multi after a collision in a fast round, single after a collision in a multi round, and fast after any round that is not fast. A single round may also follow a single round that has collided, which none does in a legal run
+-- in which mode a round may follow one of this mode: multi after a collision in a fast round, single after a collision in a multi round, and fast after a round that is not fast and has not collided. A single round may also follow a single round that has collided, which none does in a legal run
 abbrev pub NextMode : Mode → Bool → Mode → Type 0
 NextMode Fast clashed next = (clashed ≡ true) × (next ≡ Multi)
-NextMode Multi clashed next = ((clashed ≡ true) × (next ≡ Single)) ⊎ (next ≡ Fast)
-NextMode Single clashed next = ((clashed ≡ true) × (next ≡ Single)) ⊎ (next ≡ Fast)
+NextMode Multi clashed next = ((clashed ≡ true) × (next ≡ Single)) ⊎ ((clashed ≡ false) × (next ≡ Fast))
+NextMode Single clashed next = ((clashed ≡ true) × (next ≡ Single)) ⊎ ((clashed ≡ false) × (next ≡ Fast))
 
 -- the round is the leader's, and its count is the one after that of another round
 pub record IsNext (q : Round) (clashed : Bool) (r : Round) : Type 0 where
@@ -101,3 +101,21 @@ IsInCourse s (Some r) = (s.calm ≡ CALM) × (s.begun ≡ true) × (0 < r.count)
 pub in_course_prop : (s : CourseState) (o : Option Round) → IsProp (IsInCourse s o)
 in_course_prop s None = Coded-set course_code s (courses.opening CALM)
 in_course_prop s (Some r) = hlevel props
+
+-- ---- looks
+
+-- the course at a look in an epoch, after a look in an epoch that may be another: in another one it begins anew
+abbrev pub course_at : ℕ → ℕ → CourseState → CourseState
+course_at before epoch s = cond (nat_eq epoch before) s (courses.opening s.calm)
+
+-- a fast round, unless it is the first round of an epoch, is called after so many looks in a row without a collision that they make a calm, this one among them. The course counts them anew after each collision, and so from the call of each round that is not fast
+abbrev pub ComesAtCalm : CourseState → Bool → Call → Type 0
+ComesAtCalm s clashed call = s.begun ≡ true → call.round.mode ≡ Fast → (clashed ≡ false) × (CALM ≤ s.quiet + 1)
+
+-- one look, at this course and with this watch: the course counts it once, and what is called is what the course begins
+pub record IsOneLook (s : CourseState) (w : Watched) (after : CourseState) (call : Option Call) : Type 0 where
+  pub clashed : Bool
+  pub clash : IsTrue clashed ↔ HasClash w
+  pub course : after ≡ courses.moved s clashed
+  pub begun : IfSome call (λ c. courses.begins s clashed ≡ true)
+  pub calm : IfSome call (ComesAtCalm s clashed)

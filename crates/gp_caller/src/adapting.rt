@@ -5,9 +5,10 @@ ghost use Rattle.gp_round.specs.Configs.{is_owner};
 ghost use Rattle.gp_msg.specs.declared.node.Node.TheVariants.{Coordinator};
 ghost use Rattle.gp_msg.specs.declared.record.Record.{Record};
 ghost use Rattle.gp_adapt.specs.Choices.{TakesScenes, AnswersModes};
-ghost use Rattle.gp_caller.specs.Adapting.{IsAdapted, Follows, IsInCourse, IsOverLast, in_course_prop, last_for, or_zero};
+ghost use Rattle.gp_adapt.specs.Courses.{opening};
+ghost use Rattle.gp_caller.specs.Adapting.{IsAdapted, Follows, IsInCourse, IsOverLast, IsOneLook, in_course_prop, last_for, or_zero, course_at};
 ghost use Rattle.gp_caller.specs.Sights.{Saw, saw_lasts};
-ghost use Rattle.gp_caller.specs.declared.policy.TheConstants.{LEADER};
+ghost use Rattle.gp_caller.specs.declared.policy.TheConstants.{LEADER, CALM};
 
 use crate::policy::{CALM, LEADER};
 use crate::sight::Sight;
@@ -65,6 +66,7 @@ impl AdaptiveCaller {
         ensures config { IfOk result (λ c. c.adapt.config ≡ config) }
         ensures none { IfOk result (λ c. c.calls.items ≡ []) }
         ensures knows { IfOk result (λ c. (seen : List Record) → Saw c.sight seen) }
+        ensures course { IfOk result (λ c. c.adapt.course ≡ opening CALM) }
     {
         let _coordinators = config.coordinators();
         let round = Round::zero();
@@ -85,6 +87,7 @@ impl AdaptiveCaller {
         ensures rest { (self.new.adapt.config ≡ self.old.adapt.config) × (self.new.calls.items ≡ self.old.calls.items) }
         ensures over { OnOk result (self.new.sight.watch.round ≡ (epoch, or_zero (last_for epoch self.old.calls.items))) }
         ensures saw { (seen : List Record) → Saw self.old.sight seen → Saw self.new.sight seen }
+        ensures course { OnOk result (self.new.adapt.course ≡ course_at self.old.sight.watch.round.0 epoch self.old.adapt.course) }
     {
         let last = last_for(epoch, &self.calls);
         if epoch != self.epoch {
@@ -105,6 +108,7 @@ impl AdaptiveCaller {
         ensures rest { (self.new.adapt.config ≡ self.old.adapt.config) × (self.new.calls.items ≡ self.old.calls.items) }
         ensures over { OnOk result (self.new.sight.watch.round ≡ (epoch, or_zero (last_for epoch self.old.calls.items))) }
         ensures saw { (seen : List Record) → Saw self.old.sight seen → Saw self.new.sight seen }
+        ensures course { OnOk result (self.new.adapt.course ≡ opening self.old.adapt.course.calm) }
     {
         if last.is_some() {
             return Err(NoMemory);
@@ -124,6 +128,7 @@ impl AdaptiveCaller {
         ensures calls { IfOk result (λ c. self.new.calls.items ≡ self.old.calls.items ++ option_to_list c) }
         ensures owned { IfOk result (λ c. IfSome c (λ x. is_owner self.old.adapt.config.coordinators LEADER x.round ≡ true)) }
         ensures call { IfOk result (Follows self.old.sight.watch self.old.calls.items) }
+        ensures look { IfOk result (IsOneLook self.old.adapt.course self.old.sight.watch self.new.adapt.course) }
     {
         self.calls.reserve(1)?;
         let Some(round) = self.adapt.next(self.round, self.sight.clashed()) else {
@@ -157,6 +162,10 @@ impl<D: Disk> Caller<Wire<PaxosRules>, Cell<D>> for AdaptiveCaller {
     ghost config = { λ c. c.adapt.config };
 
     ghost called = { λ c. c.calls.items };
+
+    // Each look counts once, so `CALM` looks without a collision come before a fast round that is
+    // called after a round that is not fast.
+    ghost looks = { λ old new call. IsOneLook (course_at old.sight.watch.round.0 new.sight.watch.round.0 old.adapt.course) new.sight.watch new.adapt.course call };
 
     ghost answers = { λ config node calls seen call. IsAdapted config node calls seen call };
 

@@ -138,6 +138,8 @@ impl<D: Disk> Caller<Wire<PaxosRules>, Cell<D>> for RoundCaller {
 
     ghost called = { λ c. c.calls };
 
+    ghost looks = { λ old new call. Unit {0} };
+
     ghost answers = { λ config node calls seen call. IsCalled config node calls seen call };
 
     ghost knows = { λ c seen. Saw c.sight seen };

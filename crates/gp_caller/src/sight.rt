@@ -8,7 +8,7 @@ ghost use Rattle.gp_msg.specs.Messages.{message_of};
 ghost use Rattle.gp_collide.specs.Watched.{opening, after_message};
 ghost use Rattle.gp_collide.specs.Clashes.{HasClash};
 ghost use Rattle.gp_caller.specs.Sights.{Saw, SawAll};
-ghost use Rattle.gp_rules.specs.Own.{own};
+ghost use Rattle.gp_wire.specs.Own.{own};
 
 use gp_cell::Cell;
 use gp_collide::Watch;

@@ -16,8 +16,8 @@ use Rattle.gp_acceptor.specs.Epochs.{AcceptorInEpoch}
 use Rattle.gp_learner.specs.Epochs as learner
 use Rattle.gp_learner.specs.Epochs.{LearnerInEpoch}
 use Rattle.gp_run.specs.Messages.{messages, on_message}
+use Rattle.gp_run.proofs.Running.{offers_after}
 use Rattle.gp_cell.proofs.Owning.{acts_same}
-use Rattle.gp_cell.proofs.Offering.{offers_after}
 use Rattle.gp_work.specs.declared.moves.Move.{Move}
 use Rattle.gp_work.specs.declared.moves.Move.TheVariants.{Offer, Begin, Take}
 use Rattle.gp_msg.specs.Nodes.{same_node}
@@ -27,7 +27,7 @@ use Rattle.gp_rules.specs.declared.roles.Core.TheVariants.{Proposer, Coordinator
 use Rattle.gp_rules.specs.Cores.{opening, acts, core_at}
 use Rattle.gp_cell.specs.Plans.{HasRole, took_if, planned, CanPlan, named}
 
-same_number : (n : ℕ) → nat_eq n n ≡ true
+pub same_number : (n : ℕ) → nat_eq n n ≡ true
 same_number n = eq-eqb n n refl
 
 -- ---- the core is one of the node's role

@@ -1,7 +1,8 @@
 -- A cell as the node of a worker.
-use Rattle.std.proofs.Common.{◌≡◌, ℕ, ◌≤◌, false, [], ◌∷◌, ◌++◌, map, refl, sym, ap, ◌∙◌, subst, arith, Option, Some, None, Result, Ok, Err}
+use Rattle.std.proofs.Common.{◌≡◌, ℕ, ◌≤◌, false, List, [], ◌∷◌, ◌++◌, map, refl, sym, ap, ◌∙◌, subst, arith, Option, Some, None, Result, Ok, Err}
 use Rattle.std.specs.Prelude.{IfOk, IfErr, OnOk, OnErr, IsSome}
 use Rattle.std.proofs.lemmas.List.{append-nil, map-append}
+use Rattle.gp_vlog.specs.Logs.{LogState}
 use Rattle.gp_msg.specs.declared.event.Event.{Event}
 use Rattle.gp_msg.specs.declared.event.Event.TheVariants.{Fall}
 use Rattle.gp_wire.specs.Lists.{Has}
@@ -17,13 +18,15 @@ use Rattle.gp_work.specs.declared.faults.RiseFault.TheVariants as rise
 use Rattle.gp_work.specs.Doing.{Goes, Posted, HasRisen}
 use Rattle.gp_work.specs.Causes as work
 use Rattle.gp_work.specs.Moves.{event_of}
-use Rattle.gp_rules.specs.Own.{own, own_events, event_in}
+use Rattle.gp_wire.specs.Own.{own, own_events, event_in}
 use Rattle.gp_rules.specs.declared.rules.PaxosRules.{PaxosRules}
 use Rattle.gp_cell.specs.Cells.{CellState, PostsOne}
 use Rattle.gp_cell.specs.Passing.{GoesOn}
+use Rattle.gp_cell.specs.Crashes.{HoldsSame}
 use Rattle.gp_cell.specs.Falls.{Rises}
+use Rattle.gp_cell.specs.Founds.{BreaksWhere, LogBreaksWhere, IsNotRisen}
 use Rattle.gp_cell.specs.Refusals.{CountsFaults, CountsRiseFaults, IsTooGreat, StepCause, faults_of, limit_of}
-use Rattle.gp_cell.specs.Working.{process_of, is_up, IsAt}
+use Rattle.gp_cell.specs.Working.{process_of, causes_of, is_up, IsAt}
 
 pub risen_to : (t : Option ℕ) (n : ℕ) → IsBelow t n → HasRisen t (Some n)
 risen_to None n b = tt
@@ -31,6 +34,18 @@ risen_to (Some t) n b = b
 
 pub had_risen : (p q : PassState) → HadTurn p q nothing → HasRisen p.turn q.turn
 had_risen p q t = subst (HasRisen p.turn) (sym (ap (λ (x : PassState). x.turn) t.after)) (risen_to p.turn t.turn t.risen)
+
+-- a log whose disk has the same content breaks the format at the same place
+breaks_same : {D : Type 0} (content : D → Option (List ℕ)) (old new : Option (LogState D)) (at : ℕ) → HoldsSame content old new → limit_of new ≡ limit_of old
+    → LogBreaksWhere content old (rise.NotLog at) → LogBreaksWhere content new (rise.NotLog at)
+breaks_same content None None at same limit b = b
+breaks_same content None (Some new) at same limit b = absurd same
+breaks_same content (Some old) None at same limit b = absurd same
+breaks_same content (Some old) (Some new) at same limit b =
+    subst (λ n. BreaksWhere n (content new.disk) (rise.NotLog at)) (was new.limit old.limit limit) (subst (λ s. BreaksWhere old.limit s (rise.NotLog at)) (sym same) b)
+  where
+    was : (m n : ℕ) → ◌≡◌ {A = Option ℕ} (Some m) (Some n) → n ≡ m
+    was m n e = cc
 
 module _ {D : Type 0} (faults : D → ℕ) (o r : CellState D) (config : r.config ≡ o.config) (node : r.node ≡ o.node) where
   pub goes : GoesOn o.pass r.pass → faults_of faults o.log ≤ faults_of faults r.log → limit_of r.log ≡ limit_of o.log → Goes (process_of faults o) (process_of faults r)
@@ -82,15 +97,18 @@ module _ {D : Type 0} (faults : D → ℕ) (o r : CellState D) (config : r.confi
   rise_posted (Ok n) x = (x.what, posted_one (Fall o.node x.what) x.posts)
   rise_posted (Err f) x = tt
 
-  rise_fault : (f : RiseFault) → CountsRiseFaults {T = ℕ} (faults_of faults o.log) (faults_of faults r.log) (Err f) → work.RiseCause (process_of faults o) (process_of faults r) f
-  rise_fault rise.NoMemory c = tt
-  rise_fault rise.Disk c = c.failed tt
-  rise_fault (rise.NotLog at) c = tt
-  rise_fault (rise.Changed found) c = tt
+  module _ (content : D → Option (List ℕ)) (holds : HoldsSame content o.log r.log) (limit : limit_of r.log ≡ limit_of o.log) where
+    rise_fault : (f : RiseFault) → r.down ≡ o.down → CountsRiseFaults {T = ℕ} (faults_of faults o.log) (faults_of faults r.log) (Err f) → IsNotRisen content o r f
+        → work.RiseCause (process_of faults o) (process_of faults r) (causes_of content r).not_risen f
+    rise_fault rise.NoMemory down c h = tt
+    rise_fault rise.Disk down c h = c.failed tt
+    rise_fault (rise.NotLog at) down c h = breaks_same content o.log r.log at holds limit h.2
+    rise_fault (rise.Changed found) down c h = (h.0, down ∙ h.1, h.2.0, h.2.1)
 
-  pub rise_fault_if : (t : Result ℕ RiseFault) → CountsRiseFaults (faults_of faults o.log) (faults_of faults r.log) t → IfErr t (work.RiseCause (process_of faults o) (process_of faults r))
-  rise_fault_if (Ok n) c = tt
-  rise_fault_if (Err f) c = rise_fault f c
+    pub rise_fault_if : (t : Result ℕ RiseFault) → OnErr t (r.down ≡ o.down) → CountsRiseFaults (faults_of faults o.log) (faults_of faults r.log) t → IfErr t (IsNotRisen content o r)
+        → IfErr t (work.RiseCause (process_of faults o) (process_of faults r) (causes_of content r).not_risen)
+    rise_fault_if (Ok n) down c h = tt
+    rise_fault_if (Err f) down c h = rise_fault f down c h
 
 -- a node that is up went down in no move
 pub up_is : (down : Option Move) → is_up down ≡ is_up None → down ≡ None

@@ -19,6 +19,7 @@ use Rattle.gp_work.specs.Moves.{event_of}
 use Rattle.gp_rules.specs.declared.roles.Core.{Core}
 use Rattle.gp_rules.specs.Cores.{opening, acts, part_in}
 use Rattle.gp_rules.specs.Still.{entries_append}
+use Rattle.gp_work.proofs.Stretches.{up_same}
 use Rattle.gp_cell.specs.declared.planning.Plan.{Plan}
 use Rattle.gp_work.specs.Doing.{IsUpTo}
 use Rattle.gp_cell.specs.Cells.{CellState, IsFit, Keeps, IsThoughtAt, last_or}
@@ -123,10 +124,6 @@ pub after_is : (config : Counts) (n : Node) (core : Core) (p q : PassState) (mv 
 after_is config n core p q mv plan t g =
     ap part_in (next_core config n core (records p) mv plan t (messages (newest_first g.more)))
     ∙ ap (λ ms. part_in (acts n core ms (event_of n mv)).0) (sym (ap (λ l. messages (newest_first l)) g.grown ∙ ap messages (entries_append (records p) g.more) ∙ messages-append (newest_first g.more) (newest_first (records p))))
-
-up_same : (t : Option ℕ) → IsUpTo t t
-up_same None = tt
-up_same (Some t) = omega arith
 
 pub same_goes : (p q : PassState) → q ≡ p → GoesOn p q
 same_goes p q e = record {

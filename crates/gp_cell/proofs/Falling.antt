@@ -1,6 +1,6 @@
 -- A fall by which a node comes up again is lawful, and leaves the part that its log has.
-use Rattle.std.proofs.Common.{◌≡◌, ℕ, Bool, true, false, ◌&&◌, cond, List, [], ◌++◌, length, map, refl, sym, ap, ◌∙◌, subst, Option, Some, None, inl, inr, eq-eqb, Result, Ok, Err}
-use Rattle.std.specs.Prelude.{slice_get, nat_eq, IsSome, OnOk, IfOk}
+use Rattle.std.proofs.Common.{◌≡◌, ℕ, true, false, cond, List, [], ◌++◌, length, map, refl, sym, ap, ◌∙◌, subst, Option, Some, None, inl, inr, Result, Ok, Err}
+use Rattle.std.specs.Prelude.{slice_get, IsSome, OnOk, IfOk}
 use Rattle.std.specs.Option.{option_to_list, option_map}
 use Rattle.std.proofs.lemmas.Bool.{lt-ltb}
 use Rattle.std.proofs.lemmas.List.{append-nil}
@@ -31,17 +31,15 @@ use Rattle.gp_work.specs.declared.moves.Move.TheVariants.{Offer, Begin, Take}
 use Rattle.gp_work.specs.Moves.{Fits, HasRoom}
 use Rattle.gp_rules.specs.declared.roles.Core.{Core}
 use Rattle.gp_rules.specs.declared.roles.Core.TheVariants.{Proposer, Coordinator, Acceptor, Learner}
+use Rattle.gp_command.proofs.Truth.{true_both}
 use Rattle.gp_cell.specs.declared.planning.Plan.{Plan}
 use Rattle.gp_rules.specs.Cores.{opening, acts, core_at, part_in}
 use Rattle.gp_cell.specs.Plans.{HasRole, planned, named, took_if, IsNamed}
 use Rattle.gp_cell.specs.Cells.{IsSound, IsPlan, Keeps, IsFitLog, HasLog, IsLogged, WentDown}
 use Rattle.gp_rules.specs.Lawful.{IsLawful}
 use Rattle.gp_cell.specs.Falls.{fell, kept_of, KeepsMove}
-use Rattle.gp_cell.proofs.Acting.{core_role}
+use Rattle.gp_cell.proofs.Acting.{core_role, same_number}
 use Rattle.gp_cell.proofs.Stepping.{named_more, get_within}
-
-same_number : (n : ℕ) → nat_eq n n ≡ true
-same_number n = eq-eqb n n refl
 
 -- the part that a fall leaves, which keeps this
 abbrev left_by : Core → List Stamped → Option Kept → Option EpochPart
@@ -162,9 +160,6 @@ may_none config (node.Proposer p) have l = absurd l
 may_none config (node.Learner p) have l = absurd l
 may_none config (node.Coordinator c) have l = refl
 may_none config (node.Acceptor c) have l = refl
-
-both : (a b : Bool) → a ≡ true → b ≡ true → (a && b) ≡ true
-both a b x y = λ i. (x ∙ refl) i && y i
 
 -- a node with a log has a durable part
 part_there : (n : Node) (core : Core) → IsLogged n → HasRole n core → (p : EpochPart) × (part_in core ≡ Some p)
@@ -319,7 +314,7 @@ module _ {D : Type 0} (config : Counts) (n : Node) (core : Core) (log : Option (
     unfolding ms
     fall_lawful x at event out = record {
       own_node = at ∙ sym (ap node_of event);
-      event_fits = ap (fits config (newest_first (records p))) event ∙ both (is_present config n) (may_keep config (length ms) n what) s.present may_fall;
+      event_fits = ap (fits config (newest_first (records p))) event ∙ true_both (is_present config n) (may_keep config (length ms) n what) s.present may_fall;
       own_messages = ap (map message_of) out ∙ ap option_to_list (sym sends_none)
           ∙ (λ i. option_to_list (acts (sym at i) (core_here i) (messages (newest_first (records p))) (sym event i)).1);
     }

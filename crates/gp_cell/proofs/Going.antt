@@ -1,5 +1,5 @@
 -- A pass that goes on.
-use Rattle.std.proofs.Common.{◌≡◌, ℕ, [], ◌∷◌, ◌++◌, map, sym, ap, ◌∙◌, subst, append_assoc, arith, Option, Some, None, ◌+◌, length, length-append}
+use Rattle.std.proofs.Common.{◌≡◌, ℕ, [], ◌∷◌, ◌++◌, map, sym, ap, ◌∙◌, subst, append_assoc, arith, ◌+◌, length, length-append}
 use Rattle.std.proofs.lemmas.List.{map-append, length-map}
 use Rattle.gp_round.specs.Counts.{Counts}
 use Rattle.gp_msg.specs.declared.node.Node.{Node}
@@ -9,17 +9,12 @@ use Rattle.gp_wire.specs.Rule.{items, post_of}
 use Rattle.gp_wire.specs.Lists.{Has}
 use Rattle.gp_wire.specs.Known.{PassState, HoldsAll, records, record_of}
 use Rattle.gp_wire.specs.Passes.{HadTurn, only}
-use Rattle.gp_rules.specs.Own.{own}
+use Rattle.gp_wire.specs.Own.{own}
 use Rattle.gp_work.specs.Doing.{IsUpTo}
+use Rattle.gp_work.proofs.Stretches.{up_on}
 use Rattle.gp_cell.specs.Cells.{PostsOne}
 use Rattle.gp_cell.specs.Passing.{Later, GoesOn}
 use Rattle.gp_cell.proofs.Posting.{up_to}
-
-up_on : (t u w : Option ℕ) → IsUpTo t u → IsUpTo u w → IsUpTo t w
-up_on None u w a b = tt
-up_on (Some t) None w a b = absurd a
-up_on (Some t) (Some u) None a b = absurd b
-up_on (Some t) (Some u) (Some w) a b = omega arith
 
 pub later_goes : (p q : PassState) → Later p q → GoesOn p q
 later_goes p q l = record {

@@ -6,8 +6,8 @@ use Rattle.gp_msg.specs.declared.node.Node.{Node}
 use Rattle.gp_msg.specs.declared.record.Record.{Record}
 use Rattle.gp_msg.specs.Messages.{entry_of}
 use Rattle.gp_run.specs.Runs.{newest_first}
-use Rattle.gp_rules.specs.Own.{own}
-use Rattle.gp_rules.specs.SameNodes.{same_tells}
+use Rattle.gp_wire.specs.Own.{own}
+use Rattle.gp_wire.proofs.SameNodes.{same_tells}
 use Rattle.gp_rules.specs.Lawful.{IsLawful}
 use Rattle.gp_cell.specs.Cells.{OwnLawful}
 

@@ -15,10 +15,10 @@ use Rattle.gp_wire.specs.Rule.{IsBelow, Begins, items, post_of}
 use Rattle.gp_wire.specs.Known.{PassState, records, record_of, old_of}
 use Rattle.gp_wire.specs.Passes.{HadTurn, nothing, only}
 use Rattle.gp_work.specs.declared.moves.Move.{Move}
-use Rattle.gp_rules.specs.Own.{own}
+use Rattle.gp_wire.specs.Own.{own}
 use Rattle.gp_work.specs.Doing.{IsUpTo}
-use Rattle.gp_rules.specs.SameNodes.{same_tells}
-use Rattle.gp_rules.proofs.OwnRecords.{own_append, own_foreign}
+use Rattle.gp_wire.proofs.SameNodes.{same_tells}
+use Rattle.gp_wire.proofs.OwnRecords.{own_append, own_foreign}
 use Rattle.gp_rules.specs.declared.roles.Core.{Core}
 use Rattle.gp_rules.specs.Cores.{opening, acts, core_at, part_in}
 use Rattle.gp_rules.specs.Lawful.{IsLawful}
@@ -69,7 +69,7 @@ entries_ahead : (p q : PassState) (x : Record) (t : HadTurn p q (only x)) → ne
 unfolding ahead
 entries_ahead p q x t = entries_append (records p) (items t.more)
 
-own_one : (n : Node) (r : Record) → r.node ≡ n → own n (r ∷ []) ≡ r ∷ []
+pub own_one : (n : Node) (r : Record) → r.node ≡ n → own n (r ∷ []) ≡ r ∷ []
 own_one n r e = elim (same_tells n r.node) [ inl t ↦ ap (λ b. cond b (r ∷ []) []) t.0 | inr t ↦ absurd (t.1 (sym e)) ]
 
 own_posted : (p q : PassState) (x : Record) (n : Node) (t : HadTurn p q (only x)) → Has n p.holds → x.node ≡ n → own n (records q) ≡ own n (records p) ++ x ∷ []
@@ -136,7 +136,7 @@ sound_posted config n core next log p q x posted down now s h t e may plan kept 
 }
 
 -- the number of a node's records is within that of all
-own_short : (n : Node) (rs : List Record) → length (own n rs) ≤ length rs
+pub own_short : (n : Node) (rs : List Record) → length (own n rs) ≤ length rs
 own_short n [] = omega arith
 own_short n (r ∷ rs) = by_test (same_node n r.node) (own_short n rs)
   where
@@ -165,7 +165,7 @@ nothing_own n (r ∷ rs) e = elim (same_tells n r.node) [
     join n [] ys a b = b
     join n (x ∷ xs) ys a b = (a.0, join n xs ys a.1 b)
 
-back_empty : (xs ys : List Record) → xs ++ ys ≡ xs → ys ≡ []
+pub back_empty : (xs ys : List Record) → xs ++ ys ≡ xs → ys ≡ []
 back_empty [] ys e = e
 back_empty (x ∷ xs) ys e = let t : xs ++ ys ≡ xs = cc in back_empty xs ys t
 

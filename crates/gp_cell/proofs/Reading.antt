@@ -1,6 +1,5 @@
 -- A pass that has seen more, and the core of its node.
-use Rattle.std.proofs.Common.{◌≡◌, ℕ, zero, suc, ◌+◌, ◌≤◌, Bool, true, false, cond, List, [], ◌∷◌, ◌++◌, length, map, refl, sym, ap, ◌∙◌, subst, arith, Option, None}
-use Rattle.std.specs.Prelude.{slice_get}
+use Rattle.std.proofs.Common.{◌≡◌, ℕ, ◌+◌, Bool, true, false, cond, List, [], ◌∷◌, ◌++◌, length, map, refl, sym, ap, ◌∙◌, subst, arith, Option}
 use Rattle.std.proofs.lemmas.List.{append-nil, map-append}
 use Rattle.gp_round.specs.Counts.{Counts}
 use Rattle.gp_msg.specs.declared.node.Node.{Node}
@@ -12,7 +11,7 @@ use Rattle.gp_wire.specs.Lists.{Each, Has}
 use Rattle.gp_wire.specs.Rule.{IsForeign, items}
 use Rattle.gp_wire.specs.Known.{PassState, records, record_of}
 use Rattle.gp_work.specs.declared.moves.Move.{Move}
-use Rattle.gp_rules.specs.Own.{own}
+use Rattle.gp_wire.specs.Own.{own}
 use Rattle.gp_msg.specs.Nodes.{same_node}
 use Rattle.gp_work.specs.Moves.{Fits, HasRoom}
 use Rattle.gp_cell.specs.Plans.{CanPlan, IsNamed, named}
@@ -21,18 +20,13 @@ use Rattle.gp_run.proofs.Telling.{messages-append}
 use Rattle.gp_cell.proofs.Stepping.{named_more}
 use Rattle.gp_cell.proofs.Acting.{own_entries, can_plan}
 use Rattle.gp_cell.proofs.Lawfully.{lawful_more}
-use Rattle.gp_rules.proofs.OwnRecords.{own_append, own_foreign}
+use Rattle.gp_wire.proofs.OwnRecords.{own_append, own_foreign}
 use Rattle.gp_rules.specs.declared.roles.Core.{Core}
 use Rattle.gp_rules.specs.Cores.{core_at}
 use Rattle.gp_rules.specs.Still.{AreOthers, core_still, entries_append}
 use Rattle.gp_vlog.specs.Logs.{LogState}
 use Rattle.gp_cell.specs.Cells.{IsSound, WentDown, OwnLawful}
 use Rattle.gp_cell.specs.Passing.{Later}
-
-pub none_beyond : {A : Type 0} (ms : List A) (k : ℕ) → slice_get ms k ≡ None → length ms ≤ k
-none_beyond [] k e = omega arith
-none_beyond (m ∷ ms) zero e = cc
-none_beyond (m ∷ ms) (suc k) e = let h = none_beyond ms k e in omega arith
 
 others_join : (n : Node) (xs ys : List Entry) → AreOthers n xs → AreOthers n ys → AreOthers n (xs ++ ys)
 others_join n [] ys a b = b

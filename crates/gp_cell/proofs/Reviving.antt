@@ -19,7 +19,7 @@ use Rattle.gp_work.specs.declared.moves.Move.{Move}
 use Rattle.gp_work.specs.declared.faults.RiseFault.{RiseFault}
 use Rattle.gp_work.specs.declared.faults.RiseFault.TheVariants as rise
 use Rattle.gp_work.specs.Moves.{event_of, Fits}
-use Rattle.gp_rules.specs.Own.{own}
+use Rattle.gp_wire.specs.Own.{own}
 use Rattle.gp_rules.specs.declared.roles.Core.{Core}
 use Rattle.gp_rules.specs.Cores.{opening, acts, part_in}
 use Rattle.gp_rules.specs.Still.{entries_append}

@@ -1,5 +1,5 @@
 -- A plan is lawful, and is what its event does at the node.
-use Rattle.std.proofs.Common.{◌≡◌, ℕ, zero, suc, ◌<◌, Bool, true, ◌&&◌, List, [], ◌∷◌, ◌++◌, length, refl, sym, ap, ◌∙◌, subst, arith, Option}
+use Rattle.std.proofs.Common.{◌≡◌, ℕ, zero, suc, ◌<◌, true, List, [], ◌∷◌, ◌++◌, length, refl, sym, ap, ◌∙◌, subst, arith, Option}
 use Rattle.std.specs.Prelude.{slice_get, nat_lt}
 use Rattle.std.specs.Option.{option_to_list}
 use Rattle.std.proofs.lemmas.Bool.{lt-ltb}
@@ -16,6 +16,8 @@ use Rattle.gp_work.specs.declared.moves.Move.{Move}
 use Rattle.gp_work.specs.declared.moves.Move.TheVariants.{Offer, Begin, Take}
 use Rattle.gp_work.specs.Moves.{event_of, Fits}
 use Rattle.gp_rules.specs.declared.roles.Core.{Core}
+use Rattle.gp_run.proofs.Others.{front}
+use Rattle.gp_command.proofs.Truth.{true_both}
 use Rattle.gp_cell.specs.declared.planning.Plan.{Plan}
 use Rattle.gp_rules.specs.Cores.{acts, core_at}
 use Rattle.gp_cell.specs.Plans.{HasRole, planned, named, IsNamed}
@@ -24,7 +26,7 @@ use Rattle.gp_vlog.specs.Logs.{LogState}
 use Rattle.gp_cell.specs.Cells.{IsSound, IsPlan}
 use Rattle.gp_cell.proofs.Acting.{core_role, acts_role, acts_planned}
 
-node_is : (config : Counts) (n : Node) (mv : Move) → Fits config n mv → node_of (event_of n mv) ≡ n
+pub node_is : (config : Counts) (n : Node) (mv : Move) → Fits config n mv → node_of (event_of n mv) ≡ n
 node_is config (node.Proposer p) (Offer d) f = refl
 node_is config (node.Proposer p) (Begin r) f = absurd f
 node_is config (node.Coordinator c) (Offer d) f = absurd f
@@ -40,9 +42,6 @@ get_within [] k h = absurd h
 get_within (x ∷ xs) zero h = omega arith
 get_within (x ∷ xs) (suc k) h = let l = get_within xs k h in omega arith
 
-both : (a b : Bool) → a ≡ true → b ≡ true → (a && b) ≡ true
-both a b x y = λ i. (x ∙ refl) i && y i
-
 plan_fits : (config : Counts) (n : Node) (es : List Entry) (mv : Move) → is_present config n ≡ true → Fits config n mv → IsNamed mv (named (messages es) mv) → fits config es (event_of n mv) ≡ true
 plan_fits config (node.Proposer p) es (Offer d) here f s = here
 plan_fits config (node.Proposer p) es (Begin r) here f s = absurd f
@@ -52,19 +51,12 @@ plan_fits config (node.Acceptor a) es (Offer d) here f s = absurd f
 plan_fits config (node.Acceptor a) es (Begin r) here f s = absurd f
 plan_fits config (node.Learner l) es (Offer d) here f s = absurd f
 plan_fits config (node.Learner l) es (Begin r) here f s = absurd f
-plan_fits config n es (Take k) here f s = both (is_present config n) (nat_lt k (length (messages es))) here (lt-ltb k (length (messages es)) (get_within (messages es) k s))
-
-pub get_front : {A : Type 0} (xs ys : List A) (k : ℕ) → k < length xs → slice_get (xs ++ ys) k ≡ slice_get xs k
-get_front [] ys k l = absurd (none l) where
-  none : k < 0 → ⊥
-  none l = omega (arith, l)
-get_front (x ∷ xs) ys zero l = refl
-get_front (x ∷ xs) ys (suc k) l = get_front xs ys k (omega (arith, l))
+plan_fits config n es (Take k) here f s = true_both (is_present config n) (nat_lt k (length (messages es))) here (lt-ltb k (length (messages es)) (get_within (messages es) k s))
 
 pub named_more : (ms more : List Stamped) (mv : Move) → IsNamed mv (named ms mv) → named (ms ++ more) mv ≡ named ms mv
 named_more ms more (Offer d) h = refl
 named_more ms more (Begin r) h = refl
-named_more ms more (Take k) h = get_front ms more k (get_within ms k h)
+named_more ms more (Take k) h = front ms more k (get_within ms k h)
 
 module _ {D : Type 0} (config : Counts) (n : Node) (core : Core) (log : Option (LogState D)) (p : PassState) (posted : ℕ) (down : Option Move) (mv : Move) (plan : Plan) where
   role : IsSound config n core log p posted down → HasRole n core

@@ -15,7 +15,7 @@ use Rattle.gp_vlog.specs.Logs.{LogState, last}
 use Rattle.gp_wire.specs.Lists.{Has}
 use Rattle.gp_wire.specs.Known.{PassState, records}
 use Rattle.gp_work.specs.declared.moves.Move.{Move}
-use Rattle.gp_rules.specs.Own.{own}
+use Rattle.gp_wire.specs.Own.{own}
 use Rattle.gp_work.specs.Moves.{event_of, Fits}
 use Rattle.gp_rules.specs.declared.roles.Core.{Core}
 use Rattle.gp_cell.specs.declared.planning.Plan.{Plan}

@@ -11,7 +11,7 @@ ghost use Rattle.gp_msg.specs.Records.{messages_in};
 ghost use Rattle.gp_wire.specs.Rule.{Begins};
 ghost use Rattle.gp_wire.specs.Known.{records, old_of};
 ghost use Rattle.gp_wire.specs.Passes.{HadTurn, nothing, met, spent};
-ghost use Rattle.gp_rules.specs.Own.{own};
+ghost use Rattle.gp_wire.specs.Own.{own};
 ghost use Rattle.gp_rules.specs.Cores.{opening, core_at, part_in, learned_in};
 ghost use Rattle.gp_cell.specs.Cells.{cell_of, IsFreshLog, IsSameBut, IsHeldBy, Keeps, OwnLawful, last_entry};
 

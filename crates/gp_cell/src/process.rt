@@ -7,10 +7,9 @@ ghost use Rattle.gp_msg.specs.Records.{messages_in};
 ghost use Rattle.gp_wire.specs.Known.{records};
 ghost use Rattle.gp_wire.specs.Passes.{HadTurn, nothing};
 ghost use Rattle.gp_work.specs.Doing.{HasRisen};
-ghost use Rattle.gp_rules.specs.Own.{own};
+ghost use Rattle.gp_wire.specs.Own.{own};
 ghost use Rattle.gp_cell.specs.Cells.{IsSameBut};
-ghost use Rattle.gp_cell.specs.Refusals.{IsTooGreat};
-ghost use Rattle.gp_cell.specs.Working.{process_of, IsAt};
+ghost use Rattle.gp_cell.specs.Working.{process_of, causes_of, IsAt};
 
 use crate::cell::Cell;
 use gp_edge::{Disk, Gate};
@@ -43,7 +42,7 @@ impl<D: Disk> Process<Wire<PaxosRules>> for Cell<D> {
 
     ghost is_of = { λ c w. IsAt c w };
 
-    ghost too_great = { λ c e size need. IsTooGreat c e size need };
+    ghost causes = { causes_of D.content };
 
     fn node(&self) -> Node {
         self.node

@@ -7,7 +7,7 @@ ghost use Rattle.gp_run.specs.Runs.{newest_first};
 ghost use Rattle.gp_wire.specs.Lists.{Has};
 ghost use Rattle.gp_msg.specs.Records.{messages_in};
 ghost use Rattle.gp_wire.specs.Known.{records};
-ghost use Rattle.gp_rules.specs.Own.{own};
+ghost use Rattle.gp_wire.specs.Own.{own};
 ghost use Rattle.gp_work.specs.Moves.{event_of, Fits, HasRoom};
 ghost use Rattle.gp_rules.specs.Cores.{opening, acts, part_in};
 ghost use Rattle.gp_cell.specs.Cells.{IsLogged, IsThought, WentDown};

@@ -8,7 +8,7 @@ ghost use Rattle.gp_wire.specs.Lists.{Has};
 ghost use Rattle.gp_msg.specs.Records.{messages_in};
 ghost use Rattle.gp_wire.specs.Known.{records, HoldsAll};
 ghost use Rattle.gp_work.specs.declared.faults.StepFault.TheVariants as StepFault;
-ghost use Rattle.gp_rules.specs.Own.{own};
+ghost use Rattle.gp_wire.specs.Own.{own};
 ghost use Rattle.gp_work.specs.Moves.{event_of, Fits, HasRoom, IsBeyond};
 ghost use Rattle.gp_rules.specs.Cores.{opening, acts, part_in};
 ghost use Rattle.gp_cell.specs.Plans.{HasRole, IsNamed, Names, named};

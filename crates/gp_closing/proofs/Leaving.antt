@@ -10,13 +10,13 @@ use Rattle.gp_vlog.specs.Logs.{LogState}
 use Rattle.gp_wire.specs.Ends.{Closed}
 use Rattle.gp_wire.specs.Known.{WireState, records}
 use Rattle.gp_rules.specs.Lawful.{paxos_legal}
-use Rattle.gp_rules.specs.Own.{own_events, IsBehind}
+use Rattle.gp_wire.specs.Own.{own_events, IsBehind}
 use Rattle.gp_rules.specs.declared.rules.PaxosRules.{PaxosRules}
 use Rattle.gp_cell.specs.Cells.{CellState, pass_of}
 use Rattle.gp_driver.specs.declared.stage.StageFault.{StageFault}
 use Rattle.gp_driver.specs.Settling.{settle}
 use Rattle.gp_driver.specs.Settled.{Settles}
-use Rattle.gp_driver.specs.Stages.{IsProposer, NodesGo, FailsByNode, HasDriven}
+use Rattle.gp_driver.specs.Stages.{IsProposer, Extends, StageGoes, FailsByNode, HasDriven}
 use Rattle.gp_stage.specs.Held.{HeldCells, stage_of, whole_list, seen_by}
 use Rattle.gp_stage.specs.Gathered.{AreSameBut, AreBehind}
 use Rattle.gp_stage.specs.Kept.{AreHeld}
@@ -26,7 +26,7 @@ use Rattle.gp_closing.specs.Cells.{IsKnownCell, AreCellsAt, HasLearned, CellsGo,
 use Rattle.gp_closing.specs.Closing.{IsClosedBy, EndsAs, IsRunOfCells, StoodTo, IsConclusion, Stood, Settled, SettledTo, Leaves, end_of}
 use Rattle.gp_closing.proofs.Going.{cells_same, cells_on}
 use Rattle.gp_closing.proofs.Standing.{run_of_cells}
-use Rattle.gp_closing.proofs.Settled.{go_same, go_nodes, configs_are, same_rests, settled_to}
+use Rattle.gp_closing.proofs.Settled.{go_same, go_nodes, configs_are, same_rests, settled_steady, settled_to}
 
 ends_none : (meant end : RunEnd) (posted : Option (List Record)) → EndsAs meant posted end → posted ≡ None → end ≡ NoMemory
 ends_none meant end None h e = h
@@ -41,6 +41,7 @@ module _ {D : Type 0} (faults : D → ℕ) (config : Counts) (commands : ℕ) (c
     concludes = record {
       goes = cells_same faults cells;
       known = known;
+      stood = λ some. refl;
       none = ends_none given end posted ends;
       some = λ list is. (
         run_of_cells wire cells at config list same (subst (λ o. IfSome o (IsClosedBy wire cells)) is closed),
@@ -51,13 +52,14 @@ module _ {D : Type 0} (faults : D → ℕ) (config : Counts) (commands : ℕ) (c
   }
 
   -- a run that was not closed
-  pub left_open : (after : List (CellState D)) (meant : Option RunEnd) (end : RunEnd) (posted : Option (List Record)) (logs : List (LogState D)) → CellsGo faults cells after → All IsKnownCell after
-      → posted ≡ None → end ≡ NoMemory → logs ≡ logs_of after → Leaves faults config commands cells meant end posted logs
-  left_open after meant end posted logs goes known none is logs_are = record {
+  pub left_open : (after : List (CellState D)) (end : RunEnd) (posted : Option (List Record)) (logs : List (LogState D)) → CellsGo faults cells after → All IsKnownCell after
+      → posted ≡ None → end ≡ NoMemory → logs ≡ logs_of after → Leaves faults config commands cells None end posted logs
+  left_open after end posted logs goes known none is logs_are = record {
     after = after;
     concludes = record {
       goes = goes;
       known = known;
+      stood = λ some. absurd (some refl);
       none = λ e. is;
       some = λ list e. absurd (let wrong : None ≡ Some list = sym none ∙ e in cc);
     };
@@ -67,7 +69,7 @@ module _ {D : Type 0} (faults : D → ℕ) (config : Counts) (commands : ℕ) (c
   -- a run that was settled
   module _ (wire : WireState PaxosRules) (old new : HeldCells D) (r : Result ℕ StageFault) (config_is : old.config ≡ config) (configs : (i : ℕ) (c : CellState D) → slice_get cells i ≡ Some c → c.config ≡ config)
       (same : AreSameBut cells old.cells) (lists : AreBehind cells (whole_list old)) (legal : Legal config (newest_first (whole_list old)))
-      (driven : HasDriven (stage_of faults old) (stage_of faults new) (settle old.config (newest_first (whole_list old))) r) (nodes : NodesGo IsProposer (stage_of faults old).nodes (stage_of faults new).nodes)
+      (driven : HasDriven (stage_of faults old) (stage_of faults new) (settle old.config (newest_first (whole_list old))) r) (stages : StageGoes IsProposer (stage_of faults old) (stage_of faults new))
       (failed : FailsByNode (stage_of faults old).nodes (stage_of faults new).nodes r) (brings : OnOk r (Settles old.config (newest_first (whole_list old)))) (held : AreHeld wire new.config new.cells new.holder)
       (closed_is : (out : List Record) → Closed (paxos_legal wire.rules.config) wire.nodes (map pass_of new.cells) out → out ≡ whole_list new) where
     wire_config : wire.rules.config ≡ config
@@ -78,7 +80,7 @@ module _ {D : Type 0} (faults : D → ℕ) (config : Counts) (commands : ℕ) (c
 
     pub goes_on : CellsGo faults cells new.cells
     goes_on = cells_on faults cells old.cells new.cells first_goes (go_nodes faults IsProposer (whole_list old) (whole_list new) old.cells new.cells
-        (λ i x y a b. (held.placed i y b).config ∙ wire_config ∙ sym (configs_are faults cells old.cells config first_goes configs i x a)) nodes.each)
+        (λ i x y a b. (held.placed i y b).config ∙ wire_config ∙ sym (configs_are faults cells old.cells config first_goes configs i x a)) stages.nodes.each)
 
     lead_list : records held.lead.pass ≡ whole_list new
     lead_list = ap seen_by (sym held.lead_is)
@@ -98,8 +100,10 @@ module _ {D : Type 0} (faults : D → ℕ) (config : Counts) (commands : ℕ) (c
         before = whole_list old;
         run = record { legal = legal; behind = lists };
         lacking = lacking;
-        rest = λ i c p e q. subst (λ rs. own_events c.node rs ≡ own_events c.node (whole_list old)) (sym list_is) (same_rests faults cells old.cells new.cells (whole_list old) (whole_list new) first_goes nodes.each i c p e q);
+        extends = subst (λ rs. Extends (newest_first (whole_list old)) (newest_first rs)) (sym list_is) stages.grows;
+        rest = λ i c p e q. subst (λ rs. own_events c.node rs ≡ own_events c.node (whole_list old)) (sym list_is) (same_rests faults cells old.cells new.cells (whole_list old) (whole_list new) first_goes stages.nodes.each i c p e q);
         settled = subst (λ x. SettledTo faults config (whole_list old) cells new.cells list x) (sym is) (settled_to faults config cells old new list config_is list_is first_goes r driven failed brings);
+        steady = λ other. settled_steady faults cells old new same r failed (λ e. other (is ∙ e));
       })
 
     pub left_settled : (end : RunEnd) (posted : Option (List Record)) (logs : List (LogState D)) → IfSome posted (IsClosedBy wire new.cells) → EndsAs (end_of r) posted end → logs ≡ logs_of new.cells → All IsKnownCell new.cells
@@ -109,6 +113,7 @@ module _ {D : Type 0} (faults : D → ℕ) (config : Counts) (commands : ℕ) (c
       concludes = record {
         goes = goes_on;
         known = known;
+        stood = λ some. absurd (some refl);
         none = ends_none (end_of r) end posted ends;
         some = λ list is. let c = subst (λ o. IfSome o (IsClosedBy wire new.cells)) is closed in (run list c, conclusion list c end (subst (λ o. EndsAs (end_of r) o end) is ends) lacking);
       };

@@ -1,5 +1,5 @@
 -- Cells that were settled.
-use Rattle.std.proofs.Common.{◌≡◌, true, ℕ, zero, suc, inl, inr, List, [], ◌∷◌, map, refl, sym, ap, ◌∙◌, subst, arith, Some, None, Result, Ok, Err, OnOk}
+use Rattle.std.proofs.Common.{◌≡◌, ◌≢◌, true, ℕ, zero, suc, inl, inr, List, [], ◌∷◌, map, refl, sym, ap, ◌∙◌, subst, arith, Some, Result, Ok, Err, OnOk}
 use Rattle.std.specs.Prelude.{slice_get}
 use Rattle.std.specs.List.{AllZip}
 use Rattle.gp_edge.specs.Faults.{Rose}
@@ -9,24 +9,23 @@ use Rattle.gp_msg.specs.declared.record.Record.{Record}
 use Rattle.gp_round.specs.Counts.{Counts}
 use Rattle.gp_run.specs.Legal.{fits}
 use Rattle.gp_run.specs.Runs.{newest_first}
-use Rattle.gp_rules.specs.Own.{own_events}
+use Rattle.gp_wire.specs.Own.{own_events}
 use Rattle.gp_cell.specs.Cells.{CellState}
 use Rattle.gp_cell.specs.Refusals.{faults_of, limit_of}
 use Rattle.gp_driver.specs.declared.stage.StageFault.{StageFault}
 use Rattle.gp_driver.specs.declared.stage.StageFault.TheVariants as fault
 use Rattle.gp_driver.specs.Settling.{settle}
 use Rattle.gp_driver.specs.Settled.{AllLearned, Settles}
-use Rattle.gp_driver.specs.Stages.{StageNode, IsProposer, NodeGoes, HasRisen, SomeNodeRose, FailsByNode, HasDriven}
+use Rattle.gp_driver.specs.Stages.{StageNode, IsProposer, NodeGoes, HasRisen, SomeNodeRose, UnlessDiskFailed, FailsByNode, HasDriven, fault_counts}
 use Rattle.gp_stage.specs.Held.{HeldCells, stage_node, stage_of, whole_list}
 use Rattle.gp_stage.specs.Gathered.{AreSameBut, rest_of}
-use Rattle.gp_closing.specs.Cells.{CellGoes, CellsGo, SomeCellRose}
+use Rattle.gp_ending.specs.declared.ends.RunEnd.TheVariants.{Disk}
+use Rattle.gp_ending.proofs.Deciding.{no_some}
+use Rattle.gp_closing.specs.Cells.{CellGoes, CellsGo, SomeCellRose, disk_counts}
 use Rattle.gp_closing.specs.Closing.{SettledTo, end_of}
 
-some_is : {A : Type 0} {x y : A} → Some x ≡ Some y → x ≡ y
+pub some_is : {A : Type 0} {x y : A} → Some x ≡ Some y → x ≡ y
 some_is e = cc
-
-no_some : {A P : Type 0} {x : A} → None ≡ Some x → P
-no_some {A} {P} {x} e = absurd (let wrong : None ≡ Some x = e in cc)
 
 module _ {D : Type 0} (faults : D → ℕ) where
   -- but for their passes they are the same
@@ -144,6 +143,34 @@ module _ {D : Type 0} (faults : D → ℕ) where
       let a = later_at old mid h i c e in
       ap (λ n. own_events n now) (sym a.goes.node) ∙ idle_rests IsProposer before now mid new rests i a.cell a.there (p, a.goes.node ∙ is) ∙ ap (λ n. own_events n before) a.goes.node
 
+-- ---- disks that did not fail
+
+module _ {D : Type 0} (faults : D → ℕ) where
+  counts_shown : (list : List Record) (cells : List (CellState D)) → fault_counts (map (stage_node faults list) cells) ≡ disk_counts faults cells
+  counts_shown list [] = refl
+  counts_shown list (c ∷ cells) = ap (λ l. faults_of faults c.log ∷ l) (counts_shown list cells)
+
+  counts_same : (old new : List (CellState D)) → AreSameBut old new → disk_counts faults new ≡ disk_counts faults old
+  counts_same [] [] e = refl
+  counts_same [] (y ∷ ys) e = absurd (let wrong : rest_of y ∷ map rest_of ys ≡ [] = e in cc)
+  counts_same (x ∷ xs) [] e = absurd (let wrong : [] ≡ rest_of x ∷ map rest_of xs = e in cc)
+  counts_same (x ∷ xs) (y ∷ ys) e =
+      let same : rest_of y ≡ rest_of x = (let both : rest_of y ∷ map rest_of ys ≡ rest_of x ∷ map rest_of xs = e in cc) in
+      let rest : map rest_of ys ≡ map rest_of xs = (let both : rest_of y ∷ map rest_of ys ≡ rest_of x ∷ map rest_of xs = e in cc) in
+      let first = ap (λ (q : _). faults_of faults q.3) same in let others = counts_same xs ys rest in (λ i. first i ∷ others i)
+
+  unless_disk : {P : Type 0} (r : Result ℕ StageFault) → UnlessDiskFailed r P → end_of r ≢ Disk → P
+  unless_disk (Ok n) s other = s
+  unless_disk (Err fault.NoMemory) s other = s
+  unless_disk (Err fault.Disk) s other = absurd (other refl)
+  unless_disk (Err (fault.Full size need)) s other = s
+
+  pub settled_steady : (cells : List (CellState D)) (old new : HeldCells D) → AreSameBut cells old.cells → (r : Result ℕ StageFault) → FailsByNode (stage_of faults old).nodes (stage_of faults new).nodes r → end_of r ≢ Disk
+      → disk_counts faults new.cells ≡ disk_counts faults cells
+  settled_steady cells old new same r f other =
+      sym (counts_shown (whole_list new) new.cells) ∙ unless_disk {P = fault_counts (stage_of faults new).nodes ≡ fault_counts (stage_of faults old).nodes} r f.steady other
+      ∙ counts_shown (whole_list old) old.cells ∙ counts_same cells old.cells same
+
 -- ---- how settling ended
 
 module _ {D : Type 0} (faults : D → ℕ) (config : Counts) (cells : List (CellState D)) (old new : HeldCells D) (list : List Record) (config_is : old.config ≡ config) (list_is : list ≡ whole_list new) (goes : CellsGo faults cells old.cells) where
@@ -168,6 +195,7 @@ module _ {D : Type 0} (faults : D → ℕ) (config : Counts) (cells : List (Cell
         pass = y.pass;
         whole = y.whole ∙ sym list_is;
         event = x.event;
+        no_fall = x.no_fall;
         may_come = subst (λ k. fits k (newest_first list) x.event ≡ true) config_is (subst (λ es. fits old.config es x.event ≡ true) run_is x.event_fits);
         great = y.great;
       }

@@ -1,5 +1,5 @@
 -- The cells of all nodes of a wire.
-use Rattle.std.proofs.Common.{◌≡◌, ℕ, zero, suc, inl, inr, List, [], ◌∷◌, map, refl, sym, ap, ◌∙◌, subst, Some, None}
+use Rattle.std.proofs.Common.{◌≡◌, ℕ, zero, suc, inl, inr, List, [], ◌∷◌, map, refl, sym, ap, ◌∙◌, subst, Some}
 use Rattle.std.specs.Prelude.{slice_get}
 use Rattle.gp_round.specs.Counts.{Counts}
 use Rattle.gp_msg.specs.declared.node.Node.{Node}
@@ -13,18 +13,14 @@ use Rattle.gp_rules.specs.declared.rules.PaxosRules.{PaxosRules}
 use Rattle.gp_cell.specs.Cells.{CellState, pass_of}
 use Rattle.gp_cell.specs.Working.{IsAt}
 use Rattle.gp_node.specs.Endings.{AreAllCells}
-use Rattle.gp_rules.specs.Own.{IsBehind}
-use Rattle.gp_quiet.proofs.Indexing.{each_of, get_each, each_then}
-use Rattle.gp_quiet.proofs.Holding.{each_begun}
+use Rattle.gp_wire.specs.Own.{IsBehind}
+use Rattle.gp_ending.proofs.Indexing.{each_of, get_each, each_then}
+use Rattle.gp_ending.proofs.Holding.{each_begun}
 use Rattle.gp_stage.specs.Held.{AreReady, AreUp, AreCellsOf, HasCell}
+use Rattle.gp_ending.proofs.Deciding.{no_some}
 use Rattle.gp_closing.specs.Cells.{IsKnownCell, AreCellsAt, node_in}
 use Rattle.gp_closing.specs.Closing.{IsClosedBy, IsRunOfCells}
-
-some_is : {A : Type 0} {x y : A} → Some x ≡ Some y → x ≡ y
-some_is e = cc
-
-none_is : {A P : Type 0} {x : A} → None ≡ Some x → P
-none_is {A} {P} {x} e = absurd (let wrong : None ≡ Some x = e in cc)
+use Rattle.gp_closing.proofs.Settled.{some_is}
 
 module _ {D : Type 0} where
   has_cell : (n : Node) (cells : List (CellState D)) → Has n (map node_in cells) → HasCell n cells
@@ -33,12 +29,12 @@ module _ {D : Type 0} where
   has_cell n (c ∷ cs) (inr h) = let r = has_cell n cs h in (suc r.0, r.1, r.2, r.3)
 
   has_node : (cells : List (CellState D)) (i : ℕ) (c : CellState D) → slice_get cells i ≡ Some c → Has c.node (map node_in cells)
-  has_node [] i c e = none_is e
+  has_node [] i c e = no_some e
   has_node (x ∷ xs) zero c e = inl (ap node_in (sym (some_is e)))
   has_node (x ∷ xs) (suc i) c e = inr (has_node xs i c e)
 
   one_place : (cells : List (CellState D)) (i j : ℕ) (c d : CellState D) → IsDistinct (map node_in cells) → slice_get cells i ≡ Some c → slice_get cells j ≡ Some d → c.node ≡ d.node → i ≡ j
-  one_place [] i j c d u e f same = none_is e
+  one_place [] i j c d u e f same = no_some e
   one_place (x ∷ xs) zero zero c d u e f same = refl
   one_place (x ∷ xs) zero (suc j) c d u e f same = absurd (u.0 (subst (λ n. Has n (map node_in xs)) (sym same ∙ ap node_in (sym (some_is e))) (has_node xs j d f)))
   one_place (x ∷ xs) (suc i) zero c d u e f same = absurd (u.0 (subst (λ n. Has n (map node_in xs)) (same ∙ ap node_in (sym (some_is f))) (has_node xs i c e)))

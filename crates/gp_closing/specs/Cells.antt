@@ -53,6 +53,10 @@ pub record CellGoes {D : Type 0} (faults : D → ℕ) (c d : CellState D) : Type
 abbrev pub CellsGo : {D : Type 0} → (D → ℕ) → List (CellState D) → List (CellState D) → Type 0
 CellsGo faults = AllZip (CellGoes faults)
 
+-- how often the disks of these nodes failed, in the order of the nodes
+abbrev pub disk_counts : {D : Type 0} → (D → ℕ) → List (CellState D) → List ℕ
+disk_counts {D} faults cells = map (λ (c : CellState D). faults_of faults c.log) cells
+
 -- the disk of one of these nodes failed
 pub record SomeCellRose {D : Type 0} (faults : D → ℕ) (old new : List (CellState D)) : Type 0 where
   pub place : ℕ

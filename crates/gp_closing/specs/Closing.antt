@@ -1,5 +1,5 @@
 -- What is left of a run whose wire was closed.
-use Rattle.std.specs.Prelude.{◌≡◌, ◌⊎◌, ℕ, true, List, map, slice_get, Option, Some, None, Result, Ok, Err}
+use Rattle.std.specs.Prelude.{◌≡◌, ◌≢◌, ◌⊎◌, ℕ, true, false, List, map, slice_get, Option, Some, None, Result, Ok, Err}
 use Rattle.std.specs.List.{All}
 use Rattle.gp_round.specs.Counts.{Counts}
 use Rattle.gp_msg.specs.declared.event.Event.{Event}
@@ -11,7 +11,7 @@ use Rattle.gp_vlog.specs.Logs.{LogState}
 use Rattle.gp_wire.specs.Ends.{Closed}
 use Rattle.gp_wire.specs.Known.{WireState, PassState, records}
 use Rattle.gp_rules.specs.Lawful.{paxos_legal}
-use Rattle.gp_rules.specs.Own.{own_events, IsBehind}
+use Rattle.gp_wire.specs.Own.{own_events, IsBehind}
 use Rattle.gp_rules.specs.declared.rules.PaxosRules.{PaxosRules}
 use Rattle.gp_cell.specs.Cells.{CellState, pass_of}
 use Rattle.gp_cell.specs.Refusals.{IsTooGreat}
@@ -19,10 +19,11 @@ use Rattle.gp_driver.specs.declared.stage.StageFault.{StageFault}
 use Rattle.gp_driver.specs.declared.stage.StageFault.TheVariants as fault
 use Rattle.gp_driver.specs.Settling.{settle}
 use Rattle.gp_driver.specs.Settled.{AllLearned}
+use Rattle.gp_driver.specs.Stages.{is_fall, Extends}
 use Rattle.gp_stage.specs.Held.{AreUp, with_pass}
 use Rattle.gp_ending.specs.declared.ends.RunEnd.{RunEnd}
 use Rattle.gp_ending.specs.declared.ends.RunEnd.TheVariants.{Learned, NoMemory, Disk, Full, NotLog, Changed}
-use Rattle.gp_closing.specs.Cells.{IsKnownCell, HasLearned, CellsGo, SomeCellRose, logs_of}
+use Rattle.gp_closing.specs.Cells.{IsKnownCell, HasLearned, CellsGo, SomeCellRose, disk_counts, logs_of}
 
 -- these cells closed the wire with this list, which is a legal run
 pub record IsClosedBy {D : Type 0} (wire : WireState PaxosRules) (cells : List (CellState D)) (list : List Record) : Type 0 where
@@ -39,7 +40,7 @@ pub record IsRunOfCells {D : Type 0} (config : Counts) (cells : List (CellState 
   pub legal : Legal config (newest_first list)
   pub behind : (i : ℕ) (c : CellState D) → slice_get cells i ≡ Some c → IsBehind c.node (records c.pass) list
 
--- at one of these cells, with a pass that has seen this list, an event may come next that is too great for the cell's log
+-- at one of these cells, with a pass that has seen this list, an event, not a crash, may come next that is too great for the cell's log
 pub record IsTooGreatFor {D : Type 0} (config : Counts) (cells : List (CellState D)) (list : List Record) (size needed : ℕ) : Type 0 where
   pub cell : CellState D
   pub place : ℕ
@@ -48,6 +49,7 @@ pub record IsTooGreatFor {D : Type 0} (config : Counts) (cells : List (CellState
   pub whole : records pass ≡ list
   pub event : Event
   pub may_come : fits config (newest_first list) event ≡ true
+  pub no_fall : is_fall event ≡ false
   pub great : IsTooGreat (with_pass cell pass) event size needed
 
 -- the end of a run that was closed as it was: the end that was meant; or, if none was meant, either every learner has at least so many commands, or memory ran out
@@ -64,23 +66,26 @@ SettledTo faults config before cells after list (Full size needed) = IsTooGreatF
 SettledTo faults config before cells after list (NotLog at) = ⊥
 SettledTo faults config before cells after list Changed = ⊥
 
--- a run that was settled, since some learner had too few commands. The proposers made no more events
+-- a run that was settled, since some learner had too few commands. It extends the run before, the proposers made no more events, and no disk failed unless that ended it
 pub record IsSettling {D : Type 0} (faults : D → ℕ) (config : Counts) (commands : ℕ) (cells after : List (CellState D)) (end : RunEnd) (list : List Record) : Type 0 where
   pub before : List Record
   pub run : IsRunOfCells config cells before
   pub lacking : ¬ All (HasLearned commands) cells
+  pub extends : Extends (newest_first before) (newest_first list)
   pub rest : (i : ℕ) (c : CellState D) (p : ℕ) → slice_get cells i ≡ Some c → c.node ≡ Proposer p → own_events c.node list ≡ own_events c.node before
   pub settled : SettledTo faults config before cells after list end
+  pub steady : end ≢ Disk → disk_counts faults after ≡ disk_counts faults cells
 
 -- the list of a run that these cells closed: as it was, or, if no end was meant, after it was settled
 pub data IsConclusion {D : Type 0} (faults : D → ℕ) (config : Counts) (commands : ℕ) (cells after : List (CellState D)) (meant : Option RunEnd) (end : RunEnd) (list : List Record) : Type 0 where
   Stood : after ≡ cells → StoodTo commands cells meant end → IsConclusion faults config commands cells after meant end list
   Settled : meant ≡ None → IsSettling faults config commands cells after end list → IsConclusion faults config commands cells after meant end list
 
--- what is left of a run of these cells: the cells as they are later, and the list, if memory was enough to close the wire
+-- what is left of a run of these cells: the cells as they are later, which are those that were given if an end was meant, and the list, if memory was enough to close the wire
 pub record Concludes {D : Type 0} (faults : D → ℕ) (config : Counts) (commands : ℕ) (cells : List (CellState D)) (meant : Option RunEnd) (end : RunEnd) (posted : Option (List Record)) (after : List (CellState D)) : Type 0 where
   pub goes : CellsGo faults cells after
   pub known : All IsKnownCell after
+  pub stood : meant ≢ None → after ≡ cells
   pub none : posted ≡ None → end ≡ NoMemory
   pub some : (list : List Record) → posted ≡ Some list → IsRunOfCells config after list × IsConclusion faults config commands cells after meant end list
 

@@ -1,7 +1,7 @@
 //! The cells of jobs.
 ghost use Rattle.std.specs.Prelude.{◌≡◌, ◌↔◌, ◌≤◌, ◌+◌, ◌++◌, IsTrue, true, false, length, vec_len, vec_capacity};
 ghost use Rattle.std.specs.List.{All};
-ghost use Rattle.gp_quiet.specs.Ended.{cells_of};
+ghost use Rattle.gp_ending.specs.Ended.{cells_of};
 ghost use Rattle.gp_closing.specs.Cells.{IsKnownCell, HasLearned};
 
 use gp_edge::Disk;

@@ -15,9 +15,9 @@ use Rattle.gp_rules.specs.declared.rules.PaxosRules.{PaxosRules}
 use Rattle.gp_work.specs.declared.job.Job.{Job}
 use Rattle.gp_cell.specs.Cells.{CellState}
 use Rattle.gp_cell.specs.Refusals.{faults_of}
-use Rattle.gp_quiet.specs.Ended.{cells_of, cells_in, EndedRun, EndsQuietly, IsListOf, StaysSteady}
-use Rattle.gp_rules.specs.Own.{IsBehind}
-use Rattle.gp_quiet.proofs.Ending.{is_quiet, is_adaptive}
+use Rattle.gp_ending.specs.Ended.{cells_of, cells_in, EndedRun, EndsQuietly, IsListOf, StaysSteady}
+use Rattle.gp_wire.specs.Own.{IsBehind}
+use Rattle.gp_ending.proofs.Ending.{is_quiet, is_adaptive}
 use Rattle.gp_seats.specs.Offering.{HasOffered, IsKnown, given_to}
 use Rattle.gp_shelf.specs.Lists.{disk_in}
 use Rattle.gp_shelf.specs.Making.{SomeRose}
@@ -40,16 +40,16 @@ use Rattle.gp_cluster.proofs.Outcome as outcome
 use Rattle.gp_cluster.proofs.Outcome.{learned_quietly}
 
 -- the law of quiet runs, for each choice of rounds
-quiet_by : {D : Type 0} (policy : RoundPolicy) (faults : D → ℕ) (wire : WireState PaxosRules) (run : EndedRun D) (list : List Record) → EndsQuietly (answers_of policy) faults wire run → IsListOf wire run list → StaysSteady faults run → IsQuietBy policy wire.rules.config list
-quiet_by Multi faults wire run list q l u = is_quiet faults wire run list q l u
-quiet_by Adaptive faults wire run list q l u = is_adaptive faults wire run list q l u
+quiet_by : {D : Type 0} (policy : RoundPolicy) (content : D → Option (List ℕ)) (faults : D → ℕ) (wire : WireState PaxosRules) (run : EndedRun D) (list : List Record) → EndsQuietly (answers_of policy) content faults wire run → IsListOf wire run list → StaysSteady faults run → IsQuietBy policy wire.rules.config list
+quiet_by Multi content faults wire run list q l u = is_quiet content faults wire run list q l u
+quiet_by Adaptive content faults wire run list q l u = is_adaptive content faults wire run list q l u
 
-module _ {D : Type 0} (policy : RoundPolicy) (faults : D → ℕ) (config : Counts) (wire : WireState PaxosRules) (offers : List (ℕ × DraftView)) (jobs proposing worked offered : List (Job (CellState D))) (s : IsSeated config wire jobs proposing (logs_in jobs))
-    (size : length worked ≡ length jobs) (carried : (i : ℕ) (d : Job (CellState D)) → i < length jobs → IsCarriedJob faults wire (get_or jobs i d) (get_or worked i d))
+module _ {D : Type 0} (policy : RoundPolicy) (content : D → Option (List ℕ)) (faults : D → ℕ) (config : Counts) (wire : WireState PaxosRules) (offers : List (ℕ × DraftView)) (jobs proposing worked offered : List (Job (CellState D))) (s : IsSeated config wire jobs proposing (logs_in jobs))
+    (size : length worked ≡ length jobs) (carried : (i : ℕ) (d : Job (CellState D)) → i < length jobs → IsCarriedJob content faults wire (get_or jobs i d) (get_or worked i d))
     (as_many : length offered ≡ length proposing) (has : (i : ℕ) (d : Job (CellState D)) → i < length proposing → HasOffered faults wire offers (get_or proposing i d) (get_or offered i d))
     (known_worked : All IsKnownCell (cells_of worked)) (known_offered : All IsKnownCell (cells_of offered))
     (end : Option RunEnd) (decided : IfSome end (IsDecided worked)) (known_offers : All IsKnown offers) (some : 0 < config.acceptors)
-    (quiet : end ≡ None → EndsQuietlyFrom (answers_of policy) faults wire (map (given_to offers) proposing) offered jobs worked)
+    (quiet : end ≡ None → EndsQuietlyFrom (answers_of policy) content faults wire (map (given_to offers) proposing) offered jobs worked)
     (e : RunEnd) (posted : Option (List Record)) (logs : List (LogState D)) (left : Leaves faults config (length offers) (cells_of worked ++ cells_of offered) end e posted logs) where
   abbrev given : List (Job (CellState D))
   given = map (given_to offers) proposing
@@ -58,14 +58,14 @@ module _ {D : Type 0} (policy : RoundPolicy) (faults : D → ℕ) (config : Coun
   given_long = length-map proposing (given_to offers)
 
   module _ (none : end ≡ None) (calm : ¬ SomeRose faults (map disk_in (logs_in jobs)) (map disk_in logs)) where
-    ends : EndsQuietlyFrom (answers_of policy) faults wire given offered jobs worked
+    ends : EndsQuietlyFrom (answers_of policy) content faults wire given offered jobs worked
     ends = quiet none
 
     no_cell : ¬ SomeCellRose faults (cells_of jobs ++ cells_of proposing) (cells_of worked ++ cells_of offered)
-    no_cell r = calm (subst (λ xs. SomeRose faults (map disk_in xs) (map disk_in logs)) (outcome.logs_before faults config wire offers jobs proposing worked offered s size carried as_many has known_worked known_offered)
+    no_cell r = calm (subst (λ xs. SomeRose faults (map disk_in xs) (map disk_in logs)) (outcome.logs_before content faults config wire offers jobs proposing worked offered s size carried as_many has known_worked known_offered)
         (subst (λ ys. SomeRose faults (map disk_in (logs_of (cells_of jobs ++ cells_of proposing))) (map disk_in ys)) (sym left.logs_are)
         (cell_rose faults (cells_of jobs ++ cells_of proposing) left.after
-        (outcome.go_on faults config wire offers jobs proposing worked offered s size carried as_many has known_worked known_offered end decided known_offers some e posted logs left)
+        (outcome.go_on content faults config wire offers jobs proposing worked offered s size carried as_many has known_worked known_offered end decided known_offers some e posted logs left)
         (rose_after faults (cells_of jobs ++ cells_of proposing) (cells_of worked ++ cells_of offered) left.after left.concludes.goes r))))
 
     steady : StaysSteady faults ends.run
@@ -85,7 +85,7 @@ module _ {D : Type 0} (policy : RoundPolicy) (faults : D → ℕ) (config : Coun
 
     -- a list of the cells is quiet
     pub quiet_list : (list : List Record) → IsRunOfCells config (cells_of worked ++ cells_of offered) list → IsQuietBy policy config list
-    quiet_list list r = subst (λ k. IsQuietBy policy k list) s.rules (quiet_by policy faults wire ends.run list ends.quiet is_list steady)
+    quiet_list list r = subst (λ k. IsQuietBy policy k list) s.rules (quiet_by policy content faults wire ends.run list ends.quiet is_list steady)
       where
         is_list : IsListOf wire ends.run list
         is_list = record {
@@ -100,16 +100,16 @@ module _ {D : Type 0} (policy : RoundPolicy) (faults : D → ℕ) (config : Coun
       let all = learned_quietly worked (length offers) (cells_of worked ++ cells_of offered) end e decided st l in record {
         before = list;
         quiet = quiet_list all.0 calm list run;
-        offered = outcome.offered_all faults config wire offers jobs proposing worked offered s size carried as_many has known_worked known_offered list kept;
-        settled = inl (refl, outcome.learned_if faults config wire offers jobs proposing worked offered s size carried as_many has known_worked known_offered end decided known_offers some e posted logs left list run kept all.1);
+        offered = outcome.offered_all content faults config wire offers jobs proposing worked offered s size carried as_many has known_worked known_offered list kept;
+        settled = inl (refl, outcome.learned_if content faults config wire offers jobs proposing worked offered s size carried as_many has known_worked known_offered end decided known_offers some e posted logs left list run kept all.1);
       }
   by_conclusion list r (Settled none q) l calm =
       let kept = run_keeps config (cells_of worked ++ cells_of offered) q.before q.run in record {
         before = q.before;
         quiet = quiet_list none calm q.before q.run;
-        offered = outcome.offered_all faults config wire offers jobs proposing worked offered s size carried as_many has known_worked known_offered q.before kept;
+        offered = outcome.offered_all content faults config wire offers jobs proposing worked offered s size carried as_many has known_worked known_offered q.before kept;
         settled = inr (
-          (λ all. q.lacking (outcome.held_if faults config wire offers jobs proposing worked offered s size carried as_many has known_worked known_offered end decided known_offers some e posted logs left q.before q.run kept all)),
+          (λ all. q.lacking (outcome.held_if content faults config wire offers jobs proposing worked offered s size carried as_many has known_worked known_offered end decided known_offers some e posted logs left q.before q.run kept all)),
           (subst (SettledTo faults config q.before (cells_of worked ++ cells_of offered) left.after list) l q.settled).0,
         );
       }

@@ -13,8 +13,8 @@ use Rattle.gp_work.specs.declared.moves.Move.{Move}
 use Rattle.gp_cell.specs.Cells.{CellState}
 use Rattle.gp_cell.specs.Working.{process_of, is_up}
 use Rattle.gp_work.proofs.Stretches.{goes_same, posted_none}
-use Rattle.gp_quiet.specs.Ended.{cells_of}
-use Rattle.gp_quiet.proofs.Indexing.{get_each, each_both}
+use Rattle.gp_ending.specs.Ended.{cells_of}
+use Rattle.gp_ending.proofs.Indexing.{get_each, each_both}
 use Rattle.gp_seats.specs.Seats.{IsNewAt}
 use Rattle.gp_seats.specs.Offering.{HasOffered}
 use Rattle.gp_stage.specs.Held.{AreUp}
@@ -45,9 +45,9 @@ none_of None e = refl
 none_of (Some x) e = absurd (let wrong : false ≡ true = e in cc)
 
 -- if nothing is left to do, all nodes are up
-pub up_at_end : {D : Type 0} (faults : D → ℕ) (policy : RoundPolicy) (config : Counts) (wire : WireState PaxosRules) (offers : List (ℕ × DraftView)) (jobs proposing worked offered : List (Job (CellState D))) (end : Option RunEnd)
-    → IsCarriedRun faults policy config wire offers jobs proposing worked offered end → end ≡ None → AreUp (cells_of worked ++ cells_of offered)
-up_at_end {D} faults policy config wire offers jobs proposing worked offered end r none = get_each (λ c. c.down ≡ None) (cells_of worked ++ cells_of offered)
+pub up_at_end : {D : Type 0} (content : D → Option (List ℕ)) (faults : D → ℕ) (policy : RoundPolicy) (config : Counts) (wire : WireState PaxosRules) (offers : List (ℕ × DraftView)) (jobs proposing worked offered : List (Job (CellState D))) (end : Option RunEnd)
+    → IsCarriedRun content faults policy config wire offers jobs proposing worked offered end → end ≡ None → AreUp (cells_of worked ++ cells_of offered)
+up_at_end {D} content faults policy config wire offers jobs proposing worked offered end r none = get_each (λ c. c.down ≡ None) (cells_of worked ++ cells_of offered)
     (each_both (λ c. c.down ≡ None) (cells_of worked) (cells_of offered) (each_cell (λ c. c.down ≡ None) worked worked_up) (each_cell (λ c. c.down ≡ None) offered offered_up))
   where
     worked_up : (i : ℕ) (d : Job (CellState D)) → i < length worked → (get_or worked i d).cell.down ≡ None
@@ -86,6 +86,6 @@ module _ {D : Type 0} (faults : D → ℕ) (config : Counts) (commands : ℕ) (c
       by_posted (Some list) is = by_conclusion list (left.concludes.some list is).1 l
 
 -- the logs of jobs that were carried
-pub logs_carried : {D : Type 0} (faults : D → ℕ) (wire : WireState PaxosRules) (jobs worked : List (Job (CellState D))) → length worked ≡ length jobs
-    → ((i : ℕ) (d : Job (CellState D)) → i < length jobs → IsCarriedJob faults wire (get_or jobs i d) (get_or worked i d)) → AllZip (LogGoes faults) (logs_in jobs) (logs_in worked)
-logs_carried faults wire jobs worked size carried = logs_go faults (cells_of jobs) (cells_of worked) (go_cells faults jobs worked size (λ i d l. (carried i d l).goes))
+pub logs_carried : {D : Type 0} (content : D → Option (List ℕ)) (faults : D → ℕ) (wire : WireState PaxosRules) (jobs worked : List (Job (CellState D))) → length worked ≡ length jobs
+    → ((i : ℕ) (d : Job (CellState D)) → i < length jobs → IsCarriedJob content faults wire (get_or jobs i d) (get_or worked i d)) → AllZip (LogGoes faults) (logs_in jobs) (logs_in worked)
+logs_carried content faults wire jobs worked size carried = logs_go faults (cells_of jobs) (cells_of worked) (go_cells faults jobs worked size (λ i d l. (carried i d l).goes))

@@ -1,6 +1,6 @@
 -- Why a run ended: disks that failed, and logs that were full.
-use Rattle.std.proofs.Common.{◌≡◌, ◌<◌, ℕ, zero, suc, true, cond, List, [], ◌∷◌, ◌++◌, length, refl, sym, ap, ◌∙◌, subst, arith, Option, Some, None}
-use Rattle.std.specs.Prelude.{slice_get, nat_eq, nat_lt}
+use Rattle.std.proofs.Common.{◌≡◌, ℕ, zero, suc, true, cond, List, [], ◌∷◌, ◌++◌, length, refl, sym, ap, ◌∙◌, subst, arith, Option, Some, None}
+use Rattle.std.specs.Prelude.{slice_get, nat_eq}
 use Rattle.std.specs.List.{AllZip}
 use Rattle.std.specs.Option.{option_to_list}
 use Rattle.std.proofs.lemmas.Bool.{ltb-true}
@@ -22,7 +22,6 @@ use Rattle.gp_msg.specs.Nodes.{is_present, may_keep, fits_among, node_of}
 use Rattle.gp_run.specs.States.{coordinator_acts, coordinator_kept, acceptor_acts, acceptor_kept}
 use Rattle.gp_run.specs.Legal.{fits}
 use Rattle.gp_run.specs.Runs.{newest_first}
-use Rattle.gp_run.proofs.Choices.{right_true}
 use Rattle.gp_run.proofs.Telling.{messages-append}
 use Rattle.gp_vlog.specs.Logs.{LogState}
 use Rattle.gp_wire.specs.Lists.{Each}
@@ -35,20 +34,14 @@ use Rattle.gp_rules.specs.Still.{AreOthers, lawful_still, entries_append}
 use Rattle.gp_cell.specs.Cells.{CellState}
 use Rattle.gp_cell.specs.Refusals.{IsTooGreat}
 use Rattle.gp_cell.proofs.Posting.{nothing_own}
-use Rattle.gp_rules.specs.Own.{IsBehind}
+use Rattle.gp_wire.specs.Own.{IsBehind}
 use Rattle.gp_closing.specs.Cells.{LogGoes, logs_of}
 use Rattle.gp_closing.specs.Closing.{IsTooGreatFor}
+use Rattle.gp_run.proofs.Others.{front, named_stands}
+use Rattle.gp_round.proofs.Counting.{right_true}
 use Rattle.gp_cluster.specs.Runs.{IsOverLimit}
 
 -- ---- what an event does to a core does not change when more is sent
-
-get_front : {X : Type 0} (xs ys : List X) (k : ℕ) → k < length xs → slice_get (xs ++ ys) k ≡ slice_get xs k
-get_front [] ys k l = absurd (omega (arith, l))
-get_front (x ∷ xs) ys zero l = refl
-get_front (x ∷ xs) ys (suc k) l = get_front xs ys k (omega (arith, l))
-
-named_below : (config : Counts) (n : Node) (k have : ℕ) → fits_among config have (Take n k) ≡ true → k < have
-named_below config n k have h = ltb-true k have (right_true (is_present config n) (nat_lt k have) h)
 
 keeps : (config : Counts) (n : Node) (what : Option Kept) (have : ℕ) → fits_among config have (Fall n what) ≡ true → may_keep config have n what ≡ true
 keeps config n what have h = right_true (is_present config n) (may_keep config have n what) h
@@ -56,19 +49,19 @@ keeps config n what have h = right_true (is_present config n) (may_keep config h
 coordinator_after_crash : (config : Counts) (b : ℕ) (s : CoordinatorInEpoch) (ms more : List Stamped) (what : Option Kept) → may_keep config (length ms) (node.Coordinator b) what ≡ true → coordinator_kept s (ms ++ more) what ≡ coordinator_kept s ms what
 coordinator_after_crash config b s ms more None h = refl
 coordinator_after_crash config b s ms more (Some (kept.Begin r)) h = refl
-coordinator_after_crash config b s ms more (Some (kept.Take k)) h = ap (λ o. on_message (coordinator.durable s) (λ m. coordinator.durable (coordinator.take s m).0) o) (get_front ms more k (ltb-true k (length ms) h))
+coordinator_after_crash config b s ms more (Some (kept.Take k)) h = ap (λ o. on_message (coordinator.durable s) (λ m. coordinator.durable (coordinator.take s m).0) o) (front ms more k (ltb-true k (length ms) h))
 
 acceptor_after_crash : (config : Counts) (b : ℕ) (s : AcceptorInEpoch) (ms more : List Stamped) (what : Option Kept) → may_keep config (length ms) (node.Acceptor b) what ≡ true → acceptor_kept s (ms ++ more) what ≡ acceptor_kept s ms what
 acceptor_after_crash config b s ms more None h = refl
 acceptor_after_crash config b s ms more (Some (kept.Begin r)) h = refl
-acceptor_after_crash config b s ms more (Some (kept.Take k)) h = ap (λ o. on_message (acceptor.durable s) (λ m. acceptor.durable (acceptor.take s m).0) o) (get_front ms more k (ltb-true k (length ms) h))
+acceptor_after_crash config b s ms more (Some (kept.Take k)) h = ap (λ o. on_message (acceptor.durable s) (λ m. acceptor.durable (acceptor.take s m).0) o) (front ms more k (ltb-true k (length ms) h))
 
 coordinator_next : (config : Counts) (c : ℕ) (s : CoordinatorInEpoch) (ms more : List Stamped) (event : Event) → fits_among config (length ms) event ≡ true → (coordinator_acts c s (ms ++ more) event).0 ≡ (coordinator_acts c s ms event).0
 coordinator_next config c s ms more (Offer p d) h = refl
 coordinator_next config c s ms more (Begin b r) h = refl
 coordinator_next config c s ms more (Take (node.Proposer p) k) h = refl
 coordinator_next config c s ms more (Take (node.Coordinator b) k) h =
-    ap (λ o. (cond (nat_eq c b) (on_message (s, None) (coordinator.take s) o) (s, None)).0) (get_front ms more k (named_below config (node.Coordinator b) k (length ms) h))
+    ap (λ o. (cond (nat_eq c b) (on_message (s, None) (coordinator.take s) o) (s, None)).0) (front ms more k (named_stands config (node.Coordinator b) k (length ms) h))
 coordinator_next config c s ms more (Take (node.Acceptor a) k) h = refl
 coordinator_next config c s ms more (Take (node.Learner l) k) h = refl
 coordinator_next config c s ms more (Fall (node.Proposer p) what) h = refl
@@ -83,7 +76,7 @@ acceptor_next config a s ms more (Begin c r) h = refl
 acceptor_next config a s ms more (Take (node.Proposer p) k) h = refl
 acceptor_next config a s ms more (Take (node.Coordinator c) k) h = refl
 acceptor_next config a s ms more (Take (node.Acceptor b) k) h =
-    ap (λ o. (cond (nat_eq a b) (on_message (s, None) (acceptor.take s) o) (s, None)).0) (get_front ms more k (named_below config (node.Acceptor b) k (length ms) h))
+    ap (λ o. (cond (nat_eq a b) (on_message (s, None) (acceptor.take s) o) (s, None)).0) (front ms more k (named_stands config (node.Acceptor b) k (length ms) h))
 acceptor_next config a s ms more (Take (node.Learner l) k) h = refl
 acceptor_next config a s ms more (Fall (node.Proposer p) what) h = refl
 acceptor_next config a s ms more (Fall (node.Coordinator c) what) h = refl

@@ -1,5 +1,5 @@
 -- The cells of jobs, from the start of a run to its end.
-use Rattle.std.proofs.Common.{◌≡◌, ◌<◌, ℕ, suc, List, [], ◌∷◌, ◌++◌, map, length, get_or, refl, sym, ap, ◌∙◌, arith, append_assoc}
+use Rattle.std.proofs.Common.{◌≡◌, ◌<◌, ℕ, suc, List, [], ◌∷◌, ◌++◌, map, length, get_or, refl, sym, ap, ◌∙◌, arith, Option, append_assoc}
 use Rattle.std.specs.List.{All}
 use Rattle.std.specs.Option.{option_to_list}
 use Rattle.std.proofs.lemmas.List.{append-nil, map-append}
@@ -13,21 +13,18 @@ use Rattle.gp_work.specs.declared.job.Job.{Job}
 use Rattle.gp_work.specs.Doing.{Goes}
 use Rattle.gp_cell.specs.Cells.{CellState}
 use Rattle.gp_cell.specs.Working.{process_of, IsAt}
-use Rattle.gp_quiet.specs.Ended.{cell_in, cells_of, nodes_of}
-use Rattle.gp_quiet.proofs.Indexing.{each_of, each_at, each_both, each_mapped}
+use Rattle.gp_ending.specs.Ended.{cell_in, cells_of, nodes_of}
+use Rattle.gp_ending.proofs.Indexing.{each_of, each_both, each_mapped}
 use Rattle.gp_seats.specs.Nodes.{working_nodes, proposer_nodes}
 use Rattle.gp_seats.specs.Seats.{new_passes}
 use Rattle.gp_seats.specs.Offering.{HasOffered}
-use Rattle.gp_seats.proofs.Sitting.{proposers_sit}
+use Rattle.gp_seats.proofs.Sitting.{proposers_sit, all_of_each}
 use Rattle.gp_shelf.proofs.Zips.{AllZip-append}
 use Rattle.gp_ending.specs.Working.{IsCarriedJob}
 use Rattle.gp_closing.specs.Cells.{IsKnownCell, AreCellsAt, CellGoes, CellsGo, node_in, logs_of}
 use Rattle.gp_closing.proofs.Going.{nodes_go}
 use Rattle.gp_cluster.specs.Seated.{IsSeated}
 use Rattle.gp_cluster.proofs.Starting.{seated_nodes, seated_logs}
-
-pub all_of : {A : Type 0} (P : A → Type 0) (xs : List A) → Each P xs → All P xs
-all_of P xs h k d l = each_at P xs h k d l
 
 module _ {D : Type 0} where
   pub nodes_of_cells : (js : List (Job (CellState D))) → map node_in (cells_of js) ≡ nodes_of js
@@ -53,8 +50,8 @@ module _ {D : Type 0} where
         go_cells faults js ks (omega (arith, e)) (λ i d l. h (suc i) d (omega (arith, l))),
       )
 
-module _ {D : Type 0} (faults : D → ℕ) (config : Counts) (wire : WireState PaxosRules) (offers : List (ℕ × DraftView)) (jobs proposers worked offered : List (Job (CellState D))) (logs : List (LogState D)) (s : IsSeated config wire jobs proposers logs)
-    (size : length worked ≡ length jobs) (carried : (i : ℕ) (d : Job (CellState D)) → i < length jobs → IsCarriedJob faults wire (get_or jobs i d) (get_or worked i d))
+module _ {D : Type 0} (content : D → Option (List ℕ)) (faults : D → ℕ) (config : Counts) (wire : WireState PaxosRules) (offers : List (ℕ × DraftView)) (jobs proposers worked offered : List (Job (CellState D))) (logs : List (LogState D)) (s : IsSeated config wire jobs proposers logs)
+    (size : length worked ≡ length jobs) (carried : (i : ℕ) (d : Job (CellState D)) → i < length jobs → IsCarriedJob content faults wire (get_or jobs i d) (get_or worked i d))
     (as_many : length offered ≡ length proposers) (has : (i : ℕ) (d : Job (CellState D)) → i < length proposers → HasOffered faults wire offers (get_or proposers i d) (get_or offered i d)) where
   abbrev pub first : List (CellState D)
   first = cells_of jobs ++ cells_of proposers
@@ -93,7 +90,7 @@ module _ {D : Type 0} (faults : D → ℕ) (config : Counts) (wire : WireState P
 
   pub are_cells : All IsKnownCell (cells_of worked) → All IsKnownCell (cells_of offered) → AreCellsAt wire last
   are_cells a b = record {
-    own = all_of (λ c. IsAt c wire) last each_at_wire;
-    known = all_of IsKnownCell last (each_both IsKnownCell (cells_of worked) (cells_of offered) (each_of IsKnownCell (cells_of worked) a) (each_of IsKnownCell (cells_of offered) b));
+    own = all_of_each (λ c. IsAt c wire) last each_at_wire;
+    known = all_of_each IsKnownCell last (each_both IsKnownCell (cells_of worked) (cells_of offered) (each_of IsKnownCell (cells_of worked) a) (each_of IsKnownCell (cells_of offered) b));
     nodes = last_nodes;
   }

@@ -6,7 +6,7 @@ use Rattle.gp_edge.specs.Faults.{Rose}
 use Rattle.gp_work.specs.declared.job.Job.{Job}
 use Rattle.gp_cell.specs.Cells.{CellState}
 use Rattle.gp_cell.specs.Refusals.{faults_of}
-use Rattle.gp_quiet.specs.Ended.{cell_in, cells_of}
+use Rattle.gp_ending.specs.Ended.{cell_in, cells_of}
 use Rattle.gp_shelf.proofs.Segments.{get-append_left, get-append_right}
 use Rattle.gp_closing.specs.Cells.{SomeCellRose}
 

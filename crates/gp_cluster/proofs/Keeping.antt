@@ -1,5 +1,5 @@
 -- What the logs of a run hold at its end.
-use Rattle.std.proofs.Common.{◌≡◌, ℕ, zero, suc, Bool, true, false, List, [], ◌∷◌, ◌++◌, map, refl, sym, ap, ◌∙◌, subst, Option, Some, None}
+use Rattle.std.proofs.Common.{◌≡◌, ℕ, Bool, true, false, List, [], ◌∷◌, ◌++◌, map, refl, sym, ap, ◌∙◌, subst, Option, Some, None}
 use Rattle.std.specs.List.{AllZip}
 use Rattle.std.specs.Option.{option_to_list}
 use Rattle.gp_round.specs.Counts.{Counts}
@@ -13,11 +13,10 @@ use Rattle.gp_wire.specs.Lists.{Each}
 use Rattle.gp_rules.specs.Cores.{opening, core_at, part_in}
 use Rattle.gp_cell.specs.Cells.{CellState, Keeps, last_or}
 use Rattle.gp_cell.specs.Crashes.{last_part}
-use Rattle.gp_seats.specs.declared.nodes.Role.{Role}
-use Rattle.gp_seats.specs.declared.nodes.Role.TheVariants.{Acceptor, Coordinator, Learner, Proposer}
-use Rattle.gp_seats.specs.Nodes.{node_of, first_of, logged_nodes, proposer_nodes}
+use Rattle.gp_seats.specs.declared.nodes.Role.TheVariants.{Learner, Proposer}
+use Rattle.gp_seats.specs.Nodes.{first_of, proposer_nodes}
 use Rattle.gp_seats.specs.Seats.{has_log}
-use Rattle.gp_seats.proofs.Sitting.{each_both}
+use Rattle.gp_seats.proofs.Sitting.{each_both, each_first}
 use Rattle.gp_closing.specs.Cells.{node_in, logs_of}
 use Rattle.gp_cluster.specs.Runs.{EndsWith}
 
@@ -92,14 +91,6 @@ module _ {D : Type 0} where
       let both : c.node ∷ map node_in cs ≡ n ∷ (ns ++ ms) = e in let same : c.node ≡ n = cc in let rest : map node_in cs ≡ ns ++ ms = cc in
       let g = good.0.some (ap has_log same ∙ h.0) in
       subst (λ o. AllZip Q (n ∷ ns) (option_to_list o ++ logs_of cs)) (sym g.1) (subst (λ m. Q m g.0) same g.2, all_logs Q cs ns ms rest h.1 k good.1)
-
-each_first : (P : Node → Type 0) (r : Role) (k : ℕ) → ((i : ℕ) → P (node_of r i)) → Each P (first_of r k)
-each_first P r zero h = tt
-each_first P r (suc k) h = each_both P (first_of r k) (node_of r k ∷ []) (each_first P r k h) (h k, tt)
-
--- the nodes with a log, and the others
-pub logged_have : (config : Counts) → Each (λ n. has_log n ≡ true) (logged_nodes config)
-logged_have config = each_both (λ n. has_log n ≡ true) (first_of Acceptor config.acceptors) (first_of Coordinator config.coordinators) (each_first (λ n. has_log n ≡ true) Acceptor config.acceptors (λ i. refl)) (each_first (λ n. has_log n ≡ true) Coordinator config.coordinators (λ i. refl))
 
 pub others_lack : (config : Counts) → Each (λ n. has_log n ≡ false) (first_of Learner config.learners ++ proposer_nodes)
 others_lack config = each_both (λ n. has_log n ≡ false) (first_of Learner config.learners) proposer_nodes (each_first (λ n. has_log n ≡ false) Learner config.learners (λ i. refl)) (each_first (λ n. has_log n ≡ false) Proposer 8 (λ i. refl))

@@ -18,7 +18,7 @@ use Rattle.gp_rules.specs.Still.{core_still, entries_append}
 use Rattle.gp_rules.proofs.Runs.{core_is, state_at}
 use Rattle.gp_cell.specs.Cells.{CellState}
 use Rattle.gp_cell.proofs.Posting.{nothing_own}
-use Rattle.gp_rules.specs.Own.{IsBehind}
+use Rattle.gp_wire.specs.Own.{IsBehind}
 use Rattle.gp_closing.specs.Cells.{IsKnownCell, HasLearned, node_in}
 
 -- the core of a cell is the state of its node after a list that begins with what it has seen

@@ -6,6 +6,7 @@ pub mod Causing
 pub mod Outcome
 pub mod Carried
 pub mod Failing
+pub mod Breaking
 pub mod Sitting
 pub mod Quieting
 pub mod Calming

@@ -16,13 +16,13 @@ use Rattle.gp_work.specs.declared.job.Job.{Job}
 use Rattle.gp_cell.specs.Cells.{CellState}
 use Rattle.gp_cell.specs.Working.{IsAt}
 use Rattle.gp_driver.specs.Settled.{AllLearned}
-use Rattle.gp_quiet.specs.Ended.{cells_of}
-use Rattle.gp_quiet.proofs.Indexing.{each_of, each_at, each_got, get_each}
+use Rattle.gp_ending.specs.Ended.{cells_of}
+use Rattle.gp_ending.proofs.Indexing.{each_of, each_at, each_got, get_each}
 use Rattle.gp_seats.specs.Nodes.{all_nodes, working_nodes, proposer_nodes}
 use Rattle.gp_seats.specs.Seats.{IsNewAt, IsNewJob}
 use Rattle.gp_seats.specs.Offering.{HasOffered, IsKnown}
 use Rattle.gp_seats.proofs.Listing.{present_all, all_present}
-use Rattle.gp_seats.proofs.Sitting.{new_jobs}
+use Rattle.gp_seats.proofs.Sitting.{new_jobs, all_of_each}
 use Rattle.gp_held.specs.Offers.{AreOffered}
 use Rattle.gp_held.proofs.Holding as held
 use Rattle.gp_ending.specs.declared.ends.RunEnd.{RunEnd}
@@ -39,7 +39,7 @@ use Rattle.gp_cluster.specs.declared.policy.RoundPolicy.TheVariants.{Multi, Adap
 use Rattle.gp_cluster.specs.Policies.{MayBeOffered}
 use Rattle.gp_cluster.specs.Runs.{IsRunOf, HasLearnedAll}
 use Rattle.gp_cluster.specs.Seated.{IsSeated, logs_in}
-use Rattle.gp_cluster.proofs.Celling.{all_go, are_cells, last_nodes, first_logs, proposers_nodes, each_at_wire, all_of}
+use Rattle.gp_cluster.proofs.Celling.{all_go, are_cells, last_nodes, first_logs, proposers_nodes, each_at_wire}
 use Rattle.gp_cluster.proofs.Posting.{KeepsProposer, run_keeps, rest_keeps, are_offered}
 use Rattle.gp_cluster.proofs.Learning.{Stands, core_behind, hold_all, show_all}
 
@@ -57,7 +57,7 @@ no_learned (fault.NotLog at) e = absurd cc
 no_learned (fault.Changed found) e = absurd cc
 
 never_learned : {P J : Type 0} (jobs : List (Job J)) (m : RunEnd) → IsDecided jobs m → m ≡ Learned → P
-never_learned jobs m (inl e) l = absurd (let wrong : NoMemory ≡ Learned = sym e ∙ l in cc)
+never_learned jobs m (inl e) l = absurd (let wrong : NoMemory ≡ Learned = sym e.0 ∙ l in cc)
 never_learned jobs m (inr e) l = let d = decides (map fault_in jobs) m e in no_learned d.fault (d.end_is ∙ l)
 
 -- a run that ended as all is learned was not to end otherwise
@@ -82,8 +82,8 @@ module _ {D : Type 0} (config : Counts) (cells : List (CellState D)) (list : Lis
 
 -- ---- the run
 
-module _ {D : Type 0} (faults : D → ℕ) (config : Counts) (wire : WireState PaxosRules) (offers : List (ℕ × DraftView)) (jobs proposing worked offered : List (Job (CellState D))) (s : IsSeated config wire jobs proposing (logs_in jobs))
-    (size : length worked ≡ length jobs) (carried : (i : ℕ) (d : Job (CellState D)) → i < length jobs → IsCarriedJob faults wire (get_or jobs i d) (get_or worked i d))
+module _ {D : Type 0} (content : D → Option (List ℕ)) (faults : D → ℕ) (config : Counts) (wire : WireState PaxosRules) (offers : List (ℕ × DraftView)) (jobs proposing worked offered : List (Job (CellState D))) (s : IsSeated config wire jobs proposing (logs_in jobs))
+    (size : length worked ≡ length jobs) (carried : (i : ℕ) (d : Job (CellState D)) → i < length jobs → IsCarriedJob content faults wire (get_or jobs i d) (get_or worked i d))
     (as_many : length offered ≡ length proposing) (has : (i : ℕ) (d : Job (CellState D)) → i < length proposing → HasOffered faults wire offers (get_or proposing i d) (get_or offered i d))
     (known_worked : All IsKnownCell (cells_of worked)) (known_offered : All IsKnownCell (cells_of offered)) where
   abbrev pub before : List (CellState D)
@@ -93,16 +93,16 @@ module _ {D : Type 0} (faults : D → ℕ) (config : Counts) (wire : WireState P
   cells = cells_of worked ++ cells_of offered
 
   pub go : CellsGo faults before cells
-  go = all_go faults config wire offers jobs proposing worked offered (logs_in jobs) s size carried as_many has
+  go = all_go content faults config wire offers jobs proposing worked offered (logs_in jobs) s size carried as_many has
 
   pub are_at : AreCellsAt wire cells
-  are_at = are_cells faults config wire offers jobs proposing worked offered (logs_in jobs) s size carried as_many has known_worked known_offered
+  are_at = are_cells content faults config wire offers jobs proposing worked offered (logs_in jobs) s size carried as_many has known_worked known_offered
 
   pub logs_before : logs_of before ≡ logs_in jobs
-  logs_before = first_logs faults config wire offers jobs proposing worked offered (logs_in jobs) s size carried as_many has refl
+  logs_before = first_logs content faults config wire offers jobs proposing worked offered (logs_in jobs) s size carried as_many has refl
 
   pub nodes_are : map node_in cells ≡ all_nodes config
-  nodes_are = last_nodes faults config wire offers jobs proposing worked offered (logs_in jobs) s size carried as_many has ∙ s.nodes
+  nodes_are = last_nodes content faults config wire offers jobs proposing worked offered (logs_in jobs) s size carried as_many has ∙ s.nodes
 
   pub new_proposing : (i : ℕ) (d : Job (CellState D)) → i < length proposing → IsNewAt faults wire (get_or proposing i d)
   new_proposing i d l = (each_at (IsNewJob faults wire config) proposing (subst (λ js. Each (IsNewJob faults wire config) js) (sym s.proposers_are) (new_jobs faults wire config proposer_nodes [] s.rules)) i d l).0
@@ -111,11 +111,11 @@ module _ {D : Type 0} (faults : D → ℕ) (config : Counts) (wire : WireState P
   new_working i d l = (each_at (IsNewJob faults wire config) jobs (subst (λ js. Each (IsNewJob faults wire config) js) (sym s.jobs_are) (new_jobs faults wire config (working_nodes config) (logs_in jobs) s.rules)) i d l).0
 
   pub configs : (i : ℕ) (c : CellState D) → slice_get cells i ≡ Some c → c.config ≡ config
-  configs i c e = (get_each (λ x. IsAt x wire) cells (each_at_wire faults config wire offers jobs proposing worked offered (logs_in jobs) s size carried as_many has) i c e).config ∙ s.rules
+  configs i c e = (get_each (λ x. IsAt x wire) cells (each_at_wire content faults config wire offers jobs proposing worked offered (logs_in jobs) s size carried as_many has) i c e).config ∙ s.rules
 
   -- each proposer made its offers
   pub offered_all : (list : List Record) → Each (KeepsProposer list) cells → AreOffered offers list
-  offered_all list keeps = are_offered faults wire offers worked proposing offered list (proposers_nodes faults config wire offers jobs proposing worked offered (logs_in jobs) s size carried as_many has) as_many new_proposing has keeps
+  offered_all list keeps = are_offered faults wire offers worked proposing offered list (proposers_nodes content faults config wire offers jobs proposing worked offered (logs_in jobs) s size carried as_many has) as_many new_proposing has keeps
 
   module _ (end : Option RunEnd) (decided : IfSome end (IsDecided worked)) (known_offers : All IsKnown offers) (some : 0 < config.acceptors) (e : RunEnd) (posted : Option (List Record)) (logs : List (LogState D)) (left : Leaves faults config (length offers) cells end e posted logs) where
     abbrev pub after : List (CellState D)
@@ -153,7 +153,7 @@ module _ {D : Type 0} (faults : D → ℕ) (config : Counts) (wire : WireState P
 
     pub held_if : (list : List Record) (r : IsRunOfCells config cells list) → Each (KeepsProposer list) cells → AllLearned config (newest_first list) → All (HasLearned (length offers)) cells
     held_if list r k all =
-        all_of (HasLearned (length offers)) cells (hold_all config list r.legal (length offers) cells (stand_all config cells list r (length offers) configs are_at.known nodes_are)
+        all_of_each (HasLearned (length offers)) cells (hold_all config list r.legal (length offers) cells (stand_all config cells list r (length offers) configs are_at.known nodes_are)
         (held.have_as_many config offers known_offers list r.legal (offered_all list k) some all))
 
     learned_by : (list : List Record) → IsRunOfCells config after list → IsConclusion faults config (length offers) cells after end e list → e ≡ Learned → AllLearned config (newest_first list)

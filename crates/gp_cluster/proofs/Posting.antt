@@ -8,14 +8,14 @@ use Rattle.gp_msg.specs.declared.node.Node.TheVariants.{Proposer}
 use Rattle.gp_msg.specs.declared.record.Record.{Record}
 use Rattle.gp_wire.specs.Lists.{Each, Has}
 use Rattle.gp_wire.specs.Known.{WireState, records}
-use Rattle.gp_rules.specs.Own.{own_events, event_in, IsBehind}
+use Rattle.gp_wire.specs.Own.{own_events, event_in, IsBehind}
 use Rattle.gp_rules.specs.declared.rules.PaxosRules.{PaxosRules}
 use Rattle.gp_work.specs.declared.job.Job.{Job}
 use Rattle.gp_work.specs.Moves.{event_of}
 use Rattle.gp_cell.specs.Cells.{CellState}
-use Rattle.gp_quiet.specs.Ended.{cells_of, nodes_of}
-use Rattle.gp_quiet.proofs.Indexing.{JobOf, job_of, each_got, each_then, second_cells}
-use Rattle.gp_quiet.proofs.Holding.{own_behind}
+use Rattle.gp_ending.specs.Ended.{cells_of, nodes_of}
+use Rattle.gp_ending.proofs.Indexing.{JobOf, job_of, each_got, each_then, second_cells}
+use Rattle.gp_ending.proofs.Holding.{own_behind}
 use Rattle.gp_seats.specs.declared.nodes.Role.TheVariants as role
 use Rattle.gp_seats.specs.Nodes.{proposer_nodes}
 use Rattle.gp_seats.specs.Seats.{IsNewAt}

@@ -13,7 +13,7 @@ use Rattle.gp_cell.specs.Working.{process_of}
 use Rattle.gp_phase.specs.declared.caller.Call.{Call}
 use Rattle.gp_phase.specs.Phases.{total}
 use Rattle.gp_node.specs.Phases.{IsWorkedJob}
-use Rattle.gp_quiet.specs.Ended.{nodes_of, AreNodesOf, IsToOffer}
+use Rattle.gp_ending.specs.Ended.{nodes_of, AreNodesOf, IsToOffer}
 use Rattle.gp_seats.specs.Nodes.{working_nodes, proposer_nodes}
 use Rattle.gp_seats.specs.Offering.{HasOffered, IsKnown, given_to}
 use Rattle.gp_seats.proofs.Offered.{all_offers}
@@ -38,10 +38,10 @@ module _ {D : Type 0} (offers : List (ℕ × DraftView)) where
   given_at (j ∷ js) zero d l = refl
   given_at (j ∷ js) (suc i) d l = given_at js i d (omega (arith, l))
 
-module _ {D : Type 0} (policy : RoundPolicy) (faults : D → ℕ) (config : Counts) (wire : WireState PaxosRules) (offers : List (ℕ × DraftView)) (jobs proposing worked offered : List (Job (CellState D))) (s : IsSeated config wire jobs proposing (logs_in jobs))
-    (size : length worked ≡ length jobs) (carried : (i : ℕ) (d : Job (CellState D)) → i < length jobs → IsCarriedJob faults wire (get_or jobs i d) (get_or worked i d))
+module _ {D : Type 0} (policy : RoundPolicy) (content : D → Option (List ℕ)) (faults : D → ℕ) (config : Counts) (wire : WireState PaxosRules) (offers : List (ℕ × DraftView)) (jobs proposing worked offered : List (Job (CellState D))) (s : IsSeated config wire jobs proposing (logs_in jobs))
+    (size : length worked ≡ length jobs) (carried : (i : ℕ) (d : Job (CellState D)) → i < length jobs → IsCarriedJob content faults wire (get_or jobs i d) (get_or worked i d))
     (as_many : length offered ≡ length proposing) (has : (i : ℕ) (d : Job (CellState D)) → i < length proposing → HasOffered faults wire offers (get_or proposing i d) (get_or offered i d))
-    (did : (i : ℕ) (d : Job (CellState D)) → i < length proposing → IsWorkedJob faults wire (get_or (map (given_to offers) proposing) i d) (get_or offered i d))
+    (did : (i : ℕ) (d : Job (CellState D)) → i < length proposing → IsWorkedJob content faults wire (get_or (map (given_to offers) proposing) i d) (get_or offered i d))
     (end : Option RunEnd) (some : 0 < config.acceptors) (calls : List Call)
     (rests : end ≡ None → RestsAfter (answers_of policy) faults wire config.acceptors (total (process_of faults) 0 offered) calls jobs worked) where
   abbrev pub given : List (Job (CellState D))
@@ -60,7 +60,7 @@ module _ {D : Type 0} (policy : RoundPolicy) (faults : D → ℕ) (config : Coun
       subst (λ ns. AreNodesOf config ns (nodes_of given)) (sym (ap nodes_of s.jobs_are ∙ seated_nodes config wire (working_nodes config) (logs_in jobs)))
       (subst (AreNodesOf config (working_nodes config)) (sym (given_nodes offers proposing ∙ ap nodes_of s.proposers_are ∙ seated_nodes {D = D} config wire proposer_nodes [])) (nodes_are config))
 
-  have : HaveOffered faults wire given offered
+  have : HaveOffered content faults wire given offered
   have = record {
     offers = λ i d l. new i d (omega (arith, l, given_long));
     size = as_many ∙ sym given_long;
@@ -68,12 +68,12 @@ module _ {D : Type 0} (policy : RoundPolicy) (faults : D → ℕ) (config : Coun
     unbroken = λ i d l. (has i d (omega (arith, l, as_many))).fault;
   }
 
-  pub ends : end ≡ None → EndsQuietlyFrom (answers_of policy) faults wire given offered jobs worked
-  ends none = ends_quietly_from (answers_of policy) faults wire config.acceptors calls given offered jobs worked (subst (λ (k : Counts). 0 < k.acceptors) (sym s.rules) some) (rests none)
+  pub ends : end ≡ None → EndsQuietlyFrom (answers_of policy) content faults wire given offered jobs worked
+  ends none = ends_quietly_from (answers_of policy) faults wire config.acceptors content calls given offered jobs worked (subst (λ (k : Counts). 0 < k.acceptors) (sym s.rules) some) (rests none)
       (subst (λ k. AreNodesOf k (nodes_of jobs) (nodes_of given)) (sym s.rules) nodes_start) have
 
   -- **the run was carried to the end of its phases**
-  pub carried_run : All IsKnown offers → IfSome end (IsDecided worked) → IsCarriedRun faults policy config wire offers jobs proposing worked offered end
+  pub carried_run : All IsKnown offers → IfSome end (IsDecided worked) → IsCarriedRun content faults policy config wire offers jobs proposing worked offered end
   carried_run known decided = record {
     seated = s;
     size = size;

@@ -27,10 +27,11 @@ use Rattle.gp_shelf.proofs.Zips.{zip_all, fell_there}
 use Rattle.gp_ending.specs.declared.ends.RunEnd.{RunEnd}
 use Rattle.gp_ending.specs.declared.ends.RunEnd.TheVariants.{Learned, NoMemory, Disk, Full, NotLog, Changed}
 use Rattle.gp_closing.specs.Cells.{LogGoes}
-use Rattle.gp_cluster.specs.Runs.{EndCause, EndsWith, HoldParts, IsQuietOrSettled}
+use Rattle.gp_seats.proofs.Sitting.{all_of_each}
+use Rattle.gp_cluster.specs.Runs.{EndCause, SomeBroke, EndsWith, HoldParts, IsQuietOrSettled}
 use Rattle.gp_cluster.specs.declared.policy.RoundPolicy.{RoundPolicy}
 use Rattle.gp_cluster.specs.Seated.{RunsFrom, HaveLimit, HoldLogs, lent_end}
-use Rattle.gp_cluster.proofs.Celling.{all_of}
+use Rattle.gp_cluster.proofs.Breaking.{broke_there}
 
 -- ---- new logs
 
@@ -51,7 +52,7 @@ module _ {D : Type 0} (content : D → Option (List ℕ)) (image : D → List �
   limited (d ∷ ds) (l ∷ ls) z = (z.0.limit_is, limited ds ls z.1)
 
   pub have_limit : (disks : List D) (logs : List (LogState D)) → Made disks logs → HaveLimit limit logs
-  have_limit disks logs z = all_of (λ log. log.limit ≡ limit) logs (limited disks logs z)
+  have_limit disks logs z = all_of_each (λ log. log.limit ≡ limit) logs (limited disks logs z)
 
   none_fell : (disks : List D) (first last : List (LogState D)) → Made disks first → AllZip (LogGoes faults) first last → NoneFell faults disks (map disk_in last)
   none_fell [] [] [] z g = tt
@@ -83,6 +84,17 @@ module _ {D : Type 0} (content : D → Option (List ℕ)) (image : D → List �
     rose = subst (λ n. Rose n (faults r.is)) m.steady r.rose;
   }
 
+  some_broke : (disks : List D) (first : List (LogState D)) (last : List D) (at : ℕ) → Made disks first → SomeBroke content faults limit (map disk_in first) last at → SomeBroke content faults limit disks last at
+  some_broke disks first last at z r = let m = made_of disks first z r.place r.was r.before in record {
+    place = r.place;
+    was = m.disk;
+    is = r.is;
+    before = m.there;
+    after = r.after;
+    rose = subst (λ n. Rose n (faults r.is)) m.steady r.rose;
+    breaks = r.breaks;
+  }
+
 -- ---- what holds of a log holds of its disk
 
 module _ {D : Type 0} (content : D → Option (List ℕ)) (config : Counts) (limit : ℕ) (run : List Entry) where
@@ -99,17 +111,18 @@ module _ {D : Type 0} (content : D → Option (List ℕ)) (config : Counts) (lim
 
 -- ---- causes
 
-module _ {D : Type 0} (faults : D → ℕ) (config : Counts) (limit : ℕ) where
-  cause_on : (old new old' new' : List D) (posted : Option (List Record)) → (SomeRose faults old new → SomeRose faults old' new') → (end : RunEnd) → EndCause faults config limit old new posted end → EndCause faults config limit old' new' posted end
-  cause_on old new old' new' posted f Learned c = tt
-  cause_on old new old' new' posted f NoMemory c = tt
-  cause_on old new old' new' posted f Disk c = f c
-  cause_on old new old' new' posted f (Full size needed) c = c
-  cause_on old new old' new' posted f (NotLog at) c = f c
-  cause_on old new old' new' posted f Changed c = f c
+module _ {D : Type 0} (content : D → Option (List ℕ)) (faults : D → ℕ) (config : Counts) (limit : ℕ) where
+  cause_on : (old new old' new' : List D) (posted : Option (List Record)) → (SomeRose faults old new → SomeRose faults old' new') → ((at : ℕ) → SomeBroke content faults limit old new at → SomeBroke content faults limit old' new' at) → (end : RunEnd)
+      → EndCause content faults config limit old new posted end → EndCause content faults config limit old' new' posted end
+  cause_on old new old' new' posted f b Learned c = tt
+  cause_on old new old' new' posted f b NoMemory c = tt
+  cause_on old new old' new' posted f b Disk c = f c
+  cause_on old new old' new' posted f b (Full size needed) c = c
+  cause_on old new old' new' posted f b (NotLog at) c = b at c
+  cause_on old new old' new' posted f b Changed c = f c
 
   -- no logs were made
-  pub cause_lent : (old new : List D) (posted : Option (List Record)) (why : LendFault) → HasCause faults old new why → EndCause faults config limit old new posted (lent_end why)
+  pub cause_lent : (old new : List D) (posted : Option (List Record)) (why : LendFault) → HasCause faults old new why → EndCause content faults config limit old new posted (lent_end why)
   cause_lent old new posted lending.Disk h = h
   cause_lent old new posted lending.NoMemory h = tt
 
@@ -140,6 +153,9 @@ module _ {D : Type 0} (policy : RoundPolicy) (content : D → Option (List ℕ))
   rose : SomeRose faults (map disk_in first) (map disk_in last) → SomeRose faults disks back
   rose r = (fell_there faults config disks (map disk_in last) lending.Disk acceptors coordinators twelve (fell, some_rose content image faults limit (lent_of config disks) first (map disk_in last) made r)).1
 
+  broke : (at : ℕ) → SomeBroke content faults limit (map disk_in first) (map disk_in last) at → SomeBroke content faults limit disks back at
+  broke at r = broke_there content faults limit at config disks (map disk_in last) acceptors coordinators twelve count_back (some_broke content image faults limit (lent_of config disks) first (map disk_in last) at made r)
+
   limits : HaveLimit limit first
   limits = have_limit content image faults limit (lent_of config disks) first made
 
@@ -152,8 +168,8 @@ module _ {D : Type 0} (policy : RoundPolicy) (content : D → Option (List ℕ))
   pub quiet : end ≡ Learned → ¬ SomeRose faults disks back → IfSome posted (IsQuietOrSettled policy config offers)
   quiet l calm = run.quiet l (λ r. calm (rose r))
 
-  pub cause : EndCause faults config limit disks back posted end
-  cause = cause_on faults config limit (map disk_in first) (map disk_in last) disks back posted rose end (run.cause limit limits)
+  pub cause : EndCause content faults config limit disks back posted end
+  cause = cause_on content faults config limit (map disk_in first) (map disk_in last) disks back posted rose broke end (run.cause limit limits)
 
   named_within : (list : List Record) (ns : List Node) (logs : List (LogState D)) → AllZip (λ n log. HoldsPart content config limit (newest_first list) n log.disk) ns logs → (k : ℕ) (n : Node) → slice_get ns k ≡ Some n → k < length logs
   named_within list [] logs z k n e = absurd (let wrong : None ≡ Some n = e in cc)

@@ -9,17 +9,17 @@ use Rattle.gp_wire.specs.Known.{WireState}
 use Rattle.gp_rules.specs.declared.rules.PaxosRules.{PaxosRules}
 use Rattle.gp_work.specs.declared.job.Job.{Job}
 use Rattle.gp_cell.specs.Cells.{CellState}
-use Rattle.gp_begins.specs.Begins.{leader}
-use Rattle.gp_quiet.specs.Ended.{node_in, nodes_of}
-use Rattle.gp_quiet.proofs.Indexing.{each_at}
+use Rattle.gp_ending.specs.Begins.{leader}
+use Rattle.gp_ending.specs.Ended.{node_in, nodes_of}
+use Rattle.gp_ending.proofs.Indexing.{each_at}
 use Rattle.gp_seats.specs.declared.nodes.Role.TheVariants.{Learner}
 use Rattle.gp_seats.specs.Nodes.{first_of, logged_nodes, working_nodes, proposer_nodes, all_nodes}
 use Rattle.gp_seats.specs.Seats.{IsBlank, IsNewAt, IsNewJob, new_passes, seats}
 use Rattle.gp_seats.proofs.Listing.{present_all, all_present, all_distinct}
-use Rattle.gp_seats.proofs.Sitting.{new_jobs, length_logged, length_proposers, working_sit}
+use Rattle.gp_seats.proofs.Sitting.{new_jobs, length_logged, length_proposers, working_sit, length_first}
 use Rattle.gp_stage.specs.Held.{AreAllNodes}
 use Rattle.gp_cluster.specs.Seated.{IsSeated, logs_in}
-use Rattle.gp_cluster.proofs.Starting.{length_first, seated_nodes, seated_logs, leader_at}
+use Rattle.gp_cluster.proofs.Starting.{seated_nodes, seated_logs, leader_at}
 
 module _ {D : Type 0} (faults : D → ℕ) (config : Counts) (wire : WireState PaxosRules) (jobs proposing : List (Job (CellState D))) (s : IsSeated config wire jobs proposing (logs_in jobs)) where
   pub proposing_new : All (IsNewAt faults wire) proposing

@@ -10,14 +10,16 @@ use Rattle.gp_wire.specs.Known.{WireState, PassState}
 use Rattle.gp_rules.specs.declared.rules.PaxosRules.{PaxosRules}
 use Rattle.gp_rules.specs.Cores.{opening, part_in}
 use Rattle.gp_cell.specs.Cells.{IsFreshLog}
-use Rattle.gp_begins.specs.Begins.{leader}
-use Rattle.gp_quiet.specs.Ended.{is_proposer, nodes_of, cells_of, AreNodesOf}
+use Rattle.gp_ending.specs.Begins.{leader}
+use Rattle.gp_ending.specs.Ended.{is_proposer, nodes_of, cells_of, AreNodesOf}
 use Rattle.gp_seats.specs.declared.nodes.Role.{Role}
 use Rattle.gp_seats.specs.declared.nodes.Role.TheVariants.{Acceptor, Coordinator, Learner, Proposer}
 use Rattle.gp_seats.specs.Nodes.{node_of, first_of, logged_nodes, working_nodes, proposer_nodes}
 use Rattle.gp_seats.specs.Seats.{CanSit, first_log, later_logs, new_passes, seats}
-use Rattle.gp_seats.proofs.Listing.{has_either, first_has, all_distinct, all_present, present_working, present_proposers}
+use Rattle.gp_seats.proofs.Listing.{first_has, all_distinct, all_present, present_working, present_proposers}
 use Rattle.gp_closing.specs.Cells.{logs_of}
+use Rattle.gp_seats.proofs.Sitting.{length_first}
+use Rattle.gp_wire.proofs.Words.{has_either}
 
 -- ---- nodes
 
@@ -70,14 +72,6 @@ nodes_are config = record {
 }
 
 -- ---- the leader
-
-pub length_first : (r : Role) (k : ℕ) → length (first_of r k) ≡ k
-length_first r zero = refl
-length_first r (suc k) = let h = length_first r k in let a = length_last (first_of r k) (node_of r k) in omega arith
-  where
-    length_last : {A : Type 0} (xs : List A) (x : A) → length (xs ++ x ∷ []) ≡ suc (length xs)
-    length_last [] x = refl
-    length_last (y ∷ ys) x = ap suc (length_last ys x)
 
 get_behind : {A : Type 0} (xs ys : List A) (d : A) (i : ℕ) → i ≡ length xs → get_or (xs ++ ys) i d ≡ get_or ys 0 d
 get_behind [] ys d zero e = refl

@@ -14,7 +14,7 @@ use Rattle.gp_rules.specs.declared.rules.PaxosRules.{PaxosRules}
 use Rattle.gp_rules.specs.Cores.{opening, core_at, part_in}
 use Rattle.gp_work.specs.declared.job.Job.{Job}
 use Rattle.gp_cell.specs.Cells.{CellState}
-use Rattle.gp_quiet.specs.Ended.{cells_of}
+use Rattle.gp_ending.specs.Ended.{cells_of}
 use Rattle.gp_seats.specs.Nodes.{all_nodes, logged_nodes, working_nodes, proposer_nodes}
 use Rattle.gp_seats.specs.Seats.{IsBlank, new_passes, seats}
 use Rattle.gp_seats.specs.Offering.{IsKnown, HasOffered, given_to}
@@ -53,23 +53,23 @@ abbrev pub HoldLogs : {D : Type 0} → (D → Option (List ℕ)) → Counts → 
 HoldLogs content config limit run logs = AllZip (λ n log. IfRevealed (content log.disk) (EndsWith limit (part_in (opening config n)) (part_in (core_at config n run)))) (logged_nodes config) logs
 
 -- the nodes of a run have worked: the jobs of those that work were carried this far, and those of the proposers have made these offers. If the run did not end early, its work phases ended quietly, and otherwise faults or memory say why
-pub record IsCarriedRun {D : Type 0} (faults : D → ℕ) (policy : RoundPolicy) (config : Counts) (wire : WireState PaxosRules) (offers : List (ℕ × DraftView)) (jobs proposing worked offered : List (Job (CellState D))) (end : Option RunEnd) : Type 0 where
+pub record IsCarriedRun {D : Type 0} (content : D → Option (List ℕ)) (faults : D → ℕ) (policy : RoundPolicy) (config : Counts) (wire : WireState PaxosRules) (offers : List (ℕ × DraftView)) (jobs proposing worked offered : List (Job (CellState D))) (end : Option RunEnd) : Type 0 where
   pub seated : IsSeated config wire jobs proposing (logs_in jobs)
   pub size : length worked ≡ length jobs
-  pub carried : (i : ℕ) (d : Job (CellState D)) → i < length jobs → IsCarriedJob faults wire (slice_index_or jobs i d) (slice_index_or worked i d)
+  pub carried : (i : ℕ) (d : Job (CellState D)) → i < length jobs → IsCarriedJob content faults wire (slice_index_or jobs i d) (slice_index_or worked i d)
   pub as_many : length offered ≡ length proposing
   pub has : (i : ℕ) (d : Job (CellState D)) → i < length proposing → HasOffered faults wire offers (slice_index_or proposing i d) (slice_index_or offered i d)
   pub known : All IsKnown offers
   pub decided : IfSome end (IsDecided worked)
-  pub quiet : end ≡ None → EndsQuietlyFrom (answers_of policy) faults wire (map (given_to offers) proposing) offered jobs worked
+  pub quiet : end ≡ None → EndsQuietlyFrom (answers_of policy) content faults wire (map (given_to offers) proposing) offered jobs worked
 
 -- the wire of such a run can be closed, with room for the logs
-pub record CanClose {D : Type 0} (faults : D → ℕ) (config : Counts) (wire : WireState PaxosRules) (worked offered : List (Job (CellState D))) (end : Option RunEnd) (commands : ℕ) (room : Vec (LogState D)) : Type 0 where
+pub record CanClose {D : Type 0} (content : D → Option (List ℕ)) (faults : D → ℕ) (config : Counts) (wire : WireState PaxosRules) (worked offered : List (Job (CellState D))) (end : Option RunEnd) (commands : ℕ) (room : Vec (LogState D)) : Type 0 where
   pub policy : RoundPolicy
   pub offers : List (ℕ × DraftView)
   pub jobs : List (Job (CellState D))
   pub proposing : List (Job (CellState D))
-  pub run : IsCarriedRun faults policy config wire offers jobs proposing worked offered end
+  pub run : IsCarriedRun content faults policy config wire offers jobs proposing worked offered end
   pub many : commands ≡ length offers
   pub fits : HasRoomFor (length (logs_in jobs)) room
 
@@ -80,7 +80,7 @@ pub record RunsFrom {D : Type 0} (policy : RoundPolicy) (faults : D → ℕ) (co
   pub none : posted ≡ None → end ≡ NoMemory
   pub learned : end ≡ Learned → IfSome posted (HasLearnedAll config offers)
   pub quiet : end ≡ Learned → ¬ SomeRose faults (map disk_in first) (map disk_in last) → IfSome posted (IsQuietOrSettled policy config offers)
-  pub cause : (limit : ℕ) → HaveLimit limit first → EndCause faults config limit (map disk_in first) (map disk_in last) posted end
+  pub cause : (limit : ℕ) → HaveLimit limit first → EndCause content faults config limit (map disk_in first) (map disk_in last) posted end
   pub parts : (limit : ℕ) → HaveLimit limit first → end ≡ Learned → IfSome posted (λ list. HoldLogs content config limit (newest_first list) last)
 
 -- how a run ends if its logs cannot be made

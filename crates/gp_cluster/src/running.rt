@@ -82,7 +82,7 @@ pub fn run_nodes<
     ensures none { result.posted ≡ None → (result.end ≡ RunEnd.NoMemory) ⊎ (result.end ≡ RunEnd.Disk) }
     ensures learned { result.end ≡ RunEnd.Learned → IfSome result.posted (HasLearnedAll config offers.now) }
     ensures quiet { result.end ≡ RunEnd.Learned → ¬ SomeRose D.faults disks.items result.disks.items → IfSome result.posted (IsQuietOrSettled policy config offers.now) }
-    ensures cause { EndCause D.faults config limit disks.items result.disks.items result.posted result.end }
+    ensures cause { EndCause D.content D.faults config limit disks.items result.disks.items result.posted result.end }
     ensures parts { result.end ≡ RunEnd.Learned → IfSome result.posted (λ list. HoldParts D.content config limit (newest_first list) result.disks.items) }
     ensures others { KeepsOthers config disks.items result.disks.items }
     ensures none_fell { NoneFell D.faults disks.items result.disks.items }

@@ -94,10 +94,10 @@ pub(crate) fn close_run<D: Disk, W: Wait, G: Gate>(
     commands: usize,
     gate: &G,
 ) -> Closed<D>
-    requires run { CanClose D.faults config wire worked.jobs.items proposers.items worked.end commands room.logs }
+    requires run { CanClose D.content D.faults config wire worked.jobs.items proposers.items worked.end commands room.logs }
     requires cells_room { HasRoomFor (length worked.jobs.items + length proposers.items) room.cells }
     ensures run { (policy : RoundPolicy) (offers : List (ℕ × DraftView)) (jobs proposing : List (JobOf (CellState D))) → commands ≡ length offers
-        → IsCarriedRun D.faults policy config wire offers jobs proposing worked.jobs.items proposers.items worked.end
+        → IsCarriedRun D.content D.faults policy config wire offers jobs proposing worked.jobs.items proposers.items worked.end
         → RunsFrom policy D.faults D.content config offers (logs_in jobs) result.logs.items result.posted result.end }
     ensures early { result.end ≡ RunEnd.Learned → worked.end ≡ None }
 {

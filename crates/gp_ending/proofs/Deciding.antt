@@ -1,19 +1,18 @@
 -- Which of several faults decides.
-use Rattle.std.proofs.Common.{◌≡◌, ◌<◌, ◌≤◌, ℕ, zero, suc, Bool, true, false, cond, List, [], ◌∷◌, refl, sym, ap, ◌∙◌, subst, arith, Option, Some, None}
+use Rattle.std.proofs.Common.{◌≡◌, ◌<◌, ◌≤◌, ℕ, zero, suc, Bool, true, false, cond, List, [], ◌∷◌, map, refl, sym, ap, ◌∙◌, subst, arith, Option, Some, None}
 use Rattle.std.specs.Prelude.{slice_get, nat_lt}
 use Rattle.std.specs.List.{All}
 use Rattle.std.proofs.lemmas.Bool.{ltb-true, ltb-false}
 use Rattle.gp_work.specs.declared.faults.JobFault.{JobFault}
+use Rattle.gp_work.specs.declared.job.Job.{Job}
+use Rattle.gp_ending.proofs.Following.{some_is}
 use Rattle.gp_ending.specs.declared.ends.RunEnd.{RunEnd}
-use Rattle.gp_ending.specs.Ends.{end_of, rank, sooner, deciding, Decides}
+use Rattle.gp_ending.specs.Ends.{end_of, rank, sooner, deciding, fault_in, with_fault, Decides}
 
-some_is : {A : Type 0} {x y : A} → Some x ≡ Some y → x ≡ y
-some_is e = cc
-
-no_some : {A P : Type 0} {x : A} → None ≡ Some x → P
+pub no_some : {A P : Type 0} {x : A} → None ≡ Some x → P
 no_some {A} {P} {x} e = absurd (let wrong : None ≡ Some x = e in cc)
 
-some_no : {A P : Type 0} {x : A} → Some x ≡ None → P
+pub some_no : {A P : Type 0} {x : A} → Some x ≡ None → P
 some_no {A} {P} {x} e = absurd (let wrong : Some x ≡ None = e in cc)
 
 -- no fault at all
@@ -22,6 +21,10 @@ none_decides [] e k d l = absurd (omega arith)
 none_decides (None ∷ fs) e zero d l = refl
 none_decides (None ∷ fs) e (suc k) d l = none_decides fs e k d (omega arith)
 none_decides (Some f ∷ fs) e k d l = some_no e
+
+pub nothing_decides : {P : Type 0} (jobs : List (Job P)) → All (λ (j : Job P). j.fault ≡ None) jobs → deciding (map fault_in jobs) ≡ None
+nothing_decides [] none = refl
+nothing_decides (j ∷ js) none = ap (λ f. with_fault f (deciding (map fault_in js))) (none 0 j (omega arith)) ∙ nothing_decides js (λ i d l. none (suc i) d (omega arith))
 
 -- ---- the fault of the first decides
 

@@ -1,11 +1,11 @@
 -- Phases that go on where others ended.
-use Rattle.std.proofs.Common.{◌≡◌, ◌<◌, ℕ, Bool, true, false, List, ◌++◌, length, get_or, refl, sym, ap, ◌∙◌, subst, arith, None, append_assoc}
+use Rattle.std.proofs.Common.{◌≡◌, ◌<◌, ℕ, Bool, true, false, List, ◌++◌, length, get_or, refl, sym, ap, ◌∙◌, subst, arith, Option, None, append_assoc}
 use Rattle.std.specs.List.{All}
 use Rattle.std.proofs.lemmas.List.{append-nil}
 use Rattle.gp_round.specs.declared.round.Round.{Round}
 use Rattle.gp_edge.specs.Faults.{Rose}
 use Rattle.gp_wire.specs.Known.{WireState}
-use Rattle.gp_rules.specs.Own.{own_events}
+use Rattle.gp_wire.specs.Own.{own_events}
 use Rattle.gp_rules.specs.declared.rules.PaxosRules.{PaxosRules}
 use Rattle.gp_work.specs.declared.job.Job.{Job}
 use Rattle.gp_work.specs.declared.moves.Move.{Move}
@@ -17,9 +17,9 @@ use Rattle.gp_phase.specs.declared.caller.Call.{Call}
 use Rattle.gp_phase.specs.Deeds.{begins}
 use Rattle.gp_phase.specs.Phases.{Answers, rounds, only_at, total, Going, Opens, Finished, AreReady}
 use Rattle.gp_phase.proofs.Phasing.{only_none, was_false}
-use Rattle.gp_begins.proofs.Places.{events_append}
-use Rattle.gp_quiet.specs.Ended.{nodes_of, AreNodesOf, HaveWorked}
-use Rattle.gp_quiet.proofs.Indexing.{same_nodes}
+use Rattle.gp_ending.proofs.Places.{events_append}
+use Rattle.gp_ending.specs.Ended.{nodes_of, AreNodesOf, HaveWorked}
+use Rattle.gp_ending.proofs.Indexing.{same_nodes}
 use Rattle.gp_ending.specs.Working.{HaveOffered, RestsAfter, EndsQuietlyFrom}
 
 not_both : {P : Type 0} (b : Bool) → b ≡ false → b ≡ true → P
@@ -134,10 +134,10 @@ module _ {D : Type 0} (answers : Answers) (faults : D → ℕ) (wire : WireState
       there i w = let s = a.phases.worked.size in omega (arith, s, w)
 
   -- **with the phase of the proposers, the whole run ends quietly**
-  pub ends_quietly_from : (calls : List Call) (offering offered jobs ended : List JobAt) → 0 < wire.rules.config.acceptors
+  pub ends_quietly_from : (content : D → Option (List ℕ)) (calls : List Call) (offering offered jobs ended : List JobAt) → 0 < wire.rules.config.acceptors
       → RestsAfter answers faults wire at (total state 0 offered) calls jobs ended → AreNodesOf wire.rules.config (nodes_of jobs) (nodes_of offering)
-      → HaveOffered faults wire offering offered → EndsQuietlyFrom answers faults wire offering offered jobs ended
-  ends_quietly_from calls offering offered jobs ended some a nodes h = record {
+      → HaveOffered content faults wire offering offered → EndsQuietlyFrom answers content faults wire offering offered jobs ended
+  ends_quietly_from content calls offering offered jobs ended some a nodes h = record {
     run = record {
       offering = offering;
       offered = offered;

@@ -7,8 +7,8 @@ ghost use Rattle.gp_cell.specs.Cells.{CellState};
 ghost use Rattle.gp_cell.specs.Working.{process_of, IsAt};
 ghost use Rattle.gp_phase.specs.Beside.{topics};
 ghost use Rattle.gp_phase.specs.Phases.{IsNew, AreReady, total};
-ghost use Rattle.gp_begins.specs.Begins.{leader};
-ghost use Rattle.gp_quiet.specs.Ended.{HaveWorked};
+ghost use Rattle.gp_ending.specs.Begins.{leader};
+ghost use Rattle.gp_ending.specs.Ended.{HaveWorked};
 ghost use Rattle.gp_ending.specs.Working.{IsCarriedJob, IsCallerAt, RestsAfter, IsDecided};
 
 use crate::ends::{RunEnd, deciding};
@@ -84,7 +84,7 @@ pub fn go_on<
     requires caller { IsCallerAt config (C.config caller.old) (C.node caller.old) (λ seen. C.knows caller.old seen) config.acceptors jobs.items }
     ensures size { length result.jobs.items ≡ length jobs.items }
     ensures carried { (i : ℕ) (d : JobOf (CellState D)) → i < length jobs.items
-        → IsCarriedJob D.faults wire.now (slice_index_or jobs.items i d) (slice_index_or result.jobs.items i d) }
+        → IsCarriedJob D.content D.faults wire.now (slice_index_or jobs.items i d) (slice_index_or result.jobs.items i d) }
     ensures worked { result.end ≡ None → HaveWorked C.answers D.faults wire.now config.acceptors (total (process_of D.faults) 0 offered.now) (C.called caller.new) jobs.items result.jobs.items }
     ensures caller { result.end ≡ None → IsCallerAt config (C.config caller.new) (C.node caller.new) (λ seen. C.knows caller.new seen) config.acceptors result.jobs.items }
     ensures decided { IfSome result.end (IsDecided result.jobs.items) }
@@ -135,7 +135,7 @@ pub fn work<
     requires none { C.called caller.old ≡ [] }
     ensures size { length result.jobs.items ≡ length starting.items }
     ensures carried { (i : ℕ) (d : JobOf (CellState D)) → i < length starting.items
-        → IsCarriedJob D.faults wire.now (slice_index_or starting.items i d) (slice_index_or result.jobs.items i d) }
+        → IsCarriedJob D.content D.faults wire.now (slice_index_or starting.items i d) (slice_index_or result.jobs.items i d) }
     ensures quiet { result.end ≡ None → RestsAfter C.answers D.faults wire.now config.acceptors (total (process_of D.faults) 0 offered.now) (C.called caller.new) starting.items result.jobs.items }
     ensures caller { result.end ≡ None → IsCallerAt config (C.config caller.new) (C.node caller.new) (λ seen. C.knows caller.new seen) config.acceptors result.jobs.items }
     ensures decided { IfSome result.end (IsDecided result.jobs.items) }

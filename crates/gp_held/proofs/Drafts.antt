@@ -16,7 +16,7 @@ use Rattle.gp_msg.specs.Nodes.{node_of, same_node}
 use Rattle.gp_run.specs.Legal.{Legal}
 use Rattle.gp_run.specs.Runs.{newest_first}
 use Rattle.gp_run.specs.States.{proposer_acts, proposer_at}
-use Rattle.gp_rules.specs.Own.{own, own_events, event_in}
+use Rattle.gp_wire.specs.Own.{own, own_events, event_in}
 use Rattle.gp_rules.specs.Still.{entries_append}
 
 -- the draft that an event gives to proposer p, if it offers one
@@ -71,10 +71,6 @@ number_stays p s (Offer q d) = by (nat_eq p q)
 number_stays p s (Begin c r) = refl
 number_stays p s (Take node k) = refl
 number_stays p s (Fall node what) = refl
-
-pub own_number : (p : ℕ) (es : List Entry) → (proposer_at p es).number ≡ p
-own_number p [] = refl
-own_number p (e ∷ es) = number_stays p (proposer_at p es) e.event ∙ own_number p es
 
 -- ---- one event
 

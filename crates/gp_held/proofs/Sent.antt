@@ -1,5 +1,5 @@
 -- The commands that were offered in a legal run, by the drafts that the proposers were given.
-use Rattle.std.proofs.Common.{◌≡◌, ℕ, zero, suc, ◌+◌, ◌<◌, ◌≤◌, Bool, true, false, cond, nat_eq, List, [], ◌∷◌, ◌++◌, length, Option, Some, None, refl, sym, ap, ◌∙◌, subst, arith, inl, inr}
+use Rattle.std.proofs.Common.{◌≡◌, ℕ, suc, ◌+◌, ◌<◌, ◌≤◌, Bool, true, false, cond, nat_eq, List, [], ◌∷◌, ◌++◌, length, Option, Some, None, refl, sym, ap, ◌∙◌, subst, arith, inl, inr}
 use Rattle.std.specs.Prelude.{slice_get}
 use Rattle.std.specs.Option.{option_to_list}
 use Rattle.std.proofs.lemmas.Bool.{eq-eqb, ltb-true}
@@ -21,22 +21,14 @@ use Rattle.gp_msg.specs.Nodes.{node_of}
 use Rattle.gp_run.specs.Legal.{fits, sent_by, sent_at, Follows, Legal}
 use Rattle.gp_run.specs.States.{proposer_acts, proposer_at, coordinator_at, acceptor_at, learner_at}
 use Rattle.gp_agreement.proofs.Sending.{Ballots, Finals, acceptor_sends, coordinator_sends, learner_sends, one_sent}
-use Rattle.gp_held.proofs.Drafts.{given, drafts_at, IsMade, counted, own_number, given_itself, given_is}
+use Rattle.gp_driver.proofs.Lists.{get-append}
+use Rattle.gp_work.proofs.Batching.{get_last}
+use Rattle.gp_agreement.proofs.Identities.{own_number}
+use Rattle.gp_held.proofs.Drafts.{given, drafts_at, IsMade, counted, given_itself, given_is}
 
 -- the command is made of one of the drafts that its proposer was given in a run
 abbrev pub IsMadeIn : List Entry → Command → Type 0
 IsMadeIn es c = IsMade (λ p. drafts_at p es) c.id.proposer c.id.number c.draft
-
--- ---- places of lists
-
-get_left : {X : Type 0} (xs ys : List X) (k : ℕ) (x : X) → slice_get xs k ≡ Some x → slice_get (xs ++ ys) k ≡ Some x
-get_left [] ys k x e = absurd (cc)
-get_left (z ∷ xs) ys zero x e = e
-get_left (z ∷ xs) ys (suc k) x e = get_left xs ys k x e
-
-get_last : {X : Type 0} (xs : List X) (x : X) → slice_get (xs ++ x ∷ []) (length xs) ≡ Some x
-get_last [] x = refl
-get_last (z ∷ xs) x = get_last xs x
 
 -- ---- what an event sends
 
@@ -119,7 +111,7 @@ offered_made config [] legal c m = elim m [ ]
 offered_made config (e ∷ es) legal c m = elim (among_append (messages es) e.sent (Offered c) m) [
   | inl a ↦
       let h = offered_made config es legal.0 c a in
-      (record { place = h.0.place; numbers = h.0.numbers; there = get_left (drafts_at c.id.proposer es) (given c.id.proposer e.event) h.0.place c.draft h.0.there }, h.1)
+      (record { place = h.0.place; numbers = h.0.numbers; there = get-append (drafts_at c.id.proposer es) (given c.id.proposer e.event) h.0.place c.draft h.0.there }, h.1)
   | inr b ↦ sent_made config es e legal.1 c b
 ]
 

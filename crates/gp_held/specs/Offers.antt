@@ -9,7 +9,7 @@ use Rattle.gp_msg.specs.declared.node.Node.TheVariants.{Proposer}
 use Rattle.gp_msg.specs.declared.record.Record.{Record}
 use Rattle.gp_msg.specs.Messages.{Entry}
 use Rattle.gp_run.specs.Learned.{learned_at}
-use Rattle.gp_rules.specs.Own.{own_events}
+use Rattle.gp_wire.specs.Own.{own_events}
 use Rattle.gp_work.specs.Moves.{event_of}
 use Rattle.gp_seats.specs.Offering.{moves_of}
 

@@ -1,5 +1,5 @@
 -- A log holds the last durable parts that its node had.
-use Rattle.std.proofs.Common.{◌≡◌, ◌≢◌, cond, List, [], ◌∷◌, ◌++◌, map, refl, sym, ap, ◌∙◌, subst, append_assoc, Option, Some, None, inl, inr}
+use Rattle.std.proofs.Common.{◌≡◌, ◌≢◌, List, [], ◌∷◌, ◌++◌, map, refl, sym, ap, ◌∙◌, subst, append_assoc, Option, Some, None, inl, inr}
 use Rattle.std.proofs.lemmas.List.{append-nil, map-append}
 use Rattle.gp_round.specs.Counts.{Counts}
 use Rattle.gp_msg.specs.declared.node.Node.{Node}
@@ -10,16 +10,15 @@ use Rattle.gp_msg.specs.Messages.{EpochPart, Entry, entry_of, part_of}
 use Rattle.gp_msg.specs.Nodes.{node_of}
 use Rattle.gp_run.specs.Runs.{newest_first}
 use Rattle.gp_vlog.specs.Logs.{LogState}
-use Rattle.gp_rules.specs.Own.{own}
-use Rattle.gp_rules.specs.SameNodes.{same_tells}
-use Rattle.gp_rules.proofs.OwnRecords.{own_append}
+use Rattle.gp_wire.specs.Own.{own}
+use Rattle.gp_wire.proofs.OwnRecords.{own_append}
 use Rattle.gp_rules.specs.Cores.{core_at, part_in}
 use Rattle.gp_rules.specs.Still.{AreOthers, core_other, core_still, entries_append}
 use Rattle.gp_cell.specs.Cells.{PostsOne}
 use Rattle.gp_cell.specs.Crashes.{Writes, AddsToLog}
 use Rattle.gp_cell.specs.Refusals.{AddsPart}
 use Rattle.gp_node.specs.Changes.{Grows, AreParts, HoldsLast, HoldsLastParts}
-use Rattle.gp_cell.proofs.Posting.{nothing_own}
+use Rattle.gp_cell.proofs.Posting.{nothing_own, own_one}
 
 -- entries of other nodes change nothing
 still_parts : (config : Counts) (n : Node) (more es : List Entry) (ps : List EpochPart) → AreOthers n more → AreParts config n es ps → AreParts config n (more ++ es) ps
@@ -34,10 +33,6 @@ holds_new config n seen log none e = record {
   front = [];
   split = sym (ap (map part_of) e);
 }
-
--- the records between are of other nodes
-own_one : (n : Node) (r : Record) → r.node ≡ n → own n (r ∷ []) ≡ r ∷ []
-own_one n r e = elim (same_tells n r.node) [ inl t ↦ ap (λ b. cond b (r ∷ []) []) t.0 | inr t ↦ absurd (t.1 (sym e)) ]
 
 cancel : (xs ys zs : List Record) → xs ++ ys ≡ xs ++ zs → ys ≡ zs
 cancel [] ys zs e = e

@@ -37,7 +37,7 @@ pub fn workers<D: Disk + Send, W: Threads + Wait + Sync, G: Gate + Sync>(
     requires ready { All (IsReadyJob D.faults wire.now) jobs.items }
     ensures same { length result.items ≡ length jobs.items }
     ensures each { (i : ℕ) (d : JobOf (CellState D)) → i < length jobs.items
-        → IsWorkedJob D.faults wire.now (slice_index_or jobs.items i d) (slice_index_or result.items i d) }
+        → IsWorkedJob D.content D.faults wire.now (slice_index_or jobs.items i d) (slice_index_or result.items i d) }
 {
     gp_work::workers(rt, alloc, wire, jobs, gate)
 }

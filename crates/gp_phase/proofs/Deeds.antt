@@ -8,7 +8,7 @@ use Rattle.gp_msg.specs.declared.event.Event.TheVariants.{Take}
 use Rattle.gp_msg.specs.Records.{messages_in}
 use Rattle.gp_work.specs.declared.moves.Move.{Move}
 use Rattle.gp_work.specs.declared.moves.Move.TheVariants as move
-use Rattle.gp_rules.specs.Own.{own_events}
+use Rattle.gp_wire.specs.Own.{own_events}
 use Rattle.gp_work.specs.Doing.{ProcessState, have, Goes, Posted}
 use Rattle.gp_work.specs.Moves.{event_of, Does, Takes, HasOffer}
 use Rattle.gp_work.specs.Batches.{AreRead}
@@ -42,7 +42,7 @@ pub mid_false : (n : Node) (ks : List ℕ) (es : List Event) (m : Bool) → Take
 mid_false n ks es true t = absurd (let fallen : false ≡ true = takes_up n ks es false t in cc)
 mid_false n ks es false t = refl
 
-does_up : (n : Node) (h : ℕ) (ms : List Move) (es : List Event) (g : Bool) → Does n h ms es true g → g ≡ true
+pub does_up : (n : Node) (h : ℕ) (ms : List Move) (es : List Event) (g : Bool) → Does n h ms es true g → g ≡ true
 does_up n h [] es g t = t.1
 does_up n h (m ∷ ms) es g (first, rest, mid, split, inl one, more) = does_up n h ms rest g (subst (λ x. Does n h ms rest x g) one.1 more)
 does_up n h (m ∷ ms) es g (first, rest, mid, split, inr (inl one), more) = does_up n h ms rest g (subst (λ x. Does n h ms rest x g) one.1 more)

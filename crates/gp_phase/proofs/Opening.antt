@@ -5,22 +5,19 @@ use Rattle.std.specs.Option.{option_to_list}
 use mathlib.Core.Logic.{dite}
 use native.Mathlib.Decide.{ℕ_discrete}
 use Rattle.gp_msg.specs.declared.event.Event.{Event}
-use Rattle.gp_rules.specs.Own.{own_events}
 use Rattle.gp_work.specs.declared.job.Job.{Job}
 use Rattle.gp_work.specs.Doing.{ProcessState, Posted}
+use Rattle.gp_work.specs.Causes.{FaultCauses}
 use Rattle.gp_work.specs.Jobs.{Done, HasWorked}
 use Rattle.gp_round.specs.declared.round.Round.{Round}
+use Rattle.gp_work.proofs.Stretches.{posted_on}
 use Rattle.gp_phase.specs.declared.caller.Call.{Call}
 use Rattle.gp_phase.specs.Deeds.{begins, begin_moves}
 use Rattle.gp_phase.specs.Phases.{Answers, Opens, Asked, IsNew, IsToOpen, HasAnswered, only_at, rounds}
 use Rattle.gp_phase.proofs.Deeds.{done_made}
 use Rattle.gp_phase.proofs.Phasing.{done_of, was_false, only_here, only_else, Looks}
 
--- a node posted some events, and then more
-posted_then : (p q r : ProcessState) (es fs : List Event) → Posted p q es → Posted q r fs → Posted p r (es ++ fs)
-posted_then p q r es fs a b = b ∙ ap (λ l. l ++ fs) a ∙ append_assoc (own_events p.node p.list) es fs
-
-module _ {N P : Type 0} (state : P → ProcessState) (is_of : P → N → Type 0) (too_great : P → Event → ℕ → ℕ → Type 0) (net : N) where
+module _ {N P : Type 0} (state : P → ProcessState) (is_of : P → N → Type 0) (causes : P → FaultCauses) (net : N) where
   -- each job opened with its first moves
   abbrev pub AllOpen : List (Job P) → List (Job P) → Type 0
   AllOpen js0 js = (i : ℕ) (d : Job P) → i < length js0 → Opens state (get_or js0 i d) (get_or js i d)
@@ -29,11 +26,11 @@ module _ {N P : Type 0} (state : P → ProcessState) (is_of : P → N → Type 0
   abbrev pub AreUntouchedOrOpen : List (Job P) → List (Job P) → Type 0
   AreUntouchedOrOpen js0 js = (js ≡ js0) ⊎ AllOpen js0 js
 
-  done_up : (j k : Job P) → HasWorked state is_of too_great net j k → k.fault ≡ None → Done (state j.cell) j.risen j.first j.cursor (state k.cell) k.risen k.cursor
-  done_up j k w none = done_of (too_great k.cell) (state j.cell) j.risen j.first j.cursor (state k.cell) k.risen k.cursor k.fault none w.ends
+  done_up : (j k : Job P) → HasWorked state is_of causes net j k → k.fault ≡ None → Done (state j.cell) j.risen j.first j.cursor (state k.cell) k.risen k.cursor
+  done_up j k w none = done_of (causes k.cell) (state j.cell) j.risen j.first j.cursor (state k.cell) k.risen k.cursor k.fault none w.ends
 
   -- the first phase of a job
-  first_open : (j k : Job P) → HasWorked state is_of too_great net j k → k.fault ≡ None → Opens state j k
+  first_open : (j k : Job P) → HasWorked state is_of causes net j k → k.fault ≡ None → Opens state j k
   first_open j k w none rs first down =
       let was : j.risen ≡ false = was_false j.risen k.risen w.stretch.stays down in
       done_made (state j.cell) rs j.cursor (state k.cell) k.cursor
@@ -47,24 +44,24 @@ module _ {N P : Type 0} (state : P → ProcessState) (is_of : P → N → Type 0
       let before = o rs first (was down) in (
         before.0 ++ es,
         subst (Posted (state j0.cell) (state k.cell)) (append_assoc (begins (state j0.cell).node rs) before.0 es)
-            (posted_then (state j0.cell) (state j.cell) (state k.cell) (begins (state j0.cell).node rs ++ before.0) es before.1 posts),
+            (posted_on (state j0.cell) (state j.cell) (state k.cell) (begins (state j0.cell).node rs ++ before.0) es before.1 posts),
       )
 
-  later_open : (j0 j k : Job P) → Opens state j0 j → HasWorked state is_of too_great net j k → k.fault ≡ None → Opens state j0 k
+  later_open : (j0 j k : Job P) → Opens state j0 j → HasWorked state is_of causes net j k → k.fault ≡ None → Opens state j0 k
   later_open j0 j k o w none =
       let d = done_up j k w none in
       more_open j0 j k (d.made ++ d.took) o (was_false j.risen k.risen w.stretch.stays) d.posts
 
   -- after a phase without a fault
   pub worked_open : (js0 js ks : List (Job P)) → length js ≡ length js0 → length ks ≡ length js → AreUntouchedOrOpen js0 js
-      → ((i : ℕ) (d : Job P) → i < length js → HasWorked state is_of too_great net (get_or js i d) (get_or ks i d)) → All (λ (k : Job P). k.fault ≡ None) ks → AllOpen js0 ks
+      → ((i : ℕ) (d : Job P) → i < length js → HasWorked state is_of causes net (get_or js i d) (get_or ks i d)) → All (λ (k : Job P). k.fault ≡ None) ks → AllOpen js0 ks
   worked_open js0 js ks size more (inl same) each none i d l =
       subst (λ (j : Job P). Opens state j (get_or ks i d)) (ap (λ xs. get_or xs i d) same) (first_open (get_or js i d) (get_or ks i d) (each i d (omega arith)) (none i d (omega arith)))
   worked_open js0 js ks size more (inr opened) each none i d l = later_open (get_or js0 i d) (get_or js i d) (get_or ks i d) (opened i d l) (each i d (omega arith)) (none i d (omega arith))
 
   module _ (answers : Answers) (at : ℕ) where
     -- a look changes nothing of it
-    pub looked_open : (js0 ks : List (Job P)) (y e : Job P) → length ks ≡ length js0 → Looks state is_of too_great net answers at (get_or ks at e) y → AllOpen js0 ks → AllOpen js0 (set ks at y)
+    pub looked_open : (js0 ks : List (Job P)) (y e : Job P) → length ks ≡ length js0 → Looks state is_of causes net answers at (get_or ks at e) y → AllOpen js0 ks → AllOpen js0 (set ks at y)
     looked_open js0 ks y e size w opened i d l = dite (ℕ_discrete i at)
         (λ here. subst (Opens state (get_or js0 i d)) (sym (mine here)) (more_open (get_or js0 i d) (get_or ks at e) y [] (subst (Opens state (get_or js0 i d)) (same here) (opened i d l)) (λ down. sym w.risen ∙ down) w.posts))
         (λ other. subst (Opens state (get_or js0 i d)) (sym (get_or-set_other ks at i y d other)) (opened i d l))
@@ -84,7 +81,7 @@ module _ {N P : Type 0} (state : P → ProcessState) (is_of : P → N → Type 0
 
     -- ---- the first call
 
-    new_opens : (rs : List Round) (j y : Job P) → IsNew state is_of net j → Looks state is_of too_great net answers at j y → y.first ≡ begin_moves rs → IsToOpen state is_of net rs y
+    new_opens : (rs : List Round) (j y : Job P) → IsNew state is_of net j → Looks state is_of causes net answers at j y → y.first ≡ begin_moves rs → IsToOpen state is_of net rs y
     new_opens rs j y n w first = record {
       fault = w.fault ∙ n.fault;
       own = w.own;
@@ -107,7 +104,7 @@ module _ {N P : Type 0} (state : P → ProcessState) (is_of : P → N → Type 0
     }
 
     -- each node has posted nothing, and one of them is to begin the round that was called, if one was
-    pub first_asked : (js : List (Job P)) (called after : List Call) (y e : Job P) (left : Bool) → called ≡ [] → All (IsNew state is_of net) js → at < length js → Looks state is_of too_great net answers at (get_or js at e) y
+    pub first_asked : (js : List (Job P)) (called after : List Call) (y e : Job P) (left : Bool) → called ≡ [] → All (IsNew state is_of net) js → at < length js → Looks state is_of causes net answers at (get_or js at e) y
         → Asked state (answers (state (get_or js at e).cell).config (state (get_or js at e).cell).node) called after (get_or js at e) y left
         → (i : ℕ) (d : Job P) → i < length js → IsToOpen state is_of net (only_at at i (rounds after)) (get_or (set js at y) i d)
     first_asked js called after y e left none new there w a i d l = dite (ℕ_discrete i at)
@@ -120,7 +117,7 @@ module _ {N P : Type 0} (state : P → ProcessState) (is_of : P → N → Type 0
         after_is = a.called ∙ ap (λ cs. cs ++ option_to_list a.answer) none
 
     -- the answer of the caller
-    pub first_answer : (js : List (Job P)) (called after : List Call) (y e d : Job P) (left : Bool) → called ≡ [] → at < length js → Looks state is_of too_great net answers at (get_or js at e) y
+    pub first_answer : (js : List (Job P)) (called after : List Call) (y e d : Job P) (left : Bool) → called ≡ [] → at < length js → Looks state is_of causes net answers at (get_or js at e) y
         → Asked state (answers (state (get_or js at e).cell).config (state (get_or js at e).cell).node) called after (get_or js at e) y left → HasAnswered state answers after (get_or (set js at y) at d)
     first_answer js called after y e d left none there w a = subst (HasAnswered state answers after) (sym (get_or-set_same js at y d there)) (record {
       answer = a.answer;

@@ -16,16 +16,17 @@ use Rattle.gp_msg.specs.declared.record.Record.{Record}
 use Rattle.gp_work.specs.declared.faults.JobFault.{JobFault}
 use Rattle.gp_work.specs.declared.job.Job.{Job}
 use Rattle.gp_work.specs.declared.moves.Move.{Move}
-use Rattle.gp_rules.specs.Own.{own_events}
+use Rattle.gp_wire.specs.Own.{own_events}
 use Rattle.gp_edge.specs.Faults.{Rose}
 use Rattle.gp_work.specs.Doing.{ProcessState, posted, have, Goes, Posted}
 use Rattle.gp_work.specs.declared.moves.Move.TheVariants as move
 use Rattle.gp_work.specs.Moves.{event_of, AllFit, HasOffer}
+use Rattle.gp_work.specs.Causes.{FaultCauses}
 use Rattle.gp_work.specs.Jobs.{Caused, Done, Ends, IsReady, HasWorked}
 use Rattle.gp_work.specs.declared.faults.JobFault.TheVariants.{NoMemory, Disk, Full, NotLog, Changed}
 use Rattle.gp_msg.specs.Records.{messages_in}
 use Rattle.gp_work.specs.Batches.{AreRead}
-use Rattle.gp_work.proofs.Batching.{read_none}
+use Rattle.gp_work.proofs.Batching.{read_none, get_front, take_whole}
 use Rattle.gp_work.proofs.Stretches.{goes_same, goes_on, rose_on, rose_then, posted_more}
 use Rattle.gp_phase.specs.Deeds.{Tidy, takes_in, others_in, begins, begin_moves}
 use Rattle.gp_phase.specs.declared.caller.Call.{Call}
@@ -33,9 +34,9 @@ use Rattle.gp_phase.specs.Phases.{rounds, only_at, Going, FaultCause, Carried, A
 use Rattle.gp_phase.proofs.Deeds.{tidy_on, tidy_looked, begins_append, done_made, no_offer}
 
 -- a job that was done in a phase without a fault
-pub done_of : (too_great : Event → ℕ → ℕ → Type 0) (p : ProcessState) (f : Bool) (first : List Move) (cursor : ℕ) (q : ProcessState) (g : Bool) (behind : ℕ) (fault : Option JobFault)
-    → fault ≡ None → Ends too_great p f first cursor q g behind fault → Done p f first cursor q g behind
-done_of too_great p f first cursor q g behind fault none e = subst (Ends too_great p f first cursor q g behind) none e
+pub done_of : (causes : FaultCauses) (p : ProcessState) (f : Bool) (first : List Move) (cursor : ℕ) (q : ProcessState) (g : Bool) (behind : ℕ) (fault : Option JobFault)
+    → fault ≡ None → Ends causes p f first cursor q g behind fault → Done p f first cursor q g behind
+done_of causes p f first cursor q g behind fault none e = subst (Ends causes p f first cursor q g behind) none e
 
 -- ---- a place of its own
 
@@ -61,17 +62,6 @@ only_moves at i rs = dite (ℕ_discrete i at)
 
 -- ---- lists of rounds
 
-get_front : {A : Type 0} (xs ys : List A) (k : ℕ) → k < length xs → slice_get (xs ++ ys) k ≡ slice_get xs k
-get_front [] ys k l = absurd (none l) where
-  none : k < 0 → ⊥
-  none l = omega (arith, l)
-get_front (x ∷ xs) ys zero l = refl
-get_front (x ∷ xs) ys (suc k) l = get_front xs ys k (omega (arith, l))
-
-take_whole : {A : Type 0} (xs : List A) → take (length xs) xs ≡ xs
-take_whole [] = refl
-take_whole (x ∷ xs) = ap (λ l. x ∷ l) (take_whole xs)
-
 get_last : {A : Type 0} (xs : List A) (x y : A) (k : ℕ) → k ≡ length xs → slice_get (xs ++ x ∷ []) k ≡ Some y → x ≡ y
 get_last xs x y k e h = some_is (sym (last xs x) ∙ ap (slice_get (xs ++ x ∷ [])) (sym e) ∙ h) where
   last : {A : Type 0} (xs : List A) (x : A) → slice_get (xs ++ x ∷ []) (length xs) ≡ Some x
@@ -89,14 +79,21 @@ pub was_false : (f g : Bool) → (f ≡ true → g ≡ true) → g ≡ false →
 was_false true g h e = absurd (not_true g e (h refl))
 was_false false g h e = refl
 
+-- no job has a fault after one of them was put in place
+pub unbroken_set : {P : Type 0} (js : List (Job P)) (at : ℕ) (y : Job P) → All (λ (j : Job P). j.fault ≡ None) js → y.fault ≡ None → All (λ (j : Job P). j.fault ≡ None) (set js at y)
+unbroken_set {P} js at y all none i d l =
+    let size = length-set js at y in dite (ℕ_discrete i at)
+    (λ here. ap (λ (x : Job P). x.fault) (ap (λ n. get_or (set js at y) n d) here ∙ get_or-set_same js at y d (omega (arith, l, here, size))) ∙ none)
+    (λ other. ap (λ (x : Job P). x.fault) (get_or-set_other js at i y d other) ∙ all i d (omega (arith, l, size)))
+
 -- the cause of a fault, from the job at first on
-cause_on : (a b c : ℕ) (f : Bool) (too_great : Event → ℕ → ℕ → Type 0) (fault : JobFault) → a ≤ b → Caused f b c too_great fault → FaultCause a c too_great fault
-cause_on a b c f too_great NoMemory l h = tt
-cause_on a b c f too_great Disk l (inl h) = omega (arith, l, h)
-cause_on a b c f too_great Disk l (inr h) = rose_on a b c l h.1
-cause_on a b c f too_great (Full size need) l h = h
-cause_on a b c f too_great (NotLog at) l h = rose_on a b c l h
-cause_on a b c f too_great (Changed found) l h = rose_on a b c l h
+cause_on : (a b c : ℕ) (f g : Bool) (causes : FaultCauses) (fault : JobFault) → a ≤ b → Caused f g b c causes fault → FaultCause a c causes fault
+cause_on a b c f g causes NoMemory l h = tt
+cause_on a b c f g causes Disk l (up, inl h) = omega (arith, l, h)
+cause_on a b c f g causes Disk l (up, inr h) = rose_on a b c l h.1
+cause_on a b c f g causes (Full size need) l h = h
+cause_on a b c f g causes (NotLog at) l h = (rose_on a b c l h.1, h.2)
+cause_on a b c f g causes (Changed found) l h = (rose_on a b c l h.1, h.2)
 
 -- ---- rounds that were called
 
@@ -150,7 +147,7 @@ module _ (answers : Answers) where
   all_begun p q begun (Some c) took go posts all left =
       one_more q begun c (all_begun_on p q (event_of p.node (move.Begin c.round) ∷ took) begun go posts all) (first_begun p q took begun c go posts left)
 
-module _ {N P : Type 0} (state : P → ProcessState) (is_of : P → N → Type 0) (too_great : P → Event → ℕ → ℕ → Type 0) (net : N) (answers : Answers) (at : ℕ) where
+module _ {N P : Type 0} (state : P → ProcessState) (is_of : P → N → Type 0) (causes : P → FaultCauses) (net : N) (answers : Answers) (at : ℕ) where
   -- before a phase: the node has begun the rounds that were called, but perhaps for the last one
   pub record Phase (js0 js : List (Job P)) (me : Node) (us : Counts) (begun : List Call) (pending : Option Call) (called : List Call) : Type 0 where
     pub size : length js ≡ length js0
@@ -197,7 +194,7 @@ module _ {N P : Type 0} (state : P → ProcessState) (is_of : P → N → Type 0
       mine = ph.first i d within
 
   -- what a phase without a fault does to a job
-  gone_on : (rs ss : List Round) (j0 j k : Job P) → Going state is_of net rs j0 j → j.first ≡ begin_moves ss → HasWorked state is_of too_great net j k → k.fault ≡ None → Going state is_of net (rs ++ ss) j0 k
+  gone_on : (rs ss : List Round) (j0 j k : Job P) → Going state is_of net rs j0 j → j.first ≡ begin_moves ss → HasWorked state is_of causes net j k → k.fault ≡ None → Going state is_of net (rs ++ ss) j0 k
   gone_on rs ss j0 j k g first w none = record {
     fault = none;
     own = w.own;
@@ -209,7 +206,7 @@ module _ {N P : Type 0} (state : P → ProcessState) (is_of : P → N → Type 0
   }
     where
       done : Done (state j.cell) j.risen j.first j.cursor (state k.cell) k.risen k.cursor
-      done = done_of (too_great k.cell) (state j.cell) j.risen j.first j.cursor (state k.cell) k.risen k.cursor k.fault none w.ends
+      done = done_of (causes k.cell) (state j.cell) j.risen j.first j.cursor (state k.cell) k.risen k.cursor k.fault none w.ends
 
       by_mark : (b : Bool) → j.risen ≡ b → j0.risen ≡ false → k.risen ≡ true → Rose (state j0.cell).faults (state k.cell).faults
       by_mark true e down up = rose_then (state j0.cell).faults (state j.cell).faults (state k.cell).faults (g.fallen down e) w.stretch.goes.faults
@@ -225,12 +222,12 @@ module _ {N P : Type 0} (state : P → ProcessState) (is_of : P → N → Type 0
           subst (Tidy (state k.cell) k.cursor) (sym (begins_append (state j.cell).node rs ss) ∙ ap (λ n. begins n (rs ++ ss)) (sym w.stretch.goes.node))
           (tidy_on (state j.cell) j.cursor (begins (state j.cell).node rs) ss (state k.cell) k.cursor (g.tidy was) w.stretch.goes d)
 
-  follows_on : (j k : Job P) (begun : List Call) (pending : Option Call) → j.first ≡ begin_moves (rounds (option_to_list pending)) → HasWorked state is_of too_great net j k → k.fault ≡ None
+  follows_on : (j k : Job P) (begun : List Call) (pending : Option Call) → j.first ≡ begin_moves (rounds (option_to_list pending)) → HasWorked state is_of causes net j k → k.fault ≡ None
       → Follows state answers j begun pending → Follows state answers k (begun ++ option_to_list pending) None
   follows_on j k begun pending first w none f = record {
     all = λ down.
         let was : j.risen ≡ false = was_false j.risen k.risen w.stretch.stays down in
-        let done = done_of (too_great k.cell) (state j.cell) j.risen j.first j.cursor (state k.cell) k.risen k.cursor k.fault none w.ends in
+        let done = done_of (causes k.cell) (state j.cell) j.risen j.first j.cursor (state k.cell) k.risen k.cursor k.fault none w.ends in
         let d : Done (state j.cell) false (begin_moves (rounds (option_to_list pending))) j.cursor (state k.cell) false k.cursor =
         subst (λ g. Done (state j.cell) g (begin_moves (rounds (option_to_list pending))) j.cursor (state k.cell) false k.cursor) was
         (subst (λ g. Done (state j.cell) j.risen (begin_moves (rounds (option_to_list pending))) j.cursor (state k.cell) g k.cursor) down
@@ -241,27 +238,27 @@ module _ {N P : Type 0} (state : P → ProcessState) (is_of : P → N → Type 0
   }
 
   -- what a phase does to a job, with a fault or without
-  carried_on : (rs : List Round) (j0 j k : Job P) → Going state is_of net rs j0 j → HasWorked state is_of too_great net j k → Carried state is_of too_great net j0 k
+  carried_on : (rs : List Round) (j0 j k : Job P) → Going state is_of net rs j0 j → HasWorked state is_of causes net j k → Carried state is_of causes net j0 k
   carried_on rs j0 j k g w = record {
     own = w.own;
     goes = goes_on (state j0.cell) (state j.cell) (state k.cell) g.goes w.stretch.goes;
     cause = caused k.fault w.ends;
   }
     where
-      caused : (fault : Option JobFault) → Ends (too_great k.cell) (state j.cell) j.risen j.first j.cursor (state k.cell) k.risen k.cursor fault
-          → IfSome fault (FaultCause (state j0.cell).faults (state k.cell).faults (too_great k.cell))
+      caused : (fault : Option JobFault) → Ends (causes k.cell) (state j.cell) j.risen j.first j.cursor (state k.cell) k.risen k.cursor fault
+          → IfSome fault (FaultCause (state j0.cell).faults (state k.cell).faults (causes k.cell))
       caused None e = tt
-      caused (Some fault) e = cause_on (state j0.cell).faults (state j.cell).faults (state k.cell).faults j.risen (too_great k.cell) fault g.goes.faults e.1
+      caused (Some fault) e = cause_on (state j0.cell).faults (state j.cell).faults (state k.cell).faults j.risen k.risen (causes k.cell) fault g.goes.faults e.1
 
   pub all_carried : (js0 js ks : List (Job P)) (me : Node) (us : Counts) (begun : List Call) (pending : Option Call) (called : List Call) → Phase js0 js me us begun pending called
-      → ((i : ℕ) (d : Job P) → i < length js → HasWorked state is_of too_great net (get_or js i d) (get_or ks i d))
-      → (i : ℕ) (d : Job P) → i < length js0 → Carried state is_of too_great net (get_or js0 i d) (get_or ks i d)
+      → ((i : ℕ) (d : Job P) → i < length js → HasWorked state is_of causes net (get_or js i d) (get_or ks i d))
+      → (i : ℕ) (d : Job P) → i < length js0 → Carried state is_of causes net (get_or js0 i d) (get_or ks i d)
   all_carried js0 js ks me us begun pending called ph each i d l =
       let e = ph.size in carried_on (only_at at i (rounds begun)) (get_or js0 i d) (get_or js i d) (get_or ks i d) (ph.each i d l) (each i d (omega arith))
 
   -- after a phase without a fault: the node has begun all rounds that were called
   pub worked : (js0 js ks : List (Job P)) (me : Node) (us : Counts) (begun : List Call) (pending : Option Call) (called : List Call) → at < length js0 → Phase js0 js me us begun pending called → length ks ≡ length js
-      → ((i : ℕ) (d : Job P) → i < length js → HasWorked state is_of too_great net (get_or js i d) (get_or ks i d)) → All (λ (k : Job P). k.fault ≡ None) ks → Phase js0 ks me us called None called
+      → ((i : ℕ) (d : Job P) → i < length js → HasWorked state is_of causes net (get_or js i d) (get_or ks i d)) → All (λ (k : Job P). k.fault ≡ None) ks → Phase js0 ks me us called None called
   worked js0 js ks me us begun pending called there ph size each none = record {
     size = size ∙ ph.size;
     each = λ i d l. let e = ph.size in let f = size in
@@ -278,11 +275,11 @@ module _ {N P : Type 0} (state : P → ProcessState) (is_of : P → N → Type 0
 
   -- no job has messages left that its node has seen
   pub looked : (js0 js ks : List (Job P)) (me : Node) (us : Counts) (begun : List Call) (pending : Option Call) (called : List Call) → Phase js0 js me us begun pending called → length ks ≡ length js
-      → ((i : ℕ) (d : Job P) → i < length js → HasWorked state is_of too_great net (get_or js i d) (get_or ks i d)) → All (λ (k : Job P). k.fault ≡ None) ks
+      → ((i : ℕ) (d : Job P) → i < length js → HasWorked state is_of causes net (get_or js i d) (get_or ks i d)) → All (λ (k : Job P). k.fault ≡ None) ks
       → (i : ℕ) (d : Job P) → i < length js0 → have (state (get_or ks i d).cell) ≤ (get_or ks i d).cursor
   looked js0 js ks me us begun pending called ph size each none i d l =
       let e = ph.size in let f = size in let w = each i d (omega arith) in
-      (done_of (too_great (get_or ks i d).cell) (state (get_or js i d).cell) (get_or js i d).risen (get_or js i d).first (get_or js i d).cursor (state (get_or ks i d).cell) (get_or ks i d).risen (get_or ks i d).cursor (get_or ks i d).fault (none i d (omega arith)) w.ends).none
+      (done_of (causes (get_or ks i d).cell) (state (get_or js i d).cell) (get_or js i d).risen (get_or js i d).first (get_or js i d).cursor (state (get_or ks i d).cell) (get_or ks i d).risen (get_or ks i d).cursor (get_or ks i d).fault (none i d (omega arith)) w.ends).none
 
   -- what a caller does to the job of its node
   pub record Looks (j y : Job P) : Type 0 where
@@ -364,11 +361,11 @@ module _ {N P : Type 0} (state : P → ProcessState) (is_of : P → N → Type 0
 
   -- the caller was asked, and memory ran out, or not: what it left of each job
   pub carried_asked : (js0 ks : List (Job P)) (me : Node) (us : Counts) (called : List Call) (y e : Job P) → at < length js0 → Phase js0 ks me us called None called → Looks (get_or ks at e) y
-      → (i : ℕ) (d : Job P) → i < length js0 → Carried state is_of too_great net (get_or js0 i d) (get_or (set ks at y) i d)
+      → (i : ℕ) (d : Job P) → i < length js0 → Carried state is_of causes net (get_or js0 i d) (get_or (set ks at y) i d)
   carried_asked js0 ks me us called y e there ph w i d l = dite (ℕ_discrete i at)
-      (λ here. subst (λ x. Carried state is_of too_great net (get_or js0 i d) x) (sym (mine here))
+      (λ here. subst (λ x. Carried state is_of causes net (get_or js0 i d) x) (sym (mine here))
       (still (only_at at i (rounds called)) (get_or js0 i d) y (going_looked (only_at at i (rounds called)) (get_or js0 i d) (get_or ks at e) y (subst (λ x. Going state is_of net (only_at at i (rounds called)) (get_or js0 i d) x) (same here) (ph.each i d l)) w)))
-      (λ other. subst (λ x. Carried state is_of too_great net (get_or js0 i d) x) (sym (get_or-set_other ks at i y d other)) (still (only_at at i (rounds called)) (get_or js0 i d) (get_or ks i d) (ph.each i d l)))
+      (λ other. subst (λ x. Carried state is_of causes net (get_or js0 i d) x) (sym (get_or-set_other ks at i y d other)) (still (only_at at i (rounds called)) (get_or js0 i d) (get_or ks i d) (ph.each i d l)))
     where
       mine : i ≡ at → get_or (set ks at y) i d ≡ y
       mine here = ap (λ n. get_or (set ks at y) n d) here ∙ get_or-set_same ks at y d (let s = ph.size in omega arith)
@@ -383,8 +380,8 @@ module _ {N P : Type 0} (state : P → ProcessState) (is_of : P → N → Type 0
           defaults (x ∷ xs) zero d e l = refl
           defaults (x ∷ xs) (suc n) d e l = defaults xs n d e (omega (arith, l))
 
-      still : (rs : List Round) (j0 k : Job P) → Going state is_of net rs j0 k → Carried state is_of too_great net j0 k
-      still rs j0 k g = record { own = g.own; goes = g.goes; cause = subst (λ f. IfSome f (FaultCause (state j0.cell).faults (state k.cell).faults (too_great k.cell))) (sym g.fault) tt }
+      still : (rs : List Round) (j0 k : Job P) → Going state is_of net rs j0 k → Carried state is_of causes net j0 k
+      still rs j0 k g = record { own = g.own; goes = g.goes; cause = subst (λ f. IfSome f (FaultCause (state j0.cell).faults (state k.cell).faults (causes k.cell))) (sym g.fault) tt }
 
   -- what a caller knows lasts
   pub known : (knows : List Record → Type 0) → ((xs ys : List Record) → knows xs → knows (xs ++ ys)) → (p q : ProcessState) → Goes p q → knows p.list → knows q.list

@@ -2,26 +2,24 @@
 use Rattle.std.proofs.Common.{◌≡◌, ℕ, zero, suc, ◌+◌, ◌<◌, ◌≤◌, Bool, true, false, cond, List, [], ◌∷◌, ◌++◌, length, map, get_or, refl, sym, ap, ◌∙◌, subst, inl, inr, ⊎_elim, arith, None, append_assoc, length-append}
 use Rattle.std.specs.Prelude.{slice_get}
 use Rattle.std.specs.List.{Contains}
-use Rattle.std.proofs.lemmas.List.{append-nil, map-append}
+use Rattle.std.proofs.lemmas.List.{append-nil}
 use Rattle.std.proofs.lemmas.Bool.{cases_lt}
 use Rattle.gp_msg.specs.declared.node.Node.{Node}
 use Rattle.gp_msg.specs.declared.record.Record.{Record}
 use Rattle.gp_wire.specs.declared.view.Post.{Post}
 use Rattle.gp_wire.specs.Lists.{Each, Has, IsDistinct}
 use Rattle.gp_msg.specs.Records.{messages_in}
-use Rattle.gp_wire.specs.Rule.{items, item, Begins}
+use Rattle.gp_wire.specs.Rule.{items, Begins}
 use Rattle.gp_wire.specs.Known.{PassState, records, old_of}
 use Rattle.gp_wire.specs.Ends.{AllBegin}
-use Rattle.gp_rules.specs.Own.{own, own_events}
+use Rattle.gp_wire.specs.Own.{own, own_events}
 use Rattle.gp_msg.specs.Nodes.{same_node}
-use Rattle.gp_rules.specs.SameNodes.{same_tells}
-use Rattle.gp_rules.proofs.OwnRecords.{own_append, own_foreign}
+use Rattle.gp_wire.proofs.SameNodes.{same_tells}
+use Rattle.gp_wire.proofs.OwnRecords.{own_append, own_foreign}
 use Rattle.gp_work.specs.Batches.{is_read, AreRead}
+use Rattle.gp_wire.proofs.Words.{items_append}
 use Rattle.gp_phase.specs.Deeds.{takes_in}
 use Rattle.gp_phase.specs.Quiet.{node_of, posted_all, IsQuietAt, AreAll, SawAll}
-
-items_append : (xs ys : List Post) → items (xs ++ ys) ≡ items xs ++ items ys
-items_append xs ys = map-append item xs ys
 
 -- the closed list has of each node the records that its pass has seen
 pub own_closed : (log : List Post) (p : PassState) → Begins log (old_of p) → Has p.node p.holds → own p.node (items log) ≡ own p.node (records p)

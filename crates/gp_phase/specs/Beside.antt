@@ -1,8 +1,8 @@
 -- All jobs of a work phase, and what is done beside them.
 use Rattle.std.specs.Prelude.{◌≡◌, ◌<◌, ℕ, List, length, slice_index_or}
 use Rattle.std.specs.List.{All}
-use Rattle.gp_msg.specs.declared.event.Event.{Event}
 use Rattle.gp_work.specs.declared.job.Job.{Job}
+use Rattle.gp_work.specs.Causes.{FaultCauses}
 use Rattle.gp_work.specs.Doing.{ProcessState}
 use Rattle.gp_work.specs.Jobs.{IsReady, HasWorked}
 use Rattle.gp_phase.specs.declared.beside.Trio.{Trio}
@@ -13,9 +13,9 @@ pub record CanWork {N P : Type 0} (state : P → ProcessState) (is_of : P → N 
   pub ready : All (IsReady state is_of net) jobs
 
 -- each job was done, in its place
-pub record HaveAllWorked {N P : Type 0} (state : P → ProcessState) (is_of : P → N → Type 0) (too_great : P → Event → ℕ → ℕ → Type 0) (net : N) (jobs done : List (Job P)) : Type 0 where
+pub record HaveAllWorked {N P : Type 0} (state : P → ProcessState) (is_of : P → N → Type 0) (causes : P → FaultCauses) (net : N) (jobs done : List (Job P)) : Type 0 where
   pub same : length done ≡ length jobs
-  pub each : (i : ℕ) (d : Job P) → i < length jobs → HasWorked state is_of too_great net (slice_index_or jobs i d) (slice_index_or done i d)
+  pub each : (i : ℕ) (d : Job P) → i < length jobs → HasWorked state is_of causes net (slice_index_or jobs i d) (slice_index_or done i d)
 
 -- what the work of each thread is about
 pub record Topics (S T : Type 0) : Type 0 where

@@ -5,7 +5,7 @@ use Rattle.gp_msg.specs.declared.node.Node.{Node}
 use Rattle.gp_msg.specs.declared.event.Event.{Event}
 use Rattle.gp_msg.specs.declared.event.Event.TheVariants.{Offer, Begin, Take, Fall}
 use Rattle.gp_msg.specs.Records.{messages_in}
-use Rattle.gp_rules.specs.Own.{own_events}
+use Rattle.gp_wire.specs.Own.{own_events}
 use Rattle.gp_work.specs.declared.moves.Move.{Move}
 use Rattle.gp_work.specs.declared.moves.Move.TheVariants as move
 use Rattle.gp_work.specs.Doing.{ProcessState, have}

@@ -8,10 +8,12 @@ use Rattle.gp_msg.specs.declared.event.Event.{Event}
 use Rattle.gp_msg.specs.declared.record.Record.{Record}
 use Rattle.gp_msg.specs.Records.{messages_in}
 use Rattle.gp_edge.specs.Faults.{Rose}
-use Rattle.gp_rules.specs.Own.{own_events}
+use Rattle.gp_wire.specs.Own.{own_events}
 use Rattle.gp_work.specs.declared.faults.JobFault.{JobFault}
 use Rattle.gp_work.specs.declared.faults.JobFault.TheVariants.{NoMemory, Disk, Full, NotLog, Changed}
+use Rattle.gp_work.specs.declared.faults.RiseFault.TheVariants as rise
 use Rattle.gp_work.specs.declared.job.Job.{Job}
+use Rattle.gp_work.specs.Causes.{FaultCauses}
 use Rattle.gp_work.specs.Doing.{ProcessState, posted, Goes, Posted}
 use Rattle.gp_work.specs.Moves.{event_of, AllFit}
 use Rattle.gp_work.specs.declared.moves.Move.TheVariants as move
@@ -37,19 +39,19 @@ pub record Going {N P : Type 0} (state : P → ProcessState) (is_of : P → N �
   pub fallen : j.risen ≡ false → k.risen ≡ true → Rose (state j.cell).faults (state k.cell).faults
   pub tidy : k.risen ≡ false → Tidy (state k.cell) k.cursor (begins (state k.cell).node rounds)
 
--- why a job ended early: the number of faults of its disk before and now, and which numbers are too great for an event of its node
-abbrev pub FaultCause : ℕ → ℕ → (Event → ℕ → ℕ → Type 0) → JobFault → Type 0
-FaultCause before now too_great NoMemory = Unit {0}
-FaultCause before now too_great Disk = Rose before now
-FaultCause before now too_great (Full size need) = (e : Event) × too_great e size need
-FaultCause before now too_great (NotLog at) = Rose before now
-FaultCause before now too_great (Changed found) = Rose before now
+-- why a job ended early: the number of faults of its disk before and now, and what faults mean at its node
+abbrev pub FaultCause : ℕ → ℕ → FaultCauses → JobFault → Type 0
+FaultCause before now causes NoMemory = Unit {0}
+FaultCause before now causes Disk = Rose before now
+FaultCause before now causes (Full size need) = (e : Event) × causes.too_great e size need
+FaultCause before now causes (NotLog at) = Rose before now × causes.not_risen (rise.NotLog at)
+FaultCause before now causes (Changed found) = Rose before now × causes.not_risen (rise.Changed found)
 
 -- a job that was j at first, however the work phases ended
-pub record Carried {N P : Type 0} (state : P → ProcessState) (is_of : P → N → Type 0) (too_great : P → Event → ℕ → ℕ → Type 0) (net : N) (j k : Job P) : Type 0 where
+pub record Carried {N P : Type 0} (state : P → ProcessState) (is_of : P → N → Type 0) (causes : P → FaultCauses) (net : N) (j k : Job P) : Type 0 where
   pub own : is_of k.cell net
   pub goes : Goes (state j.cell) (state k.cell)
-  pub cause : IfSome k.fault (FaultCause (state j.cell).faults (state k.cell).faults (too_great k.cell))
+  pub cause : IfSome k.fault (FaultCause (state j.cell).faults (state k.cell).faults (causes k.cell))
 
 -- what a caller may return: for a configuration, a node, the calls that it returned before, and the records that the node has seen
 abbrev pub Answers : Type 1

@@ -7,7 +7,7 @@ use Rattle.gp_wire.specs.Lists.{Each, Has, IsDistinct}
 use Rattle.gp_msg.specs.Records.{messages_in}
 use Rattle.gp_wire.specs.Known.{PassState, records}
 use Rattle.gp_wire.specs.Ends.{AllBegin}
-use Rattle.gp_rules.specs.Own.{own, own_events}
+use Rattle.gp_wire.specs.Own.{own, own_events}
 use Rattle.gp_work.specs.Batches.{AreRead}
 use Rattle.gp_phase.specs.Deeds.{takes_in}
 

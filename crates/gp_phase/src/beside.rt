@@ -112,7 +112,7 @@ fn work_on<N: Sync, P: Process<N> + Send + Drop, W: Threads + Wait + Sync, G: Ga
     gate: &G,
 )
     requires { CanWork P.state P.is_of net.now jobs.old.items }
-    ensures { HaveAllWorked P.state P.is_of P.too_great net.now jobs.old.items jobs.new.items }
+    ensures { HaveAllWorked P.state P.is_of P.causes net.now jobs.old.items jobs.new.items }
 {
     let ready = replace(jobs, Vec::new(alloc));
     *jobs = workers(rt, alloc, net, ready, gate);
@@ -137,7 +137,7 @@ pub fn workers_beside<
     gate: &G,
 ) -> Vec<Job<P>>
     requires ready { CanWork P.state P.is_of net.now jobs.items }
-    ensures worked { HaveAllWorked P.state P.is_of P.too_great net.now jobs.items result.items }
+    ensures worked { HaveAllWorked P.state P.is_of P.causes net.now jobs.items result.items }
     ensures topics { topics A.topic B.topic beside.new ≡ topics A.topic B.topic beside.old }
 {
     let mut jobs = jobs;

@@ -40,6 +40,9 @@ pub trait Caller<N, P: Process<N>> {
     /// What it knows of the records that the node has seen, so that it need not look at them again.
     ghost knows: { Self → List Record → Type 0 };
 
+    /// How one look changes it, and what it may return then.
+    ghost looks: { Self → Self → Option Call → Type 0 };
+
     /// It still knows this after the node has seen more.
     ghost lasts: { (caller : Self) (seen more : List Record) → knows caller seen → knows caller (seen ++ more) };
 
@@ -59,6 +62,7 @@ pub trait Caller<N, P: Process<N>> {
         ensures posts { Posted (P.state cell.old) (P.state cell.new) [] }
         ensures up { (P.state cell.new).up ≡ true }
         ensures called { IfOk result (λ c. called self.new ≡ called self.old ++ option_to_list c) }
+        ensures look { IfOk result (looks self.old self.new) }
         ensures may { IfOk result (λ c. answers (config self.old) (node self.old) (called self.old) (P.state cell.new).list c) }
         ensures fits { IfOk result (λ c. IfSome c (λ x. Fits (config self.old) (node self.old) (Move.Begin x.round))) };
 }

@@ -150,7 +150,7 @@ pub fn run_phases<
     requires config { (d : Job P) → (P.state (slice_index_or jobs.items at d).cell).config ≡ C.config caller.old }
     requires knows { (d : Job P) → C.knows caller.old (P.state (slice_index_or jobs.items at d).cell).list }
     ensures size { length result.jobs.items ≡ length jobs.items }
-    ensures carried { (i : ℕ) (d : Job P) → i < length jobs.items → Carried P.state P.is_of P.too_great net.now (slice_index_or jobs.items i d) (slice_index_or result.jobs.items i d) }
+    ensures carried { (i : ℕ) (d : Job P) → i < length jobs.items → Carried P.state P.is_of P.causes net.now (slice_index_or jobs.items i d) (slice_index_or result.jobs.items i d) }
     ensures finished { result.end ≡ PhasesEnd.Quiet → (i : ℕ) (d : Job P) → i < length jobs.items
         → Finished P.state P.is_of net.now (only_at at i (rounds (C.called caller.new))) (total P.state others result.jobs.items) (slice_index_or jobs.items i d) (slice_index_or result.jobs.items i d) }
     ensures opens { result.end ≡ PhasesEnd.Quiet → (i : ℕ) (d : Job P) → i < length jobs.items → Opens P.state (slice_index_or jobs.items i d) (slice_index_or result.jobs.items i d) }

@@ -1,5 +1,5 @@
 //! The start of work phases.
-ghost use Rattle.std.specs.Prelude.{◌≡◌, ◌<◌, ℕ, [], length, slice_index_or, OnOk};
+ghost use Rattle.std.specs.Prelude.{◌≡◌, ◌<◌, ℕ, [], None, length, slice_index_or, OnOk};
 ghost use Rattle.std.specs.List.{All};
 ghost use Rattle.gp_work.specs.declared.job.Job.{Job};
 ghost use Rattle.gp_phase.specs.Phases.{rounds, only_at, IsNew, IsToOpen, HasAnswered, AreReady, Carried};
@@ -27,7 +27,8 @@ pub fn call_first<N, P: Process<N>, C: Caller<N, P>, W: Wait>(
     requires config { (d : Job P) → (P.state (slice_index_or jobs.old.items at d).cell).config ≡ C.config caller.old }
     requires knows { (d : Job P) → C.knows caller.old (P.state (slice_index_or jobs.old.items at d).cell).list }
     ensures size { length jobs.new.items ≡ length jobs.old.items }
-    ensures carried { (i : ℕ) (d : Job P) → i < length jobs.old.items → Carried P.state P.is_of P.too_great net.now (slice_index_or jobs.old.items i d) (slice_index_or jobs.new.items i d) }
+    ensures carried { (i : ℕ) (d : Job P) → i < length jobs.old.items → Carried P.state P.is_of P.causes net.now (slice_index_or jobs.old.items i d) (slice_index_or jobs.new.items i d) }
+    ensures unbroken { All (λ (j : Job P). j.fault ≡ None) jobs.new.items }
     ensures ready { OnOk result (AreReady P.state P.is_of net.now C.answers at (C.called caller.new) jobs.new.items) }
     ensures opening { OnOk result ((i : ℕ) (d : Job P) → i < length jobs.old.items → IsToOpen P.state P.is_of net.now (only_at at i (rounds (C.called caller.new))) (slice_index_or jobs.new.items i d)) }
     ensures answered { OnOk result ((d : Job P) → HasAnswered P.state C.answers (C.called caller.new) (slice_index_or jobs.new.items at d)) }

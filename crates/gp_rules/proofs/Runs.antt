@@ -14,7 +14,7 @@ use Rattle.gp_run.specs.Legal.{Legal, Follows, sent_by}
 use Rattle.gp_run.specs.Runs.{newest_first}
 use Rattle.gp_run.proofs.Others.{proposer_rests, coordinator_rests, acceptor_rests, learner_rests}
 use Rattle.gp_wire.specs.Legal.{LegalFrom}
-use Rattle.gp_rules.specs.SameNodes.{same_tells}
+use Rattle.gp_wire.proofs.SameNodes.{same_tells}
 use Rattle.gp_rules.specs.declared.roles.Core.{Core}
 use Rattle.gp_rules.specs.declared.roles.Core.TheVariants.{Proposer, Coordinator, Acceptor, Learner}
 use Rattle.gp_rules.specs.Cores.{acts, core_at}

@@ -24,11 +24,11 @@ use Rattle.gp_msg.specs.Nodes.{is_present, may_keep, fits_among}
 use Rattle.gp_run.specs.States.{coordinator_acts, coordinator_kept, acceptor_acts, acceptor_kept, learner_acts}
 use Rattle.gp_run.specs.Legal.{fits}
 use Rattle.gp_run.specs.Runs.{newest_first}
-use Rattle.gp_run.proofs.Choices.{left_true, right_true}
+use Rattle.gp_round.proofs.Counting.{left_true, right_true}
 use Rattle.gp_run.proofs.Telling.{messages-append}
 use Rattle.gp_wire.specs.Lists.{Each}
 use Rattle.gp_wire.specs.Legal.{LegalFrom, IsOfOther}
-use Rattle.gp_rules.specs.SameNodes.{same_tells}
+use Rattle.gp_wire.proofs.SameNodes.{same_tells}
 use Rattle.gp_rules.specs.declared.roles.Core.{Core}
 use Rattle.gp_rules.specs.declared.roles.Core.TheVariants.{Proposer, Coordinator, Acceptor, Learner}
 use Rattle.gp_rules.specs.Cores.{acts, core_at}

@@ -1,5 +1,5 @@
 -- How many records the proposers post.
-use Rattle.std.proofs.Common.{◌≡◌, ◌<◌, ◌≤◌, ◌+◌, ◌^◌, inl, inr, ⊎_elim, ℕ, zero, suc, cond, List, [], ◌∷◌, ◌++◌, map, length, nat_eq, refl, sym, subst, ap, ◌∙◌, arith, All, slice_index_or}
+use Rattle.std.proofs.Common.{◌≡◌, ◌<◌, ◌≤◌, ◌+◌, ◌^◌, inl, inr, ⊎_elim, ℕ, zero, suc, cond, List, [], ◌∷◌, ◌++◌, map, length, nat_eq, refl, sym, subst, ap, ◌∙◌, arith, All, slice_index_or, Option}
 use Rattle.std.proofs.lemmas.List.{length-map}
 use Rattle.std.proofs.lemmas.Bool.{eq-eqb, ne_eqb}
 use Rattle.gp_command.specs.Views.{DraftView}
@@ -7,7 +7,7 @@ use Rattle.gp_msg.specs.declared.node.Node.{Node}
 use Rattle.gp_wire.specs.Known.{WireState, records}
 use Rattle.gp_wire.specs.Lists.{Each, Has}
 use Rattle.gp_rules.specs.declared.rules.PaxosRules.{PaxosRules}
-use Rattle.gp_rules.specs.Own.{own, event_in}
+use Rattle.gp_wire.specs.Own.{own, event_in}
 use Rattle.gp_work.specs.declared.job.Job.{Job}
 use Rattle.gp_work.specs.Doing.{posted}
 use Rattle.gp_work.specs.Moves.{event_of}
@@ -98,15 +98,15 @@ module _ {D : Type 0} (faults : D → ℕ) (wire : WireState PaxosRules) (os : L
       let same : length given ≡ length js = ap length e ∙ length-map js (given_to os) in
       let eight : length js ≡ 8 = sym (length-map js node_in) ∙ ap length nodes ∙ length_proposers in (same, omega arith)
 
-  pub all_offered : (js given ks : List (Job (CellState D))) → All (IsNewAt faults wire) js → map node_in js ≡ proposer_nodes → given ≡ map (given_to os) js → length ks ≡ length given
-      → ((i : ℕ) (d : Job (CellState D)) → i < length given → IsWorkedJob faults wire (slice_index_or given i d) (slice_index_or ks i d)) → All IsDone ks
+  pub all_offered : (content : D → Option (List ℕ)) (js given ks : List (Job (CellState D))) → All (IsNewAt faults wire) js → map node_in js ≡ proposer_nodes → given ≡ map (given_to os) js → length ks ≡ length given
+      → ((i : ℕ) (d : Job (CellState D)) → i < length given → IsWorkedJob content faults wire (slice_index_or given i d) (slice_index_or ks i d)) → All IsDone ks
       → (i : ℕ) (d : Job (CellState D)) → i < length js → HasOffered faults wire os (slice_index_or js i d) (slice_index_or ks i d)
-  all_offered js given ks new nodes e size worked done i d l =
+  all_offered content js given ks new nodes e size worked done i d l =
       let j = slice_index_or js i d in let k = slice_index_or ks i d in
       let count = (count_given js given nodes e).0 in
       let which = first_has Proposer 8 j.cell.node (subst (λ n. Has n proposer_nodes) (ap (λ ns. slice_index_or ns i (node_in d)) (sym nodes) ∙ get_map node_in js i d (node_in d) l) (has_at proposer_nodes i (node_in d) (let all = sym (length-map js node_in) ∙ ap length nodes in omega arith))) in
       let given_is = ap (λ (js : List (Job (CellState D))). slice_index_or js i d) e ∙ get_map (given_to os) js i d d l in
-      has_offered faults wire os which.0 j k (new i d l) which.2 (subst (λ x. IsWorkedJob faults wire x k) given_is (worked i d (omega arith))) (done i d (omega arith))
+      has_offered content faults wire os which.0 j k (new i d l) which.2 (subst (λ x. IsWorkedJob content faults wire x k) given_is (worked i d (omega arith))) (done i d (omega arith))
 
   posted_of : (j k : Job (CellState D)) → IsNewAt faults wire j → HasOffered faults wire os j k → posted (process_of faults k.cell) ≡ length (moves_of j.cell.node os)
   posted_of j k new h =

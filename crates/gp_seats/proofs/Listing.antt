@@ -8,25 +8,12 @@ use Rattle.gp_msg.specs.declared.node.Node.TheVariants as node
 use Rattle.gp_msg.specs.Nodes.{is_present}
 use Rattle.gp_wire.specs.Lists.{Has, IsDistinct}
 use Rattle.gp_work.specs.Moves.{number_of}
+use Rattle.gp_wire.proofs.Words.{has_left, has_right, has_either}
 use Rattle.gp_seats.specs.declared.nodes.Role.{Role}
 use Rattle.gp_seats.specs.declared.nodes.Role.TheVariants.{Acceptor, Coordinator, Learner, Proposer}
 use Rattle.gp_seats.specs.Nodes.{node_of, first_of, logged_nodes, working_nodes, proposer_nodes, all_nodes}
 
 -- ---- lists of nodes
-
-pub has_left : (n : Node) (xs ys : List Node) → Has n xs → Has n (xs ++ ys)
-has_left n [] ys h = absurd h
-has_left n (x ∷ xs) ys (inl e) = inl e
-has_left n (x ∷ xs) ys (inr h) = inr (has_left n xs ys h)
-
-pub has_right : (n : Node) (xs ys : List Node) → Has n ys → Has n (xs ++ ys)
-has_right n [] ys h = h
-has_right n (x ∷ xs) ys h = inr (has_right n xs ys h)
-
-pub has_either : (n : Node) (xs ys : List Node) → Has n (xs ++ ys) → Has n xs ⊎ Has n ys
-has_either n [] ys h = inr h
-has_either n (x ∷ xs) ys (inl e) = inl (inl e)
-has_either n (x ∷ xs) ys (inr h) = ⊎_elim (λ a. inl (inr a)) (λ b. inr b) (has_either n xs ys h)
 
 pub distinct_both : (xs ys : List Node) → IsDistinct xs → IsDistinct ys → ((n : Node) → Has n xs → Has n ys → ⊥) → IsDistinct (xs ++ ys)
 distinct_both [] ys a b apart = b

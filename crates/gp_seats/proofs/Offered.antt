@@ -15,20 +15,21 @@ use Rattle.gp_wire.specs.Known.{WireState, records}
 use Rattle.gp_wire.specs.Lists.{Each}
 use Rattle.gp_edge.specs.Faults.{Rose}
 use Rattle.gp_rules.specs.declared.rules.PaxosRules.{PaxosRules}
-use Rattle.gp_rules.specs.Own.{own, own_events, event_in}
+use Rattle.gp_wire.specs.Own.{own, own_events, event_in}
 use Rattle.gp_rules.specs.Cores.{opening, part_in}
 use Rattle.gp_work.specs.declared.job.Job.{Job}
-use Rattle.gp_work.specs.declared.faults.JobFault.{JobFault}
 use Rattle.gp_work.specs.declared.moves.Move.{Move}
 use Rattle.gp_work.specs.declared.moves.Move.TheVariants as move
 use Rattle.gp_work.specs.Doing.{ProcessState, have, Posted}
 use Rattle.gp_work.specs.Moves.{event_of, Does, Takes, AllFit, is_offer}
 use Rattle.gp_work.specs.Batches.{times, is_read, AreRead}
-use Rattle.gp_work.specs.Jobs.{Done, Ends}
+use Rattle.gp_work.specs.Jobs.{Done}
 use Rattle.gp_cell.specs.Cells.{CellState, Keeps}
-use Rattle.gp_cell.specs.Refusals.{faults_of, IsTooGreat}
-use Rattle.gp_cell.specs.Working.{process_of, is_up}
+use Rattle.gp_cell.specs.Refusals.{faults_of}
+use Rattle.gp_cell.specs.Working.{process_of, causes_of, is_up}
 use Rattle.gp_node.specs.Phases.{IsReadyJob, IsWorkedJob}
+use Rattle.gp_phase.proofs.Deeds.{does_up}
+use Rattle.gp_phase.proofs.Phasing.{done_of}
 use Rattle.gp_seats.specs.Seats.{IsNewAt}
 use Rattle.gp_seats.specs.Offering.{is_proposer, moves_of, given_to, IsDone, HasOffered}
 
@@ -72,12 +73,6 @@ moves_more n (x ∷ os) o = ap (λ l. cond (is_proposer n x.0) (move.Offer x.1 �
 
 -- ---- what a node posts
 
-does_up : (n : Node) (h : ℕ) (ms : List Move) (es : List Event) (g : Bool) → Does n h ms es true g → g ≡ true
-does_up n h [] es g t = t.1
-does_up n h (m ∷ ms) es g (first, rest, mid, split, inl one, more) = does_up n h ms rest g (subst (λ x. Does n h ms rest x g) one.1 more)
-does_up n h (m ∷ ms) es g (first, rest, mid, split, inr (inl one), more) = does_up n h ms rest g (subst (λ x. Does n h ms rest x g) one.1 more)
-does_up n h (m ∷ ms) es g (first, rest, mid, split, inr (inr one), more) = does_up n h ms rest g (subst (λ x. Does n h ms rest x g) one.3 more)
-
 -- offers are made, one after another
 pub offered_plain : (n : Node) (h : ℕ) (ms : List Move) (es : List Event) → Each (λ m. is_offer m ≡ true) ms → Does n h ms es false false → es ≡ map (event_of n) ms
 offered_plain n h [] es are t = t.0
@@ -118,10 +113,6 @@ not_up : (down : Option Move) → is_up down ≡ true → down ≡ None
 not_up None e = refl
 not_up (Some m) e = absurd (let wrong : false ≡ true = e in cc)
 
-ended : (too : Event → ℕ → ℕ → Type 0) (p : ProcessState) (f : Bool) (first : List Move) (a : ℕ) (q : ProcessState) (g : Bool) (b : ℕ) (o : Option JobFault) → o ≡ None → Ends too p f first a q g b o → Done p f first a q g b
-ended too p f first a q g b None e h = h
-ended too p f first a q g b (Some fault) e h = absurd (let wrong : Some fault ≡ None = e in cc)
-
 module _ {D : Type 0} where
   keeps_none : (core : Option EpochPart) (log : Option (LogState D)) → Keeps None core log → log ≡ None
   keeps_none None None h = refl
@@ -137,8 +128,8 @@ module _ {D : Type 0} where
   not_risen before log faults true e h = absurd (let rose : Rose before 0 = subst (λ l. Rose before (faults_of faults l)) e (h refl) in omega arith)
 
   -- a new job of a proposer that was given its offers and did them
-  pub has_offered : (faults : D → ℕ) (wire : WireState PaxosRules) (os : List (ℕ × DraftView)) (i : ℕ) (j k : Job (CellState D)) → IsNewAt faults wire j → j.cell.node ≡ node.Proposer i → IsWorkedJob faults wire (given_to os j) k → IsDone k → HasOffered faults wire os j k
-  has_offered faults wire os i j k new e w done = record {
+  pub has_offered : (content : D → Option (List ℕ)) (faults : D → ℕ) (wire : WireState PaxosRules) (os : List (ℕ × DraftView)) (i : ℕ) (j k : Job (CellState D)) → IsNewAt faults wire j → j.cell.node ≡ node.Proposer i → IsWorkedJob content faults wire (given_to os j) k → IsDone k → HasOffered faults wire os j k
+  has_offered content faults wire os i j k new e w done = record {
     own = w.own;
     goes = w.stretch.goes;
     posts = posts_offers (process_of faults j.cell) i (moves_of j.cell.node os) j.cursor (process_of faults k.cell) k.cursor e (all_offers j.cell.node os)
@@ -150,7 +141,7 @@ module _ {D : Type 0} where
   }
     where
       whole : Done (process_of faults j.cell) j.risen (moves_of j.cell.node os) j.cursor (process_of faults k.cell) k.risen k.cursor
-      whole = ended (λ ev size need. IsTooGreat k.cell ev size need) (process_of faults j.cell) j.risen (moves_of j.cell.node os) j.cursor (process_of faults k.cell) k.risen k.cursor k.fault done.0 w.ends
+      whole = done_of (causes_of content k.cell) (process_of faults j.cell) j.risen (moves_of j.cell.node os) j.cursor (process_of faults k.cell) k.risen k.cursor k.fault done.0 w.ends
 
       log : k.cell.log ≡ None
       log = no_log k.cell.config k.cell.node i (part_in k.cell.core) k.cell.log (w.stretch.goes.node ∙ e) (done.1 (not_up k.cell.down whole.up))

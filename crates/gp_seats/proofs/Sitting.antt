@@ -14,11 +14,12 @@ use Rattle.gp_work.specs.declared.job.Job.{Job}
 use Rattle.gp_rules.specs.declared.rules.PaxosRules.{PaxosRules}
 use Rattle.gp_rules.specs.Cores.{opening, part_in}
 use Rattle.gp_cell.specs.Cells.{CellState, IsFreshLog, log_of}
+use Rattle.gp_wire.proofs.Words.{has_left, has_right}
 use Rattle.gp_seats.specs.declared.nodes.Role.{Role}
 use Rattle.gp_seats.specs.declared.nodes.Role.TheVariants.{Acceptor, Coordinator, Learner, Proposer}
 use Rattle.gp_seats.specs.Nodes.{node_of, first_of, logged_nodes, working_nodes, proposer_nodes}
 use Rattle.gp_seats.specs.Seats.{IsBlank, IsUnused, IsNewJob, CanSit, first_log, later_logs, has_log, logs_in, new_passes, seat, seats}
-use Rattle.gp_seats.proofs.Listing.{has_left, has_right, present_working, present_proposers}
+use Rattle.gp_seats.proofs.Listing.{present_working, present_proposers}
 
 pub all_of_each : {A : Type 0} (P : A → Type 0) (xs : List A) → Each P xs → All P xs
 all_of_each P [] h k d l = absurd (omega arith)
@@ -146,11 +147,11 @@ pub each_both : (P : Node → Type 0) (xs ys : List Node) → Each P xs → Each
 each_both P [] ys a b = b
 each_both P (x ∷ xs) ys a b = (a.0, each_both P xs ys a.1 b)
 
-each_first : (P : Node → Type 0) (r : Role) (k : ℕ) → ((i : ℕ) → P (node_of r i)) → Each P (first_of r k)
+pub each_first : (P : Node → Type 0) (r : Role) (k : ℕ) → ((i : ℕ) → P (node_of r i)) → Each P (first_of r k)
 each_first P r zero h = tt
 each_first P r (suc k) h = each_both P (first_of r k) (node_of r k ∷ []) (each_first P r k h) (h k, tt)
 
-length_first : (r : Role) (k : ℕ) → length (first_of r k) ≡ k
+pub length_first : (r : Role) (k : ℕ) → length (first_of r k) ≡ k
 length_first r zero = refl
 length_first r (suc k) = let here = length_first r k in let more = length-append (first_of r k) (node_of r k ∷ []) in omega arith
 
@@ -162,7 +163,7 @@ length_logged config =
 pub length_proposers : length proposer_nodes ≡ 8
 length_proposers = length_first Proposer 8
 
-logged_have : (config : Counts) → Each (λ n. has_log n ≡ true) (logged_nodes config)
+pub logged_have : (config : Counts) → Each (λ n. has_log n ≡ true) (logged_nodes config)
 logged_have config = each_both (λ n. has_log n ≡ true) (first_of Acceptor config.acceptors) (first_of Coordinator config.coordinators) (each_first (λ n. has_log n ≡ true) Acceptor config.acceptors (λ i. refl)) (each_first (λ n. has_log n ≡ true) Coordinator config.coordinators (λ i. refl))
 
 pub proposers_sit : (D : Type 0) (config : Counts) (wire : WireState PaxosRules) → CanSit {D = D} config (new_passes wire proposer_nodes) []

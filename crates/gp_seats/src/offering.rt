@@ -134,7 +134,7 @@ pub fn offer_all<D: Disk + Send, W: Threads + Wait + Sync, G: Gate + Sync>(
     ensures offered { IfOk result (λ js. (i : ℕ) (d : JobOf (CellState D)) → i < length proposers.items
         → HasOffered D.faults wire.now offers.now (slice_index_or proposers.items i d) (slice_index_or js.items i d)) }
     ensures worked { IfOk result (λ js. (i : ℕ) (d : JobOf (CellState D)) → i < length proposers.items
-        → IsWorkedJob D.faults wire.now (slice_index_or (map (given_to offers.now) proposers.items) i d) (slice_index_or js.items i d)) }
+        → IsWorkedJob D.content D.faults wire.now (slice_index_or (map (given_to offers.now) proposers.items) i d) (slice_index_or js.items i d)) }
     ensures count { IfOk result (λ js. total (process_of D.faults) 0 js.items ≡ length offers.now) }
 {
     let given = give_all(alloc, wire, proposers, offers.as_slice())?;

@@ -2,20 +2,21 @@
 use Rattle.std.proofs.Common.{◌≡◌, ℕ, ◌+◌, ◌-◌, ◌≤◌, ◌⊎◌, Bool, true, false, List, [], ◌++◌, length, refl, sym, ap, ◌∙◌, subst, inl, inr, ⊎_elim, arith}
 use Rattle.std.proofs.lemmas.List.{append-nil}
 use Rattle.gp_work.specs.declared.moves.Move.{Move}
-use Rattle.gp_rules.specs.Own.{own_events}
+use Rattle.gp_wire.specs.Own.{own_events}
 use Rattle.gp_msg.specs.declared.event.Event.{Event}
 use Rattle.gp_msg.specs.declared.message.MsgKind.{MsgKind}
 use Rattle.gp_msg.specs.Records.{messages_in}
 use Rattle.gp_work.specs.Doing.{ProcessState, have, Goes, Posted}
 use Rattle.gp_work.specs.Moves.{Takes}
 use Rattle.gp_work.specs.Batches.{IsBatch, order, AreRead}
-use Rattle.gp_work.specs.Jobs.{Stretch, MadeAll, MadeSome, TookAll, TookSome, TookStanding, Looked, Done, Broken}
+use Rattle.gp_work.specs.Jobs.{Stretch, CountsSteps, MovesOn, turn_after, MadeAll, MadeSome, TookAll, TookSome, TookStanding, Looked, Done, Broken}
 use Rattle.gp_work.proofs.Stretches.{messages_grown, have_grown, posted_on, posted_none, posted_same, risen_on, stretch_same, stretch_on}
+use Rattle.gp_work.proofs.Counting.{turn_append}
 use Rattle.gp_work.proofs.Making.{TookSoFar, takes_on, took_some, took_some_more}
 use Rattle.gp_work.proofs.Batching.{batch_read, read_none, read_on, read_stays, stands}
 
--- what was taken so far, from a on up to b
-pub record Taken (p : ProcessState) (f : Bool) (a : ℕ) (q : ProcessState) (g : Bool) (b : ℕ) : Type 0 where
+-- what was taken so far, from a on up to b, and the count of steps before and now
+pub record Taken (p : ProcessState) (f : Bool) (a : ℕ) (q : ProcessState) (g : Bool) (b before now : ℕ) : Type 0 where
   pub stretch : Stretch p f q g
   pub ks : List ℕ
   pub es : List Event
@@ -24,9 +25,10 @@ pub record Taken (p : ProcessState) (f : Bool) (a : ℕ) (q : ProcessState) (g :
   pub read : AreRead p.node (messages_in q.list) a b ks
   pub forth : a ≤ b
   pub within : (b ≡ a) ⊎ (b ≤ have q)
+  pub turn : now ≡ turn_after before (length ks)
 
-pub taken_start : (p : ProcessState) (f : Bool) (a : ℕ) → Taken p f a p f a
-taken_start p f a = record { stretch = stretch_same p f; ks = []; es = []; posts = posted_none p; all = (refl, refl); read = read_none p.node (messages_in p.list) a; forth = omega arith; within = inl refl }
+pub taken_start : (p : ProcessState) (f : Bool) (a before : ℕ) → Taken p f a p f a before before
+taken_start p f a before = record { stretch = stretch_same p f; ks = []; es = []; posts = posted_none p; all = (refl, refl); read = read_none p.node (messages_in p.list) a; forth = omega arith; within = inl refl; turn = refl }
 
 stretch_of : (p q : ProcessState) (f : Bool) → Goes p q → Stretch p f q f
 stretch_of p q f g = record { goes = g; stays = λ e. e; turned = λ a b. absurd (apart f a b) } where
@@ -35,8 +37,8 @@ stretch_of p q f g = record { goes = g; stays = λ e. e; turned = λ a b. absurd
   apart false a b = cc
 
 -- a look posts nothing
-pub taken_looked : (p : ProcessState) (f : Bool) (a : ℕ) (q : ProcessState) (g : Bool) (b : ℕ) (r : ProcessState) → Taken p f a q g b → Goes q r → Posted q r [] → Taken p f a r g b
-taken_looked p f a q g b r t go post = record {
+pub taken_looked : (p : ProcessState) (f : Bool) (a : ℕ) (q : ProcessState) (g : Bool) (b before now : ℕ) (r : ProcessState) → Taken p f a q g b before now → Goes q r → Posted q r [] → Taken p f a r g b before now
+taken_looked p f a q g b before now r t go post = record {
   stretch = stretch_on p f q g r g t.stretch (stretch_of q r g go);
   ks = t.ks;
   es = t.es;
@@ -45,20 +47,23 @@ taken_looked p f a q g b r t go post = record {
   read = subst (λ ms. AreRead p.node ms a b t.ks) (sym (messages_grown q r go)) (read_stays p.node (messages_in q.list) (messages_in go.more) a b t.ks t.within t.read);
   forth = t.forth;
   within = ⊎_elim (λ e. inl e) (λ l. inr (let m = have_grown q r go in omega arith)) t.within;
+  turn = t.turn;
 }
 
 -- a batch is taken
-pub taken_more : (p : ProcessState) (f : Bool) (a : ℕ) (q : ProcessState) (g : Bool) (b : ℕ) (kinds : List MsgKind) (r : ProcessState) (h : Bool)
-    → Taken p f a q g b → IsBatch (messages_in q.list) b kinds → (length kinds ≡ 0 → ⊥) → Stretch q g r h → TookAll q g (order q.node b kinds) r h → Taken p f a r h (b + length kinds)
-taken_more p f a q g b kinds r h t batch some s all = record {
+pub taken_more : (p : ProcessState) (f : Bool) (a : ℕ) (q : ProcessState) (g : Bool) (b before now : ℕ) (kinds : List MsgKind) (r : ProcessState) (h : Bool) (later : ℕ)
+    → Taken p f a q g b before now → IsBatch (messages_in q.list) b kinds → (length kinds ≡ 0 → ⊥) → Stretch q g r h → TookAll q g (order q.node b kinds) r h → later ≡ turn_after now (length (order q.node b kinds))
+    → Taken p f a r h (b + length kinds) before later
+taken_more p f a q g b before now kinds r h later t batch some s all counted = record {
   stretch = stretch_on p f q g r h t.stretch s;
   ks = t.ks ++ order p.node b kinds;
   es = t.es ++ all.es;
   posts = posted_on p q r t.es all.es t.posts all.posts;
   all = takes_on p.node t.ks (order p.node b kinds) t.es all.es f g h t.all (subst (λ n. Takes n (order n b kinds) all.es g h) s_node all.all);
-  read = read_on p.node (messages_in r.list) a b (b + length kinds) t.ks (order p.node b kinds) t.forth (omega arith) before now;
+  read = read_on p.node (messages_in r.list) a b (b + length kinds) t.ks (order p.node b kinds) t.forth (omega arith) read_before read_now;
   forth = let l = t.forth in omega arith;
   within = inr (let m = have_grown q r s.goes in omega (arith, last));
+  turn = turn_append before now later t.ks (order p.node b kinds) t.turn (subst (λ n. later ≡ turn_after now (length (order n b kinds))) s_node counted);
 }
   where
     s_node : q.node ≡ p.node
@@ -67,17 +72,17 @@ taken_more p f a q g b kinds r h t batch some s all = record {
     last : b + length kinds ≤ have q
     last = let x = stands (messages_in q.list) b kinds (length kinds - 1) batch (omega arith) in omega arith
 
-    before : AreRead p.node (messages_in r.list) a b t.ks
-    before = subst (λ ms. AreRead p.node ms a b t.ks) (sym (messages_grown q r s.goes)) (read_stays p.node (messages_in q.list) (messages_in s.goes.more) a b t.ks t.within t.read)
+    read_before : AreRead p.node (messages_in r.list) a b t.ks
+    read_before = subst (λ ms. AreRead p.node ms a b t.ks) (sym (messages_grown q r s.goes)) (read_stays p.node (messages_in q.list) (messages_in s.goes.more) a b t.ks t.within t.read)
 
-    now : AreRead p.node (messages_in r.list) b (b + length kinds) (order p.node b kinds)
-    now = subst (λ ms. AreRead p.node ms b (b + length kinds) (order p.node b kinds)) (sym (messages_grown q r s.goes))
+    read_now : AreRead p.node (messages_in r.list) b (b + length kinds) (order p.node b kinds)
+    read_now = subst (λ ms. AreRead p.node ms b (b + length kinds) (order p.node b kinds)) (sym (messages_grown q r s.goes))
         (read_stays p.node (messages_in q.list) (messages_in s.goes.more) b (b + length kinds) (order p.node b kinds) (inr last) (batch_read p.node (messages_in q.list) b kinds batch))
 
 -- nothing more stands
-pub taken_all : (p : ProcessState) (f : Bool) (a : ℕ) (q : ProcessState) (g : Bool) (b : ℕ) (kinds : List MsgKind) (r : ProcessState)
-    → Taken p f a q g b → Goes q r → Posted q r [] → Looked q b r kinds → length kinds ≡ 0 → r.up ≡ true → TookStanding p f a r g b
-taken_all p f a q g b kinds r t go post look none up = let u = taken_looked p f a q g b r t go post in let e = look.end in record {
+pub taken_all : (p : ProcessState) (f : Bool) (a : ℕ) (q : ProcessState) (g : Bool) (b before now : ℕ) (kinds : List MsgKind) (r : ProcessState)
+    → Taken p f a q g b before now → Goes q r → Posted q r [] → Looked q b r kinds → length kinds ≡ 0 → r.up ≡ true → TookStanding p f a r g b
+taken_all p f a q g b before now kinds r t go post look none up = let u = taken_looked p f a q g b before now r t go post in let e = look.end in record {
   ks = u.ks;
   es = u.es;
   posts = u.posts;
@@ -90,14 +95,30 @@ taken_all p f a q g b kinds r t go post look none up = let u = taken_looked p f 
   up = up;
 }
 
-pub taken_far : (p : ProcessState) (f : Bool) (a : ℕ) (q : ProcessState) (g : Bool) (b : ℕ) (t : Taken p f a q g b) → TookSoFar p f t.ks q g
-taken_far p f a q g b t = record { stretch = t.stretch; es = t.es; posts = t.posts; all = t.all }
+pub taken_far : (p : ProcessState) (f : Bool) (a : ℕ) (q : ProcessState) (g : Bool) (b before now : ℕ) (t : Taken p f a q g b before now) → TookSoFar p f t.ks q g
+taken_far p f a q g b before now t = record { stretch = t.stretch; es = t.es; posts = t.posts; all = t.all }
 
-pub taken_some : (p : ProcessState) (f : Bool) (a : ℕ) (q : ProcessState) (g : Bool) (b : ℕ) (r : ProcessState) → Taken p f a q g b → Posted q r [] → TookSome p f r
-taken_some p f a q g b r t post = took_some p f t.ks q g r (taken_far p f a q g b t) post
+pub taken_some : (p : ProcessState) (f : Bool) (a : ℕ) (q : ProcessState) (g : Bool) (b before now : ℕ) (r : ProcessState) → Taken p f a q g b before now → Posted q r [] → TookSome p f r
+taken_some p f a q g b before now r t post = took_some p f t.ks q g r (taken_far p f a q g b before now t) post
 
-pub taken_some_more : (p : ProcessState) (f : Bool) (a : ℕ) (q : ProcessState) (g : Bool) (b : ℕ) (r : ProcessState) → Taken p f a q g b → TookSome q g r → TookSome p f r
-taken_some_more p f a q g b r t more = took_some_more p f t.ks q g r (taken_far p f a q g b t) more
+pub taken_some_more : (p : ProcessState) (f : Bool) (a : ℕ) (q : ProcessState) (g : Bool) (b before now : ℕ) (r : ProcessState) → Taken p f a q g b before now → TookSome q g r → TookSome p f r
+taken_some_more p f a q g b before now r t more = took_some_more p f t.ks q g r (taken_far p f a q g b before now t) more
+
+-- how many steps that took
+pub taken_steps : (p : ProcessState) (f : Bool) (a : ℕ) (q : ProcessState) (g : Bool) (b before now : ℕ) → Taken p f a q g b before now → CountsSteps p.node (messages_in q.list) a b 0 before now
+taken_steps p f a q g b before now t =
+    let none : length t.ks ≡ 0 + length t.ks = omega arith in record {
+      ks = t.ks;
+      read = t.read;
+      turn = t.turn ∙ ap (turn_after before) none;
+    }
+
+-- where the cursor is
+pub moved_on : (p : ProcessState) (f : Bool) (a : ℕ) (q : ProcessState) (g : Bool) (b before now : ℕ) (r : ProcessState) → Taken p f a q g b before now → Goes q r → MovesOn a b (have r)
+moved_on p f a q g b before now r t go = record {
+  forth = t.forth;
+  within = ⊎_elim (λ e. inl e) (λ l. inr (let m = have_grown q r go in omega arith)) t.within;
+}
 
 -- ---- the moves, and then what stands
 

@@ -7,16 +7,17 @@ use Rattle.gp_msg.specs.declared.record.Record.{Record}
 use Rattle.gp_msg.specs.Records.{messages_in}
 use Rattle.gp_work.specs.declared.faults.JobFault.{JobFault}
 use Rattle.gp_work.specs.declared.faults.JobFault.TheVariants.{NoMemory, Disk, Full, NotLog, Changed}
-use Rattle.gp_rules.specs.Own.{own, own_events, event_in}
+use Rattle.gp_wire.specs.Own.{own, own_events, event_in}
 use Rattle.gp_edge.specs.Faults.{Rose}
 use Rattle.gp_work.specs.Doing.{ProcessState, posted, have, IsUpTo, HasRisen, RoseTwice, Goes, Posted}
-use Rattle.gp_work.specs.Jobs.{Stretch, Caused}
+use Rattle.gp_work.specs.Causes.{FaultCauses}
+use Rattle.gp_work.specs.Jobs.{Stretch, Caused, NotRisen}
 
-up_same : (t : Option ℕ) → IsUpTo t t
+pub up_same : (t : Option ℕ) → IsUpTo t t
 up_same None = tt
 up_same (Some t) = omega arith
 
-up_on : (t u w : Option ℕ) → IsUpTo t u → IsUpTo u w → IsUpTo t w
+pub up_on : (t u w : Option ℕ) → IsUpTo t u → IsUpTo u w → IsUpTo t w
 up_on None u w a b = tt
 up_on (Some t) None w a b = absurd a
 up_on (Some t) (Some u) None a b = absurd b
@@ -82,17 +83,27 @@ stretch_on p f q g r h a b = record {
     by_mid false e was is = rose_on p.faults q.faults r.faults a.goes.faults (b.turned e is)
 
 -- why a later part of the work ended is why the work ended
-pub caused_on : (p : ProcessState) (f : Bool) (q : ProcessState) (g : Bool) (now : ℕ) (too_great : Event → ℕ → ℕ → Type 0) (fault : JobFault) → Stretch p f q g → Caused g q.faults now too_great fault → Caused f p.faults now too_great fault
-caused_on p f q g now too_great NoMemory s c = tt
-caused_on p f q g now too_great Disk s (inl c) = inl (rose_twice_on p.faults q.faults now s.goes.faults c)
-caused_on p f q g now too_great Disk s (inr c) = by_first f refl
+pub caused_on : (p : ProcessState) (f : Bool) (q : ProcessState) (g h : Bool) (now : ℕ) (causes : FaultCauses) (fault : JobFault) → Stretch p f q g → Caused g h q.faults now causes fault → Caused f h p.faults now causes fault
+caused_on p f q g h now causes NoMemory s c = tt
+caused_on p f q g h now causes Disk s (up, inl c) = (up, inl (rose_twice_on p.faults q.faults now s.goes.faults c))
+caused_on p f q g h now causes Disk s (up, inr c) = (up, by_first f refl)
   where
     by_first : (b : Bool) → f ≡ b → RoseTwice p.faults now ⊎ ((f ≡ true) × Rose p.faults now)
     by_first true e = inr (e, rose_on p.faults q.faults now s.goes.faults c.1)
     by_first false e = inl (rose_rose p.faults q.faults now (s.turned e c.0) c.1)
-caused_on p f q g now too_great (Full size need) s c = c
-caused_on p f q g now too_great (NotLog at) s c = rose_on p.faults q.faults now s.goes.faults c
-caused_on p f q g now too_great (Changed found) s c = rose_on p.faults q.faults now s.goes.faults c
+caused_on p f q g h now causes (Full size need) s c = c
+caused_on p f q g h now causes (NotLog at) s c = (c.0, rose_on p.faults q.faults now s.goes.faults c.1, c.2)
+caused_on p f q g h now causes (Changed found) s c = (c.0, rose_on p.faults q.faults now s.goes.faults c.1, c.2)
+
+-- why a node did not recover after its disk failed is why its work ended
+pub caused_down : (f h : Bool) (before between now : ℕ) (causes : FaultCauses) (fault : JobFault) → h ≡ true → Rose before between → between ≤ now → NotRisen f between now causes fault
+    → Caused f h before now causes fault
+caused_down f h before between now causes NoMemory up r l c = tt
+caused_down f h before between now causes Disk up r l (inl c) = (up, inr (c, rose_then before between now r l))
+caused_down f h before between now causes Disk up r l (inr c) = (up, inl (rose_rose before between now r c))
+caused_down f h before between now causes (Full size need) up r l c = absurd c
+caused_down f h before between now causes (NotLog at) up r l c = (up, rose_then before between now r l, c.1)
+caused_down f h before between now causes (Changed found) up r l c = (up, rose_then before between now r l, c.1)
 
 pub posted_none : (p : ProcessState) → Posted p p []
 posted_none p = sym (append-nil (own_events p.node p.list))

@@ -5,7 +5,7 @@ use Rattle.gp_msg.specs.declared.node.Node.{Node}
 use Rattle.gp_msg.specs.declared.event.Event.{Event}
 use Rattle.gp_msg.specs.declared.record.Record.{Record}
 use Rattle.gp_msg.specs.Records.{messages_in}
-use Rattle.gp_rules.specs.Own.{own, own_events}
+use Rattle.gp_wire.specs.Own.{own, own_events}
 
 -- which node it is and of which configuration, the list that it has seen, the number of its last turn at the wire, how often its disk failed, the limit of its log, if it keeps one, and whether it is up
 pub record ProcessState : Type 0 where

@@ -1,12 +1,11 @@
 //! What a worker needs of a node.
-ghost use Rattle.std.specs.Prelude.{◌≡◌, ◌<◌, ◌^◌, ℕ, true, false, [], ◌∷◌, length, slice_get, IfOk, IfErr, OnErr};
+ghost use Rattle.std.specs.Prelude.{◌≡◌, ◌<◌, ◌^◌, true, false, [], ◌∷◌, length, slice_get, IfOk, IfErr, OnErr};
 ghost use Rattle.std.specs.Option.{option_map};
-ghost use Rattle.gp_msg.specs.declared.event.Event.{Event};
 ghost use Rattle.gp_msg.specs.Reads.{kind_of};
 ghost use Rattle.gp_msg.specs.Records.{messages_in};
 ghost use Rattle.gp_work.specs.Doing.{ProcessState, posted, have, Goes, Posted, HasRisen};
 ghost use Rattle.gp_work.specs.Moves.{event_of, Fits, HasRoom};
-ghost use Rattle.gp_work.specs.Causes.{StepCause, RiseCause, Falls};
+ghost use Rattle.gp_work.specs.Causes.{FaultCauses, StepCause, RiseCause, Falls};
 
 use crate::faults::{RiseFault, StepFault};
 use crate::moves::Move;
@@ -22,8 +21,8 @@ pub trait Process<N> {
     /// It is a node of this net, and may post to it.
     ghost is_of: { Self → N → Type 0 };
 
-    /// These numbers, the size of a log and the need of an entry, are too great for an event.
-    ghost too_great: { Self → Event → ℕ → ℕ → Type 0 };
+    /// What faults mean at the node as it is now.
+    ghost causes: { Self → FaultCauses };
 
     fn node(&self) -> Node
         ensures { result ≡ (state self.now).node };
@@ -67,7 +66,7 @@ pub trait Process<N> {
         ensures posted { IfOk result (λ n. Posted (state self.old) (state self.new) (event_of (state self.old).node mv ∷ [])) }
         ensures up { IfOk result (λ n. (state self.new).up ≡ true) }
         ensures nothing { OnErr result (Posted (state self.old) (state self.new) []) }
-        ensures cause { IfErr result (StepCause mv (state self.old) (state self.new) (too_great self.new (event_of (state self.old).node mv))) };
+        ensures cause { IfErr result (StepCause mv (state self.old) (state self.new) ((causes self.new).too_great (event_of (state self.old).node mv))) };
 
     /// Recovers a node that is down: posts exactly one record, of a crash (`Fall`). If it is
     /// refused, it posts nothing.
@@ -79,5 +78,5 @@ pub trait Process<N> {
         ensures posted { IfOk result (λ n. Falls (state self.old) (state self.new)) }
         ensures up { IfOk result (λ n. (state self.new).up ≡ true) }
         ensures nothing { OnErr result (Posted (state self.old) (state self.new) []) }
-        ensures cause { IfErr result (RiseCause (state self.old) (state self.new)) };
+        ensures cause { IfErr result (RiseCause (state self.old) (state self.new) (causes self.new).not_risen) };
 }

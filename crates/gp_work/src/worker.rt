@@ -1,11 +1,12 @@
 //! The work of one job.
 ghost use Rattle.std.specs.Prelude.{◌≡◌, ◌+◌, ◌-◌, ◌^◌, ◌<◌, ◌≤◌, false, true, cond, [], ◌∷◌, ℕ, All, length, slice_index_or, OnOk, IfOk, IfErr, OnErr};
 ghost use Rattle.gp_msg.specs.Records.{messages_in};
+ghost use Rattle.gp_edge.specs.Faults.{one_more};
 ghost use Rattle.gp_work.specs.Doing.{posted, have, Goes, Posted};
 ghost use Rattle.gp_work.specs.Moves.{Fits, HasRoom, AllFit, HasOffer};
 ghost use Rattle.gp_work.specs.Batches.{IsBatch, is_odd, is_propose, takes_now, takes_late, upward, downward, order};
 ghost use Rattle.gp_work.specs.Causes.{Falls};
-ghost use Rattle.gp_work.specs.Jobs.{Stretch, Caused, NotRisen, MadeOne, MadeAll, MadeSome, TookAll, TookSome, TookStanding, Looked, Done, Broken, IsReady, HasWorked, IsSameJob};
+ghost use Rattle.gp_work.specs.Jobs.{Stretch, CountsSteps, MovesOn, turn_after, Caused, NotRisen, MadeOne, MadeAll, MadeSome, TookAll, TookSome, TookStanding, Looked, Done, Broken, IsReady, HasWorked, IsSameJob};
 ghost use Rattle.gp_work.specs.declared.job.Job.{Job};
 
 use crate::faults::{JobFault, RiseFault, StepFault};
@@ -20,7 +21,7 @@ use std::sync::Wait;
 use std::thread::Threads;
 use std::{mem, thread};
 
-// Makes a move. If the disk fails for the first time, the node recovers.
+// Makes a move, and counts the step. If the disk fails for the first time, the node recovers.
 fn make<N, P: Process<N>, W: Wait, G: Gate>(
     rt: &W,
     net: &N,
@@ -34,10 +35,11 @@ fn make<N, P: Process<N>, W: Wait, G: Gate>(
     requires room { HasRoom (posted (P.state job.old.cell)) mv }
     ensures own { P.is_of job.new.cell net.now }
     ensures same { IsSameJob job.old job.new }
+    ensures turn { job.new.turn ≡ one_more job.old.turn }
     ensures stretch { Stretch (P.state job.old.cell) job.old.risen (P.state job.new.cell) job.new.risen }
     ensures ok { OnOk result (MadeOne (P.state job.old.cell) job.old.risen mv (P.state job.new.cell) job.new.risen) }
     ensures nothing { OnErr result (Posted (P.state job.old.cell) (P.state job.new.cell) []) }
-    ensures cause { IfErr result (Caused job.old.risen (P.state job.old.cell).faults (P.state job.new.cell).faults (P.too_great job.new.cell)) }
+    ensures cause { IfErr result (Caused job.old.risen job.new.risen (P.state job.old.cell).faults (P.state job.new.cell).faults (P.causes job.new.cell)) }
 {
     let turn = job.turn;
     job.turn = turn.saturating_add(1);
@@ -57,13 +59,13 @@ fn recover<N, P: Process<N>, W: Wait>(rt: &W, net: &N, job: &mut Job<P>) -> Resu
     ensures own { P.is_of job.new.cell net.now }
     ensures same { IsSameJob job.old job.new }
     ensures goes { Goes (P.state job.old.cell) (P.state job.new.cell) }
-    ensures stays { job.old.risen ≡ true → job.new.risen ≡ true }
+    ensures turn { job.new.turn ≡ job.old.turn }
+    ensures now { job.new.risen ≡ true }
     ensures first { OnOk result (job.old.risen ≡ false) }
-    ensures now { OnOk result (job.new.risen ≡ true) }
     ensures falls { OnOk result (Falls (P.state job.old.cell) (P.state job.new.cell)) }
     ensures up { OnOk result ((P.state job.new.cell).up ≡ true) }
     ensures nothing { OnErr result (Posted (P.state job.old.cell) (P.state job.new.cell) []) }
-    ensures cause { IfErr result (NotRisen job.old.risen (P.state job.old.cell).faults (P.state job.new.cell).faults) }
+    ensures cause { IfErr result (NotRisen job.old.risen (P.state job.old.cell).faults (P.state job.new.cell).faults (P.causes job.new.cell)) }
 {
     if job.risen {
         return Err(JobFault::Disk);
@@ -92,10 +94,11 @@ fn make_all<N, P: Process<N>, W: Wait, G: Gate>(
     requires room { HasOffer moves → posted (P.state job.old.cell) + length moves ≤ 2 ^ 32 - 1 }
     ensures own { P.is_of job.new.cell net.now }
     ensures same { IsSameJob job.old job.new }
+    ensures turn { OnOk result (job.new.turn ≡ turn_after job.old.turn (length moves)) }
     ensures stretch { Stretch (P.state job.old.cell) job.old.risen (P.state job.new.cell) job.new.risen }
     ensures ok { OnOk result (MadeAll (P.state job.old.cell) job.old.risen moves (P.state job.new.cell) job.new.risen) }
     ensures some { OnErr result (MadeSome (P.state job.old.cell) job.old.risen moves (P.state job.new.cell)) }
-    ensures cause { IfErr result (Caused job.old.risen (P.state job.old.cell).faults (P.state job.new.cell).faults (P.too_great job.new.cell)) }
+    ensures cause { IfErr result (Caused job.old.risen job.new.risen (P.state job.old.cell).faults (P.state job.new.cell).faults (P.causes job.new.cell)) }
 {
     let mut left = moves.items;
     left.reverse();
@@ -116,6 +119,7 @@ fn look<N, P: Process<N>, W: Wait>(
     requires up { (P.state job.old.cell).up ≡ true }
     ensures own { P.is_of job.new.cell net.now }
     ensures same { IsSameJob job.old job.new }
+    ensures turn { job.new.turn ≡ job.old.turn }
     ensures still { job.new.risen ≡ job.old.risen }
     ensures goes { Goes (P.state job.old.cell) (P.state job.new.cell) }
     ensures nothing { Posted (P.state job.old.cell) (P.state job.new.cell) [] }
@@ -169,10 +173,11 @@ fn take_if<N, P: Process<N>, W: Wait, G: Gate>(
     requires there { k < have (P.state job.old.cell) }
     ensures own { P.is_of job.new.cell net.now }
     ensures same { IsSameJob job.old job.new }
+    ensures turn { OnOk result (job.new.turn ≡ turn_after job.old.turn (length (cond wanted (k ∷ []) []))) }
     ensures stretch { Stretch (P.state job.old.cell) job.old.risen (P.state job.new.cell) job.new.risen }
     ensures ok { OnOk result (TookAll (P.state job.old.cell) job.old.risen (cond wanted (k ∷ []) []) (P.state job.new.cell) job.new.risen) }
     ensures nothing { OnErr result (Posted (P.state job.old.cell) (P.state job.new.cell) []) }
-    ensures cause { IfErr result (Caused job.old.risen (P.state job.old.cell).faults (P.state job.new.cell).faults (P.too_great job.new.cell)) }
+    ensures cause { IfErr result (Caused job.old.risen job.new.risen (P.state job.old.cell).faults (P.state job.new.cell).faults (P.causes job.new.cell)) }
 {
     if wanted {
         make(rt, net, job, Move::Take(k), gate)
@@ -197,10 +202,11 @@ fn take_upward<N, P: Process<N>, W: Wait, G: Gate>(
     requires few { job.old.cursor + length kinds.now < 2 ^ 64 }
     ensures own { P.is_of job.new.cell net.now }
     ensures same { IsSameJob job.old job.new }
+    ensures turn { OnOk result (job.new.turn ≡ turn_after job.old.turn (length (upward (P.state job.old.cell).node later job.old.cursor kinds.now))) }
     ensures stretch { Stretch (P.state job.old.cell) job.old.risen (P.state job.new.cell) job.new.risen }
     ensures ok { OnOk result (TookAll (P.state job.old.cell) job.old.risen (upward (P.state job.old.cell).node later job.old.cursor kinds.now) (P.state job.new.cell) job.new.risen) }
     ensures some { OnErr result (TookSome (P.state job.old.cell) job.old.risen (P.state job.new.cell)) }
-    ensures cause { IfErr result (Caused job.old.risen (P.state job.old.cell).faults (P.state job.new.cell).faults (P.too_great job.new.cell)) }
+    ensures cause { IfErr result (Caused job.old.risen job.new.risen (P.state job.old.cell).faults (P.state job.new.cell).faults (P.causes job.new.cell)) }
 {
     let node = job.cell.node();
     for i in 0..kinds.len() {
@@ -224,10 +230,11 @@ fn take_downward<N, P: Process<N>, W: Wait, G: Gate>(
     requires few { job.old.cursor + length kinds.now < 2 ^ 64 }
     ensures own { P.is_of job.new.cell net.now }
     ensures same { IsSameJob job.old job.new }
+    ensures turn { OnOk result (job.new.turn ≡ turn_after job.old.turn (length (downward (P.state job.old.cell).node job.old.cursor kinds.now))) }
     ensures stretch { Stretch (P.state job.old.cell) job.old.risen (P.state job.new.cell) job.new.risen }
     ensures ok { OnOk result (TookAll (P.state job.old.cell) job.old.risen (downward (P.state job.old.cell).node job.old.cursor kinds.now) (P.state job.new.cell) job.new.risen) }
     ensures some { OnErr result (TookSome (P.state job.old.cell) job.old.risen (P.state job.new.cell)) }
-    ensures cause { IfErr result (Caused job.old.risen (P.state job.old.cell).faults (P.state job.new.cell).faults (P.too_great job.new.cell)) }
+    ensures cause { IfErr result (Caused job.old.risen job.new.risen (P.state job.old.cell).faults (P.state job.new.cell).faults (P.causes job.new.cell)) }
 {
     let node = job.cell.node();
     for i in (0..kinds.len()).rev() {
@@ -259,10 +266,11 @@ fn take_batch<N, P: Process<N>, W: Wait, G: Gate>(
     requires few { job.old.cursor + length kinds.now < 2 ^ 64 }
     ensures own { P.is_of job.new.cell net.now }
     ensures same { IsSameJob job.old job.new }
+    ensures turn { OnOk result (job.new.turn ≡ turn_after job.old.turn (length (order (P.state job.old.cell).node job.old.cursor kinds.now))) }
     ensures stretch { Stretch (P.state job.old.cell) job.old.risen (P.state job.new.cell) job.new.risen }
     ensures ok { OnOk result (TookAll (P.state job.old.cell) job.old.risen (order (P.state job.old.cell).node job.old.cursor kinds.now) (P.state job.new.cell) job.new.risen) }
     ensures some { OnErr result (TookSome (P.state job.old.cell) job.old.risen (P.state job.new.cell)) }
-    ensures cause { IfErr result (Caused job.old.risen (P.state job.old.cell).faults (P.state job.new.cell).faults (P.too_great job.new.cell)) }
+    ensures cause { IfErr result (Caused job.old.risen job.new.risen (P.state job.old.cell).faults (P.state job.new.cell).faults (P.causes job.new.cell)) }
 {
     if !is_odd(job.cell.node()) {
         return take_upward(rt, net, job, kinds, false, gate);
@@ -284,10 +292,13 @@ fn take_all<N, P: Process<N>, W: Wait, G: Gate>(
     ensures own { P.is_of job.new.cell net.now }
     ensures first { job.new.first ≡ job.old.first }
     ensures fault { job.new.fault ≡ job.old.fault }
+    ensures cursor { MovesOn job.old.cursor job.new.cursor (have (P.state job.new.cell)) }
+    ensures turn { job.old.turn ≤ job.new.turn }
+    ensures steps { OnOk result (CountsSteps (P.state job.old.cell).node (messages_in (P.state job.new.cell).list) job.old.cursor job.new.cursor 0 job.old.turn job.new.turn) }
     ensures stretch { Stretch (P.state job.old.cell) job.old.risen (P.state job.new.cell) job.new.risen }
     ensures ok { OnOk result (TookStanding (P.state job.old.cell) job.old.risen job.old.cursor (P.state job.new.cell) job.new.risen job.new.cursor) }
     ensures some { OnErr result (TookSome (P.state job.old.cell) job.old.risen (P.state job.new.cell)) }
-    ensures cause { IfErr result (Caused job.old.risen (P.state job.old.cell).faults (P.state job.new.cell).faults (P.too_great job.new.cell)) }
+    ensures cause { IfErr result (Caused job.old.risen job.new.risen (P.state job.old.cell).faults (P.state job.new.cell).faults (P.causes job.new.cell)) }
 {
     for _ in rt.forever() {
         let kinds = match look(rt, alloc, net, job) {
@@ -318,10 +329,13 @@ fn run<N, P: Process<N>, W: Wait, G: Gate>(
     ensures own { P.is_of job.new.cell net.now }
     ensures first { job.new.first ≡ [] }
     ensures fault { job.new.fault ≡ job.old.fault }
+    ensures cursor { MovesOn job.old.cursor job.new.cursor (have (P.state job.new.cell)) }
+    ensures turn { job.old.turn ≤ job.new.turn }
+    ensures steps { OnOk result (CountsSteps (P.state job.old.cell).node (messages_in (P.state job.new.cell).list) job.old.cursor job.new.cursor (length job.old.first) job.old.turn job.new.turn) }
     ensures stretch { Stretch (P.state job.old.cell) job.old.risen (P.state job.new.cell) job.new.risen }
     ensures ok { OnOk result (Done (P.state job.old.cell) job.old.risen job.old.first job.old.cursor (P.state job.new.cell) job.new.risen job.new.cursor) }
     ensures broken { OnErr result (Broken (P.state job.old.cell) job.old.risen job.old.first (P.state job.new.cell)) }
-    ensures cause { IfErr result (Caused job.old.risen (P.state job.old.cell).faults (P.state job.new.cell).faults (P.too_great job.new.cell)) }
+    ensures cause { IfErr result (Caused job.old.risen job.new.risen (P.state job.old.cell).faults (P.state job.new.cell).faults (P.causes job.new.cell)) }
 {
     let first = mem::replace(&mut job.first, Moves::new(alloc));
     make_all(rt, net, job, first, gate)?;
@@ -343,7 +357,7 @@ pub fn work<N, P: Process<N>, W: Wait, G: Gate>(
     gate: &G,
 )
     requires { IsReady P.state P.is_of net.now job.old }
-    ensures { HasWorked P.state P.is_of P.too_great net.now job.old job.new }
+    ensures { HasWorked P.state P.is_of P.causes net.now job.old job.new }
 {
     match run(rt, alloc, net, job, gate) {
         Ok(()) => {}
@@ -363,7 +377,7 @@ pub fn workers<N: Sync, P: Process<N> + Send, W: Threads + Wait + Sync, G: Gate 
     requires some { 0 < length jobs.items }
     requires ready { All (λ j. IsReady P.state P.is_of net.now j) jobs.items }
     ensures same { length result.items ≡ length jobs.items }
-    ensures each { (i : ℕ) (d : Job P) → i < length jobs.items → HasWorked P.state P.is_of P.too_great net.now (slice_index_or jobs.items i d) (slice_index_or result.items i d) }
+    ensures each { (i : ℕ) (d : Job P) → i < length jobs.items → HasWorked P.state P.is_of P.causes net.now (slice_index_or jobs.items i d) (slice_index_or result.items i d) }
 {
     let count = jobs.len();
     thread::for_each_mut(

@@ -4,8 +4,8 @@ use Rattle.gp_msg.specs.Records.{messages_in}
 use Rattle.gp_wire.specs.Known.{records}
 use Rattle.gp_work.specs.declared.moves.Move.{Move}
 use Rattle.gp_work.specs.Moves.{IsBeyond}
+use Rattle.gp_work.proofs.Batching.{none_beyond}
 use Rattle.gp_cell.specs.Plans.{Names}
-use Rattle.gp_cell.proofs.Reading.{none_beyond}
 use Rattle.gp_cell.proofs.steps.read_named.Goals as goal
 
 pub returns-in-Ok-Some-clause-named : goal.returns-in-Ok-Some-clause-named

@@ -4,7 +4,7 @@ use Rattle.std.proofs.lemmas.List.Elements.{All-push}
 use Rattle.std.proofs.lemmas.List.{reverse-reverse, reverse-append, map-append, append-nil, length-map, length-reverse}
 use Rattle.gp_work.specs.declared.job.Job.{Job}
 use Rattle.gp_cell.specs.Cells.{CellState}
-use Rattle.gp_quiet.specs.Ended.{cell_in, cells_of}
+use Rattle.gp_ending.specs.Ended.{cell_in, cells_of}
 use Rattle.gp_closing.specs.Cells.{IsKnownCell}
 use Rattle.gp_closing.proofs.gathering.take_cells.Goals as goal
 

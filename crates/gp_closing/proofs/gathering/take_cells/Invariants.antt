@@ -2,7 +2,7 @@ use Rattle.std.proofs.Common.{◌≡◌, List, ◌++◌, reverse, length, vec_ca
 use Rattle.std.specs.List.{All}
 use Rattle.gp_work.specs.declared.job.Job.{Job}
 use Rattle.gp_cell.specs.Cells.{CellState}
-use Rattle.gp_quiet.specs.Ended.{cells_of}
+use Rattle.gp_ending.specs.Ended.{cells_of}
 use Rattle.gp_closing.specs.Cells.{IsKnownCell}
 use Rattle.gp_closing.proofs.gathering.take_cells.Given as goal
 

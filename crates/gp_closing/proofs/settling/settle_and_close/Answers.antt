@@ -7,7 +7,7 @@ use Rattle.gp_wire.specs.Ends.{Closed}
 use Rattle.gp_rules.specs.Lawful.{paxos_legal}
 use Rattle.gp_cell.specs.Cells.{CellState, pass_of}
 use Rattle.gp_cell.specs.Working.{IsAt}
-use Rattle.gp_quiet.proofs.Indexing.{each_of, get_each}
+use Rattle.gp_ending.proofs.Indexing.{each_of, get_each}
 use Rattle.gp_stage.specs.Held.{whole_list}
 use Rattle.gp_stage.specs.Kept.{AreHeld}
 use Rattle.gp_closing.specs.Cells.{IsKnownCell, LogGoes, logs_of}
@@ -33,7 +33,7 @@ leave-requires g c =
 pub returns-in-Err-clause-left : goal.returns-in-Err-clause-left
 returns-in-Err-clause-left g c commands lacking =
     let goes = go_same g.D.Disk.faults c.args.cells.items c.in-Err.field-0.cells.items c.in-Err.ensures.back.1 in
-    left_open g.D.Disk.faults c.args.config commands c.args.cells.items c.in-Err.field-0.cells.items _ c.leave.result.end c.leave.result.posted c.leave.result.logs.items goes c.leave.ensures.known c.leave.ensures.posted c.leave.ensures.end c.leave.ensures.logs
+    left_open g.D.Disk.faults c.args.config commands c.args.cells.items c.in-Err.field-0.cells.items c.leave.result.end c.leave.result.posted c.leave.result.logs.items goes c.leave.ensures.known c.leave.ensures.posted c.leave.ensures.end c.leave.ensures.logs
 
 pub close-requires-clause-room : goal.close-requires-clause-room
 close-requires-clause-room g c =
@@ -42,7 +42,7 @@ close-requires-clause-room g c =
     let configs : (i : ℕ) (x : CellState g.row.D.Denot) → slice_get c.args.cells.items i ≡ Some x → x.config ≡ c.args.config = λ i x is. (get_each (λ y. IsAt y c.args.wire) c.args.cells.items (each_of (λ y. IsAt y c.args.wire) c.args.cells.items c.requires.cells.own) i x is).config ∙ sym c.requires.config in
     let held : AreHeld wire new.config new.cells new.holder = subst (λ (cs : List (CellState g.row.D.Denot)). AreHeld wire new.config cs new.holder) p.cells p.held in
     let closed = subst (λ (cs : List (CellState g.row.D.Denot)). (out : List Record) → Closed (paxos_legal wire.rules.config) wire.nodes (map pass_of cs) out → out ≡ whole_list new) p.cells p.closed in
-    let goes = goes_on g.D.Disk.faults c.args.config 0 c.args.cells.items wire old new c.settle_cells.result e.about.0 configs e.cells e.lists e.legal s.driven s.nodes s.failed s.brings held closed in
+    let goes = goes_on g.D.Disk.faults c.args.config 0 c.args.cells.items wire old new c.settle_cells.result e.about.0 configs e.cells e.lists e.legal s.driven s.goes s.failed s.brings held closed in
     let long = AllZip-long (LogGoes g.D.Disk.faults) _ _ (logs_go g.D.Disk.faults c.args.cells.items new.cells goes) in
     (c.requires.room.0, subst (λ (cs : List (CellState g.row.D.Denot)). length (logs_of cs) ≤ vec_capacity c.args.room) (sym p.cells) (subst (λ n. n ≤ vec_capacity c.args.room) (sym long) c.requires.room.1))
 
@@ -53,7 +53,7 @@ returns-clause-left g c commands lacking =
     let configs : (i : ℕ) (x : CellState g.row.D.Denot) → slice_get c.args.cells.items i ≡ Some x → x.config ≡ c.args.config = λ i x is. (get_each (λ y. IsAt y c.args.wire) c.args.cells.items (each_of (λ y. IsAt y c.args.wire) c.args.cells.items c.requires.cells.own) i x is).config ∙ sym c.requires.config in
     let held : AreHeld wire new.config new.cells new.holder = subst (λ (cs : List (CellState g.row.D.Denot)). AreHeld wire new.config cs new.holder) p.cells p.held in
     let closed = subst (λ (cs : List (CellState g.row.D.Denot)). (out : List Record) → Closed (paxos_legal wire.rules.config) wire.nodes (map pass_of cs) out → out ≡ whole_list new) p.cells p.closed in
-    left_settled g.D.Disk.faults c.args.config commands c.args.cells.items wire old new c.settle_cells.result e.about.0 configs e.cells e.lists e.legal s.driven s.nodes s.failed s.brings held closed
+    left_settled g.D.Disk.faults c.args.config commands c.args.cells.items wire old new c.settle_cells.result e.about.0 configs e.cells e.lists e.legal s.driven s.goes s.failed s.brings held closed
     c.close.result.end c.close.result.posted c.close.result.logs.items
     (subst (λ (cs : List (CellState g.row.D.Denot)). IfSome c.close.result.posted (IsClosedBy wire cs)) p.cells c.close.ensures.posted)
     (subst (λ x. EndsAs x c.close.result.posted c.close.result.end) c.end_of-end.ensures c.close.ensures.end)

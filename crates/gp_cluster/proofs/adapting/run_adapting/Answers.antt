@@ -3,8 +3,7 @@ use Rattle.std.proofs.Common.{◌≡◌, ◌<◌, ℕ, List, [], None, length, g
 use Rattle.gp_vlog.specs.Logs.{LogState}
 use Rattle.gp_work.specs.declared.job.Job.{Job}
 use Rattle.gp_cell.specs.Cells.{CellState}
-use Rattle.gp_cell.specs.Refusals.{IsTooGreat}
-use Rattle.gp_cell.specs.Working.{process_of, IsAt}
+use Rattle.gp_cell.specs.Working.{process_of, causes_of, IsAt}
 use Rattle.gp_phase.specs.Phases.{total}
 use Rattle.gp_caller.specs.Adapting.{IsAdapted}
 use Rattle.gp_ending.specs.Working.{IsCarriedJob, RestsAfter}
@@ -50,7 +49,7 @@ pub close_run-requires-clause-run : goal.close_run-requires-clause-run
 close_run-requires-clause-run g c =
     let stopped = c.if-is_some.ensures in
     let new = sitting.proposing_new g.D.Disk.faults c.args.config c.args.seated.wire c.args.seated.jobs.items c.args.seated.proposers.items c.requires.seated in
-    let run : IsCarriedRun g.D.Disk.faults Adaptive c.args.config c.args.seated.wire [] c.args.seated.jobs.items c.args.seated.proposers.items c.work-rested.result.jobs.items c.args.seated.proposers.items c.work-rested.result.end = record {
+    let run : IsCarriedRun g.D.Disk.content g.D.Disk.faults Adaptive c.args.config c.args.seated.wire [] c.args.seated.jobs.items c.args.seated.proposers.items c.work-rested.result.jobs.items c.args.seated.proposers.items c.work-rested.result.end = record {
       seated = c.requires.seated;
       size = c.work-rested.ensures.size;
       carried = c.work-rested.ensures.carried;
@@ -80,7 +79,7 @@ pub returns-then-is_some-clause-run : goal.returns-then-is_some-clause-run
 returns-then-is_some-clause-run g c =
     let stopped = c.if-is_some.ensures in
     let new = sitting.proposing_new g.D.Disk.faults c.args.config c.args.seated.wire c.args.seated.jobs.items c.args.seated.proposers.items c.requires.seated in
-    let run : IsCarriedRun g.D.Disk.faults Adaptive c.args.config c.args.seated.wire [] c.args.seated.jobs.items c.args.seated.proposers.items c.work-rested.result.jobs.items c.args.seated.proposers.items c.work-rested.result.end = record {
+    let run : IsCarriedRun g.D.Disk.content g.D.Disk.faults Adaptive c.args.config c.args.seated.wire [] c.args.seated.jobs.items c.args.seated.proposers.items c.work-rested.result.jobs.items c.args.seated.proposers.items c.work-rested.result.end = record {
       seated = c.requires.seated;
       size = c.work-rested.ensures.size;
       carried = c.work-rested.ensures.carried;
@@ -98,13 +97,13 @@ offer_all-requires-clause-new g c κs within k d l = sitting.proposing_new g.D.D
 
 pub unclosed-requires-in_default-offer_all-clause-logs_room : goal.unclosed-requires-in_default-offer_all-clause-logs_room
 unclosed-requires-in_default-offer_all-clause-logs_room g c =
-    as_many_logs g.D.Disk.faults _ _ c.args.room.logs (logs_carried g.D.Disk.faults c.args.seated.wire c.args.seated.jobs.items c.work-rested.result.jobs.items c.work-rested.ensures.size c.work-rested.ensures.carried) c.requires.logs_room
+    as_many_logs g.D.Disk.faults _ _ c.args.room.logs (logs_carried g.D.Disk.content g.D.Disk.faults c.args.seated.wire c.args.seated.jobs.items c.work-rested.result.jobs.items c.work-rested.ensures.size c.work-rested.ensures.carried) c.requires.logs_room
 
 pub returns-in_default-offer_all-clause-run : goal.returns-in_default-offer_all-clause-run
 returns-in_default-offer_all-clause-run g c =
     let e = c.unclosed-in_default-offer_all.ensures in
     unposted g.D.Disk.faults Adaptive g.D.Disk.content c.args.config c.args.offers.now _ _ c.unclosed-in_default-offer_all.result.posted c.unclosed-in_default-offer_all.result.end e.posted e.end
-    (subst (λ (ls : List (LogState g.row.D.Denot)). AllZip (LogGoes g.D.Disk.faults) (logs_in c.args.seated.jobs.items) ls) (sym e.logs) (logs_carried g.D.Disk.faults c.args.seated.wire c.args.seated.jobs.items c.work-rested.result.jobs.items c.work-rested.ensures.size c.work-rested.ensures.carried))
+    (subst (λ (ls : List (LogState g.row.D.Denot)). AllZip (LogGoes g.D.Disk.faults) (logs_in c.args.seated.jobs.items) ls) (sym e.logs) (logs_carried g.D.Disk.content g.D.Disk.faults c.args.seated.wire c.args.seated.jobs.items c.work-rested.result.jobs.items c.work-rested.ensures.size c.work-rested.ensures.carried))
 
 pub go_on-worked-requires-clause-at : goal.go_on-worked-requires-clause-at
 go_on-worked-requires-clause-at g c κs within =
@@ -125,12 +124,12 @@ close_run-requires-2-clause-run g c =
     let first = c.work-rested.ensures in
     let later = c.go_on-worked.ensures in
     let size : length c.go_on-worked.result.jobs.items ≡ length c.args.seated.jobs.items = later.size ∙ first.size in
-    let carried : (i : ℕ) (d : Job (CellState g.row.D.Denot)) → i < length c.args.seated.jobs.items → IsCarriedJob g.D.Disk.faults c.args.seated.wire (get_or c.args.seated.jobs.items i d) (get_or c.go_on-worked.result.jobs.items i d)
-    = λ i d l. carried_on (process_of g.D.Disk.faults) (λ x w. IsAt x w) (λ x e great need. IsTooGreat x e great need) c.args.seated.wire (get_or c.args.seated.jobs.items i d) (get_or c.work-rested.result.jobs.items i d) (get_or c.go_on-worked.result.jobs.items i d) (first.carried i d l) (later.carried i d (subst (λ n. i < n) (sym first.size) l)) in
+    let carried : (i : ℕ) (d : Job (CellState g.row.D.Denot)) → i < length c.args.seated.jobs.items → IsCarriedJob g.D.Disk.content g.D.Disk.faults c.args.seated.wire (get_or c.args.seated.jobs.items i d) (get_or c.go_on-worked.result.jobs.items i d)
+    = λ i d l. carried_on (process_of g.D.Disk.faults) (λ x w. IsAt x w) (causes_of g.D.Disk.content) c.args.seated.wire (get_or c.args.seated.jobs.items i d) (get_or c.work-rested.result.jobs.items i d) (get_or c.go_on-worked.result.jobs.items i d) (first.carried i d l) (later.carried i d (subst (λ n. i < n) (sym first.size) l)) in
     let rests : c.go_on-worked.result.end ≡ None → RestsAfter IsAdapted g.D.Disk.faults c.args.seated.wire c.args.config.acceptors (total (process_of g.D.Disk.faults) 0 c.in-Ok-offer_all.offered.items) c.go_on-worked.new.caller.calls.items c.args.seated.jobs.items c.go_on-worked.result.jobs.items
     = λ none. subst (λ (js : List (Job (CellState g.row.D.Denot))). RestsAfter IsAdapted g.D.Disk.faults c.args.seated.wire c.args.config.acceptors (total (process_of g.D.Disk.faults) 0 js) c.go_on-worked.new.caller.calls.items c.args.seated.jobs.items c.go_on-worked.result.jobs.items) c.deref-2.ensures.value
     (rests_on IsAdapted g.D.Disk.faults c.args.seated.wire c.args.config.acceptors (total (process_of g.D.Disk.faults) 0 c.deref.result.now) (total (process_of g.D.Disk.faults) 0 c.deref-2.result.now) c.work-rested.new.caller.calls.items c.go_on-worked.new.caller.calls.items c.args.seated.jobs.items c.work-rested.result.jobs.items c.go_on-worked.result.jobs.items (first.quiet rested) (later.worked none)) in
-    let run = carried_run Adaptive g.D.Disk.faults c.args.config c.args.seated.wire c.args.offers.now c.args.seated.jobs.items c.args.seated.proposers.items c.go_on-worked.result.jobs.items c.in-Ok-offer_all.offered.items c.requires.seated size carried offers.size offers.offered offers.worked
+    let run = carried_run Adaptive g.D.Disk.content g.D.Disk.faults c.args.config c.args.seated.wire c.args.offers.now c.args.seated.jobs.items c.args.seated.proposers.items c.go_on-worked.result.jobs.items c.in-Ok-offer_all.offered.items c.requires.seated size carried offers.size offers.offered offers.worked
     c.go_on-worked.result.end (let k = c.know.ensures.acceptors in omega arith) c.go_on-worked.new.caller.calls.items rests c.requires.known later.decided in
     record {
       policy = Adaptive;
@@ -157,11 +156,11 @@ returns-clause-run g c =
     let first = c.work-rested.ensures in
     let later = c.go_on-worked.ensures in
     let size : length c.go_on-worked.result.jobs.items ≡ length c.args.seated.jobs.items = later.size ∙ first.size in
-    let carried : (i : ℕ) (d : Job (CellState g.row.D.Denot)) → i < length c.args.seated.jobs.items → IsCarriedJob g.D.Disk.faults c.args.seated.wire (get_or c.args.seated.jobs.items i d) (get_or c.go_on-worked.result.jobs.items i d)
-    = λ i d l. carried_on (process_of g.D.Disk.faults) (λ x w. IsAt x w) (λ x e great need. IsTooGreat x e great need) c.args.seated.wire (get_or c.args.seated.jobs.items i d) (get_or c.work-rested.result.jobs.items i d) (get_or c.go_on-worked.result.jobs.items i d) (first.carried i d l) (later.carried i d (subst (λ n. i < n) (sym first.size) l)) in
+    let carried : (i : ℕ) (d : Job (CellState g.row.D.Denot)) → i < length c.args.seated.jobs.items → IsCarriedJob g.D.Disk.content g.D.Disk.faults c.args.seated.wire (get_or c.args.seated.jobs.items i d) (get_or c.go_on-worked.result.jobs.items i d)
+    = λ i d l. carried_on (process_of g.D.Disk.faults) (λ x w. IsAt x w) (causes_of g.D.Disk.content) c.args.seated.wire (get_or c.args.seated.jobs.items i d) (get_or c.work-rested.result.jobs.items i d) (get_or c.go_on-worked.result.jobs.items i d) (first.carried i d l) (later.carried i d (subst (λ n. i < n) (sym first.size) l)) in
     let rests : c.go_on-worked.result.end ≡ None → RestsAfter IsAdapted g.D.Disk.faults c.args.seated.wire c.args.config.acceptors (total (process_of g.D.Disk.faults) 0 c.in-Ok-offer_all.offered.items) c.go_on-worked.new.caller.calls.items c.args.seated.jobs.items c.go_on-worked.result.jobs.items
     = λ none. subst (λ (js : List (Job (CellState g.row.D.Denot))). RestsAfter IsAdapted g.D.Disk.faults c.args.seated.wire c.args.config.acceptors (total (process_of g.D.Disk.faults) 0 js) c.go_on-worked.new.caller.calls.items c.args.seated.jobs.items c.go_on-worked.result.jobs.items) c.deref-2.ensures.value
     (rests_on IsAdapted g.D.Disk.faults c.args.seated.wire c.args.config.acceptors (total (process_of g.D.Disk.faults) 0 c.deref.result.now) (total (process_of g.D.Disk.faults) 0 c.deref-2.result.now) c.work-rested.new.caller.calls.items c.go_on-worked.new.caller.calls.items c.args.seated.jobs.items c.work-rested.result.jobs.items c.go_on-worked.result.jobs.items (first.quiet rested) (later.worked none)) in
-    let run = carried_run Adaptive g.D.Disk.faults c.args.config c.args.seated.wire c.args.offers.now c.args.seated.jobs.items c.args.seated.proposers.items c.go_on-worked.result.jobs.items c.in-Ok-offer_all.offered.items c.requires.seated size carried offers.size offers.offered offers.worked
+    let run = carried_run Adaptive g.D.Disk.content g.D.Disk.faults c.args.config c.args.seated.wire c.args.offers.now c.args.seated.jobs.items c.args.seated.proposers.items c.go_on-worked.result.jobs.items c.in-Ok-offer_all.offered.items c.requires.seated size carried offers.size offers.offered offers.worked
     c.go_on-worked.result.end (let k = c.know.ensures.acceptors in omega arith) c.go_on-worked.new.caller.calls.items rests c.requires.known later.decided in
     c.close_run-2.ensures.run Adaptive c.args.offers.now c.args.seated.jobs.items c.args.seated.proposers.items (ap length c.as_slice-commands.ensures) run

@@ -1,7 +1,7 @@
 use Rattle.std.proofs.Common.{◌≡◌, List, ◌++◌, length, sym, ap, ◌∙◌, subst, arith}
 use Rattle.gp_vlog.specs.Logs.{LogState}
 use Rattle.gp_cell.specs.Cells.{CellState}
-use Rattle.gp_quiet.specs.Ended.{cells_of}
+use Rattle.gp_ending.specs.Ended.{cells_of}
 use Rattle.gp_shelf.specs.Lists.{HasRoomFor}
 use Rattle.gp_stage.specs.Held.{AreUp}
 use Rattle.gp_closing.specs.Cells.{AreCellsAt, logs_of}
@@ -30,20 +30,20 @@ pub conclude-requires-clause-cells : goal.conclude-requires-clause-cells
 conclude-requires-clause-cells g c =
     let cells : c.take_cells-2.new.cells.items ≡ cells_of c.args.worked.jobs.items ++ cells_of c.args.proposers.items
     = c.take_cells-2.ensures.cells ∙ ap (λ (l : List (CellState g.row.D.Denot)). l ++ cells_of c.args.proposers.items) (c.take_cells.ensures.cells ∙ ap (λ (l : List (CellState g.row.D.Denot)). l ++ cells_of c.args.worked.jobs.items) c.requires.cells_room.0) in
-    subst (AreCellsAt c.args.wire) (sym cells) (outcome.are_at g.D.Disk.faults c.args.config c.args.wire c.requires.run.offers c.requires.run.jobs c.requires.run.proposing c.args.worked.jobs.items c.args.proposers.items c.requires.run.run.seated c.requires.run.run.size c.requires.run.run.carried c.requires.run.run.as_many c.requires.run.run.has c.take_cells.ensures.known c.take_cells-2.ensures.known)
+    subst (AreCellsAt c.args.wire) (sym cells) (outcome.are_at g.D.Disk.content g.D.Disk.faults c.args.config c.args.wire c.requires.run.offers c.requires.run.jobs c.requires.run.proposing c.args.worked.jobs.items c.args.proposers.items c.requires.run.run.seated c.requires.run.run.size c.requires.run.run.carried c.requires.run.run.as_many c.requires.run.run.has c.take_cells.ensures.known c.take_cells-2.ensures.known)
 
 pub conclude-requires-clause-up : goal.conclude-requires-clause-up
 conclude-requires-clause-up g c none =
     let cells : c.take_cells-2.new.cells.items ≡ cells_of c.args.worked.jobs.items ++ cells_of c.args.proposers.items
     = c.take_cells-2.ensures.cells ∙ ap (λ (l : List (CellState g.row.D.Denot)). l ++ cells_of c.args.proposers.items) (c.take_cells.ensures.cells ∙ ap (λ (l : List (CellState g.row.D.Denot)). l ++ cells_of c.args.worked.jobs.items) c.requires.cells_room.0) in
-    subst AreUp (sym cells) (up_at_end g.D.Disk.faults c.requires.run.policy c.args.config c.args.wire c.requires.run.offers c.requires.run.jobs c.requires.run.proposing c.args.worked.jobs.items c.args.proposers.items c.args.worked.end c.requires.run.run none)
+    subst AreUp (sym cells) (up_at_end g.D.Disk.content g.D.Disk.faults c.requires.run.policy c.args.config c.args.wire c.requires.run.offers c.requires.run.jobs c.requires.run.proposing c.args.worked.jobs.items c.args.proposers.items c.args.worked.end c.requires.run.run none)
 
 pub conclude-requires-clause-room : goal.conclude-requires-clause-room
 conclude-requires-clause-room g c =
     let cells : c.take_cells-2.new.cells.items ≡ cells_of c.args.worked.jobs.items ++ cells_of c.args.proposers.items
     = c.take_cells-2.ensures.cells ∙ ap (λ (l : List (CellState g.row.D.Denot)). l ++ cells_of c.args.proposers.items) (c.take_cells.ensures.cells ∙ ap (λ (l : List (CellState g.row.D.Denot)). l ++ cells_of c.args.worked.jobs.items) c.requires.cells_room.0) in
-    let goes = outcome.go g.D.Disk.faults c.args.config c.args.wire c.requires.run.offers c.requires.run.jobs c.requires.run.proposing c.args.worked.jobs.items c.args.proposers.items c.requires.run.run.seated c.requires.run.run.size c.requires.run.run.carried c.requires.run.run.as_many c.requires.run.run.has c.take_cells.ensures.known c.take_cells-2.ensures.known in
-    let first = outcome.logs_before g.D.Disk.faults c.args.config c.args.wire c.requires.run.offers c.requires.run.jobs c.requires.run.proposing c.args.worked.jobs.items c.args.proposers.items c.requires.run.run.seated c.requires.run.run.size c.requires.run.run.carried c.requires.run.run.as_many c.requires.run.run.has c.take_cells.ensures.known c.take_cells-2.ensures.known in
+    let goes = outcome.go g.D.Disk.content g.D.Disk.faults c.args.config c.args.wire c.requires.run.offers c.requires.run.jobs c.requires.run.proposing c.args.worked.jobs.items c.args.proposers.items c.requires.run.run.seated c.requires.run.run.size c.requires.run.run.carried c.requires.run.run.as_many c.requires.run.run.has c.take_cells.ensures.known c.take_cells-2.ensures.known in
+    let first = outcome.logs_before g.D.Disk.content g.D.Disk.faults c.args.config c.args.wire c.requires.run.offers c.requires.run.jobs c.requires.run.proposing c.args.worked.jobs.items c.args.proposers.items c.requires.run.run.seated c.requires.run.run.size c.requires.run.run.carried c.requires.run.run.as_many c.requires.run.run.has c.take_cells.ensures.known c.take_cells-2.ensures.known in
     subst (λ (cs : List (CellState g.row.D.Denot)). HasRoomFor (length (logs_of cs)) c.args.room.logs) (sym cells)
     (as_many_logs g.D.Disk.faults _ _ c.args.room.logs (logs_go g.D.Disk.faults _ _ goes) (subst (λ (ls : List (LogState g.row.D.Denot)). HasRoomFor (length ls) c.args.room.logs) (sym first) c.requires.run.fits))
 
@@ -53,7 +53,7 @@ returns-clause-run g c policy offers jobs proposing many run =
     = c.take_cells-2.ensures.cells ∙ ap (λ (l : List (CellState g.row.D.Denot)). l ++ cells_of c.args.proposers.items) (c.take_cells.ensures.cells ∙ ap (λ (l : List (CellState g.row.D.Denot)). l ++ cells_of c.args.worked.jobs.items) c.requires.cells_room.0) in
     finishing.runs_from policy g.D.Disk.faults g.D.Disk.content g.D.Disk.image c.args.config c.args.wire offers jobs proposing c.args.worked.jobs.items c.args.proposers.items run.seated run.size run.carried run.as_many run.has c.take_cells.ensures.known c.take_cells-2.ensures.known
     c.args.worked.end run.decided run.known (let k = c.know.ensures.acceptors in omega arith) run.quiet
-    (up_at_end g.D.Disk.faults policy c.args.config c.args.wire offers jobs proposing c.args.worked.jobs.items c.args.proposers.items c.args.worked.end run) c.conclude.result.end c.conclude.result.posted c.conclude.result.logs.items
+    (up_at_end g.D.Disk.content g.D.Disk.faults policy c.args.config c.args.wire offers jobs proposing c.args.worked.jobs.items c.args.proposers.items c.args.worked.end run) c.conclude.result.end c.conclude.result.posted c.conclude.result.logs.items
     (subst (λ (cs : List (CellState g.row.D.Denot)). Leaves g.D.Disk.faults c.args.config (length offers) cs c.args.worked.end c.conclude.result.end c.conclude.result.posted c.conclude.result.logs.items) cells
     (subst (λ n. Leaves g.D.Disk.faults c.args.config n c.take_cells-2.new.cells.items c.args.worked.end c.conclude.result.end c.conclude.result.posted c.conclude.result.logs.items) many c.conclude.ensures.left))
     c.conclude.ensures.ready

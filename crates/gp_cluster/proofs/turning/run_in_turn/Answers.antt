@@ -46,7 +46,7 @@ close_run-requires-clause-run g c =
     let offers = c.in-Ok-offer_all.ensures in
     let rests : c.work-worked.result.end ≡ None → RestsAfter IsCalled g.D.Disk.faults c.args.seated.wire c.args.config.acceptors (total (process_of g.D.Disk.faults) 0 c.in-Ok-offer_all.offered.items) c.work-worked.new.caller.calls c.args.seated.jobs.items c.work-worked.result.jobs.items
     = λ none. subst (λ (js : List (Job (CellState g.row.D.Denot))). RestsAfter IsCalled g.D.Disk.faults c.args.seated.wire c.args.config.acceptors (total (process_of g.D.Disk.faults) 0 js) c.work-worked.new.caller.calls c.args.seated.jobs.items c.work-worked.result.jobs.items) c.deref.ensures.value (c.work-worked.ensures.quiet none) in
-    let run = carried_run Multi g.D.Disk.faults c.args.config c.args.seated.wire c.args.offers.now c.args.seated.jobs.items c.args.seated.proposers.items c.work-worked.result.jobs.items c.in-Ok-offer_all.offered.items c.requires.seated c.work-worked.ensures.size c.work-worked.ensures.carried offers.size offers.offered offers.worked
+    let run = carried_run Multi g.D.Disk.content g.D.Disk.faults c.args.config c.args.seated.wire c.args.offers.now c.args.seated.jobs.items c.args.seated.proposers.items c.work-worked.result.jobs.items c.in-Ok-offer_all.offered.items c.requires.seated c.work-worked.ensures.size c.work-worked.ensures.carried offers.size offers.offered offers.worked
     c.work-worked.result.end (let k = c.know.ensures.acceptors in omega arith) c.work-worked.new.caller.calls rests c.requires.known c.work-worked.ensures.decided in
     record {
       policy = Multi;
@@ -63,6 +63,6 @@ returns-clause-run g c =
     let offers = c.in-Ok-offer_all.ensures in
     let rests : c.work-worked.result.end ≡ None → RestsAfter IsCalled g.D.Disk.faults c.args.seated.wire c.args.config.acceptors (total (process_of g.D.Disk.faults) 0 c.in-Ok-offer_all.offered.items) c.work-worked.new.caller.calls c.args.seated.jobs.items c.work-worked.result.jobs.items
     = λ none. subst (λ (js : List (Job (CellState g.row.D.Denot))). RestsAfter IsCalled g.D.Disk.faults c.args.seated.wire c.args.config.acceptors (total (process_of g.D.Disk.faults) 0 js) c.work-worked.new.caller.calls c.args.seated.jobs.items c.work-worked.result.jobs.items) c.deref.ensures.value (c.work-worked.ensures.quiet none) in
-    let run = carried_run Multi g.D.Disk.faults c.args.config c.args.seated.wire c.args.offers.now c.args.seated.jobs.items c.args.seated.proposers.items c.work-worked.result.jobs.items c.in-Ok-offer_all.offered.items c.requires.seated c.work-worked.ensures.size c.work-worked.ensures.carried offers.size offers.offered offers.worked
+    let run = carried_run Multi g.D.Disk.content g.D.Disk.faults c.args.config c.args.seated.wire c.args.offers.now c.args.seated.jobs.items c.args.seated.proposers.items c.work-worked.result.jobs.items c.in-Ok-offer_all.offered.items c.requires.seated c.work-worked.ensures.size c.work-worked.ensures.carried offers.size offers.offered offers.worked
     c.work-worked.result.end (let k = c.know.ensures.acceptors in omega arith) c.work-worked.new.caller.calls rests c.requires.known c.work-worked.ensures.decided in
     c.close_run.ensures.run Multi c.args.offers.now c.args.seated.jobs.items c.args.seated.proposers.items (ap length c.as_slice-commands.ensures) run

@@ -1,23 +1,29 @@
-use Rattle.std.proofs.Common.{◌≡◌, ◌<◌, List, map, length, get_or, sym, ap, ◌∙◌, subst}
+use Rattle.std.proofs.Common.{◌≡◌, ◌<◌, List, None, map, length, get_or, sym, ap, ◌∙◌, subst}
 use Rattle.std.specs.Prelude.{IfSome}
+use Rattle.std.specs.List.{All}
 use Rattle.gp_wire.specs.Known.{records}
 use Rattle.gp_work.specs.declared.job.Job.{Job}
 use Rattle.gp_cell.specs.Cells.{CellState}
-use Rattle.gp_cell.specs.Refusals.{IsTooGreat}
-use Rattle.gp_cell.specs.Working.{process_of, IsAt}
+use Rattle.gp_cell.specs.Working.{process_of, causes_of, IsAt}
 use Rattle.gp_phase.specs.declared.phases.PhasesEnd.TheVariants as PhasesEnd
 use Rattle.gp_phase.specs.Phases.{rounds, only_at, total, AreReady}
-use Rattle.gp_quiet.specs.Ended.{HaveWorked}
+use Rattle.gp_ending.specs.Ended.{HaveWorked}
 use Rattle.gp_ending.specs.Ends.{deciding, fault_in}
 use Rattle.gp_ending.specs.Working.{IsCarriedJob, IsDecided}
-use Rattle.gp_ending.proofs.Carrying.{carried_still, decided_or, some_no}
+use Rattle.gp_ending.proofs.Carrying.{carried_still, decided_none, decided_or}
+use Rattle.gp_ending.proofs.Deciding.{some_no}
 use Rattle.gp_ending.proofs.working.go_on.Goals as goal
 use Rattle.gp_ending.proofs.working.go_on.Goals.{in-Quiet, in-Fault}
 
 pub returns-in_default-clause-carried : goal.returns-in_default-clause-carried
 returns-in_default-clause-carried g c i d l =
-    subst (λ (js : List (Job (CellState g.row.D.Denot))). IsCarriedJob g.D.Disk.faults c.args.wire.now (get_or c.args.jobs.items i d) (get_or js i d)) (sym (ap (λ v. v.items) c.starved.ensures.jobs))
-    (carried_still (process_of g.D.Disk.faults) (λ x w. IsAt x w) (λ x e size need. IsTooGreat x e size need) c.args.wire.now (only_at c.args.config.acceptors i (rounds c.requires.ready.begun)) (get_or c.args.jobs.items i d) (c.requires.ready.each i d l))
+    subst (λ (js : List (Job (CellState g.row.D.Denot))). IsCarriedJob g.D.Disk.content g.D.Disk.faults c.args.wire.now (get_or c.args.jobs.items i d) (get_or js i d)) (sym (ap (λ v. v.items) c.starved.ensures.jobs))
+    (carried_still (process_of g.D.Disk.faults) (λ x w. IsAt x w) (causes_of g.D.Disk.content) c.args.wire.now (only_at c.args.config.acceptors i (rounds c.requires.ready.begun)) (get_or c.args.jobs.items i d) (c.requires.ready.each i d l))
+
+pub returns-in_default-clause-decided : goal.returns-in_default-clause-decided
+returns-in_default-clause-decided g c =
+    decided_none c.starved.result.jobs.items c.starved.result.end c.starved.ensures.end
+    (subst (λ (js : List (Job (CellState g.row.D.Denot))). All (λ (j : Job (CellState g.row.D.Denot)). j.fault ≡ None) js) (sym (ap (λ v. v.items) c.starved.ensures.jobs)) (λ i d l. (c.requires.ready.each i d l).fault))
 
 pub run_phases-phases-requires-clause-at : goal.run_phases-phases-requires-clause-at
 run_phases-phases-requires-clause-at g c κs within = subst (λ n. n < length c.args.jobs.items) (sym c.acceptors-at.ensures.value) c.requires.at

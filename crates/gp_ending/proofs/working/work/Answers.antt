@@ -1,14 +1,14 @@
-use Rattle.std.proofs.Common.{◌≡◌, ◌<◌, List, length, get_or, sym, ap, ◌∙◌, subst, arith}
+use Rattle.std.proofs.Common.{◌≡◌, ◌<◌, List, None, length, get_or, sym, ap, ◌∙◌, subst, arith}
+use Rattle.std.specs.List.{All}
 use Rattle.gp_wire.specs.Known.{records}
 use Rattle.gp_work.specs.declared.job.Job.{Job}
 use Rattle.gp_cell.specs.Cells.{CellState}
-use Rattle.gp_cell.specs.Refusals.{IsTooGreat}
-use Rattle.gp_cell.specs.Working.{process_of, IsAt}
+use Rattle.gp_cell.specs.Working.{process_of, causes_of, IsAt}
 use Rattle.gp_phase.specs.Phases.{rounds, only_at, AreReady, IsToOpen, HasAnswered}
-use Rattle.gp_begins.specs.Begins.{leader}
-use Rattle.gp_quiet.proofs.Indexing.{pick}
+use Rattle.gp_ending.specs.Begins.{leader}
+use Rattle.gp_ending.proofs.Indexing.{pick}
 use Rattle.gp_ending.specs.Working.{IsCarriedJob}
-use Rattle.gp_ending.proofs.Carrying.{carried_on, on_ok}
+use Rattle.gp_ending.proofs.Carrying.{carried_on, decided_none, on_ok}
 use Rattle.gp_ending.proofs.working.work.Goals as goal
 
 pub call_first-requires-clause-at : goal.call_first-requires-clause-at
@@ -28,8 +28,13 @@ call_first-requires-clause-knows g c d =
 
 pub returns-then-is_err-clause-carried : goal.returns-then-is_err-clause-carried
 returns-then-is_err-clause-carried g c i d l =
-    subst (λ (js : List (Job (CellState g.row.D.Denot))). IsCarriedJob g.D.Disk.faults c.args.wire.now (get_or c.args.starting.items i d) (get_or js i d)) (sym (ap (λ v. v.items) c.starved.ensures.jobs))
+    subst (λ (js : List (Job (CellState g.row.D.Denot))). IsCarriedJob g.D.Disk.content g.D.Disk.faults c.args.wire.now (get_or c.args.starting.items i d) (get_or js i d)) (sym (ap (λ v. v.items) c.starved.ensures.jobs))
     (c.call_first.ensures.carried i d l)
+
+pub returns-then-is_err-clause-decided : goal.returns-then-is_err-clause-decided
+returns-then-is_err-clause-decided g c =
+    decided_none c.starved.result.jobs.items c.starved.result.end c.starved.ensures.end
+    (subst (λ (js : List (Job (CellState g.row.D.Denot))). All (λ (j : Job (CellState g.row.D.Denot)). j.fault ≡ None) js) (sym (ap (λ v. v.items) c.starved.ensures.jobs)) c.call_first.ensures.unbroken)
 
 pub go_on-requires-clause-ready : goal.go_on-requires-clause-ready
 go_on-requires-clause-ready g c κs within =
@@ -58,7 +63,7 @@ pub returns-clause-carried : goal.returns-clause-carried
 returns-clause-carried g c i d l =
     let jobs = c.call_first.new.jobs.items in
     let size = c.call_first.ensures.size in
-    carried_on (process_of g.D.Disk.faults) (λ x w. IsAt x w) (λ x e size need. IsTooGreat x e size need) c.args.wire.now (get_or c.args.starting.items i d) (get_or jobs i d) (get_or c.go_on.result.jobs.items i d)
+    carried_on (process_of g.D.Disk.faults) (λ x w. IsAt x w) (causes_of g.D.Disk.content) c.args.wire.now (get_or c.args.starting.items i d) (get_or jobs i d) (get_or c.go_on.result.jobs.items i d)
     (c.call_first.ensures.carried i d l) (c.go_on.ensures.carried i d (omega (arith, size, l)))
 
 pub returns-clause-quiet : goal.returns-clause-quiet

@@ -15,7 +15,7 @@ loop-init g c = let r = c.requires.ready in (
   c.requires.knows,
   r.begun,
   r.pending,
-  starts g.P.Process.state g.P.Process.is_of g.P.Process.too_great c.args.net.now g.C.Caller.answers c.args.at c.args.jobs.items (g.C.Caller.node c.args.caller.now) (g.C.Caller.config c.args.caller.now) (g.C.Caller.called c.args.caller.now) r (λ d. (c.requires.node d, c.requires.config d)),
+  starts g.P.Process.state g.P.Process.is_of g.P.Process.causes c.args.net.now g.C.Caller.answers c.args.at c.args.jobs.items (g.C.Caller.node c.args.caller.now) (g.C.Caller.config c.args.caller.now) (g.C.Caller.called c.args.caller.now) r (λ d. (c.requires.node d, c.requires.config d)),
   inl refl,
   refl,
 )
@@ -24,13 +24,13 @@ pub workers_beside-jobs-requires-clause-ready : goal.workers_beside-jobs-require
 workers_beside-jobs-requires-clause-ready g c κs within =
     let inv = c.loop.invariant in let ph = inv.5 in let size = ph.size in let there = c.requires.at in record {
       some = omega arith;
-      ready = ready g.P.Process.state g.P.Process.is_of g.P.Process.too_great c.args.net.now g.C.Caller.answers c.args.at c.args.jobs.items c.loop.jobs.items (g.C.Caller.node c.args.caller.now) (g.C.Caller.config c.args.caller.now) inv.3 inv.4 (g.C.Caller.called c.loop.caller) inv.5;
+      ready = ready g.P.Process.state g.P.Process.is_of g.P.Process.causes c.args.net.now g.C.Caller.answers c.args.at c.args.jobs.items c.loop.jobs.items (g.C.Caller.node c.args.caller.now) (g.C.Caller.config c.args.caller.now) inv.3 inv.4 (g.C.Caller.called c.loop.caller) inv.5;
     }
 
 pub returns-then-has_fault-clause-carried : goal.returns-then-has_fault-clause-carried
 returns-then-has_fault-clause-carried g c =
     let inv = c.loop.invariant in
-    all_carried g.P.Process.state g.P.Process.is_of g.P.Process.too_great c.args.net.now g.C.Caller.answers c.args.at c.args.jobs.items c.loop.jobs.items c.workers_beside-jobs.result.items (g.C.Caller.node c.args.caller.now) (g.C.Caller.config c.args.caller.now) inv.3 inv.4 (g.C.Caller.called c.loop.caller) inv.5 c.workers_beside-jobs.ensures.worked.each
+    all_carried g.P.Process.state g.P.Process.is_of g.P.Process.causes c.args.net.now g.C.Caller.answers c.args.at c.args.jobs.items c.loop.jobs.items c.workers_beside-jobs.result.items (g.C.Caller.node c.args.caller.now) (g.C.Caller.config c.args.caller.now) inv.3 inv.4 (g.C.Caller.called c.loop.caller) inv.5 c.workers_beside-jobs.ensures.worked.each
 
 pub call_round-requires-clause-up : goal.call_round-requires-clause-up
 call_round-requires-clause-up g c =
@@ -38,7 +38,7 @@ call_round-requires-clause-up g c =
     let me = g.C.Caller.node c.args.caller.now in let us = g.C.Caller.config c.args.caller.now in let called = g.C.Caller.called c.loop.caller in
     let inv = c.loop.invariant in let ph = inv.5 in
     let none : All (λ (k : Job g.row.P.Denot). k.fault ≡ None) ks = subst (All (λ (k : Job g.row.P.Denot). k.fault ≡ None)) c.deref-in-loop.ensures.value (c.if-has_fault.ensures refl) in
-    let done = worked g.P.Process.state g.P.Process.is_of g.P.Process.too_great c.args.net.now g.C.Caller.answers c.args.at js0 js ks me us inv.3 inv.4 called c.requires.at ph c.workers_beside-jobs.ensures.worked.same c.workers_beside-jobs.ensures.worked.each none in
+    let done = worked g.P.Process.state g.P.Process.is_of g.P.Process.causes c.args.net.now g.C.Caller.answers c.args.at js0 js ks me us inv.3 inv.4 called c.requires.at ph c.workers_beside-jobs.ensures.worked.same c.workers_beside-jobs.ensures.worked.each none in
     let j : Job g.row.P.Denot = c.index_mut.result.now in
     let here : j ≡ get_or ks c.args.at j = c.index_mut.ensures.value in
     subst (λ (x : Job g.row.P.Denot). (g.P.Process.state x.cell).up ≡ true) (sym here) (done.each c.args.at j c.requires.at).up
@@ -49,13 +49,13 @@ call_round-requires-clause-knows g c =
     let me = g.C.Caller.node c.args.caller.now in let us = g.C.Caller.config c.args.caller.now in let called = g.C.Caller.called c.loop.caller in
     let inv = c.loop.invariant in let ph = inv.5 in
     let none : All (λ (k : Job g.row.P.Denot). k.fault ≡ None) ks = subst (All (λ (k : Job g.row.P.Denot). k.fault ≡ None)) c.deref-in-loop.ensures.value (c.if-has_fault.ensures refl) in
-    let done = worked g.P.Process.state g.P.Process.is_of g.P.Process.too_great c.args.net.now g.C.Caller.answers c.args.at js0 js ks me us inv.3 inv.4 called c.requires.at ph c.workers_beside-jobs.ensures.worked.same c.workers_beside-jobs.ensures.worked.each none in
+    let done = worked g.P.Process.state g.P.Process.is_of g.P.Process.causes c.args.net.now g.C.Caller.answers c.args.at js0 js ks me us inv.3 inv.4 called c.requires.at ph c.workers_beside-jobs.ensures.worked.same c.workers_beside-jobs.ensures.worked.each none in
     let j : Job g.row.P.Denot = c.index_mut.result.now in
     let here : j ≡ get_or ks c.args.at j = c.index_mut.ensures.value in
     let size = ph.size in let there = c.requires.at in
     let goes = (c.workers_beside-jobs.ensures.worked.each c.args.at j (omega arith)).stretch.goes in
     subst (λ (x : Job g.row.P.Denot). g.C.Caller.knows c.loop.caller (g.P.Process.state x.cell).list) (sym here)
-    (known g.P.Process.state g.P.Process.is_of g.P.Process.too_great c.args.net.now g.C.Caller.answers c.args.at (g.C.Caller.knows c.loop.caller) (g.C.Caller.lasts c.loop.caller) (g.P.Process.state (get_or js c.args.at j).cell) (g.P.Process.state (get_or ks c.args.at j).cell) goes (inv.2 j))
+    (known g.P.Process.state g.P.Process.is_of g.P.Process.causes c.args.net.now g.C.Caller.answers c.args.at (g.C.Caller.knows c.loop.caller) (g.C.Caller.lasts c.loop.caller) (g.P.Process.state (get_or js c.args.at j).cell) (g.P.Process.state (get_or ks c.args.at j).cell) goes (inv.2 j))
 
 pub returns-in-Err-clause-carried : goal.returns-in-Err-clause-carried
 returns-in-Err-clause-carried g c =
@@ -63,14 +63,14 @@ returns-in-Err-clause-carried g c =
     let me = g.C.Caller.node c.args.caller.now in let us = g.C.Caller.config c.args.caller.now in let called = g.C.Caller.called c.loop.caller in
     let inv = c.loop.invariant in let ph = inv.5 in
     let none : All (λ (k : Job g.row.P.Denot). k.fault ≡ None) ks = subst (All (λ (k : Job g.row.P.Denot). k.fault ≡ None)) c.deref-in-loop.ensures.value (c.if-has_fault.ensures refl) in
-    let done = worked g.P.Process.state g.P.Process.is_of g.P.Process.too_great c.args.net.now g.C.Caller.answers c.args.at js0 js ks me us inv.3 inv.4 called c.requires.at ph c.workers_beside-jobs.ensures.worked.same c.workers_beside-jobs.ensures.worked.each none in
+    let done = worked g.P.Process.state g.P.Process.is_of g.P.Process.causes c.args.net.now g.C.Caller.answers c.args.at js0 js ks me us inv.3 inv.4 called c.requires.at ph c.workers_beside-jobs.ensures.worked.same c.workers_beside-jobs.ensures.worked.each none in
     let j : Job g.row.P.Denot = c.index_mut.result.now in
     let here : j ≡ get_or ks c.args.at j = c.index_mut.ensures.value in
     let y : Job g.row.P.Denot = c.call_round.new.job in let after = g.C.Caller.called c.call_round.new.caller in
     let e = c.call_round.ensures in
-    let w0 : Looks g.P.Process.state g.P.Process.is_of g.P.Process.too_great c.args.net.now g.C.Caller.answers c.args.at j y = record { own = e.own; goes = e.goes; posts = e.posts; up = e.up; cursor = e.cursor; risen = e.risen; fault = e.fault } in
-    let w = subst (λ (x : Job g.row.P.Denot). Looks g.P.Process.state g.P.Process.is_of g.P.Process.too_great c.args.net.now g.C.Caller.answers c.args.at x y) here w0 in
-    carried_asked g.P.Process.state g.P.Process.is_of g.P.Process.too_great c.args.net.now g.C.Caller.answers c.args.at js0 ks me us called y j c.requires.at done w
+    let w0 : Looks g.P.Process.state g.P.Process.is_of g.P.Process.causes c.args.net.now g.C.Caller.answers c.args.at j y = record { own = e.own; goes = e.goes; posts = e.posts; up = e.up; cursor = e.cursor; risen = e.risen; fault = e.fault } in
+    let w = subst (λ (x : Job g.row.P.Denot). Looks g.P.Process.state g.P.Process.is_of g.P.Process.causes c.args.net.now g.C.Caller.answers c.args.at x y) here w0 in
+    carried_asked g.P.Process.state g.P.Process.is_of g.P.Process.causes c.args.net.now g.C.Caller.answers c.args.at js0 ks me us called y j c.requires.at done w
 
 pub returns-then-not-left-clause-carried : goal.returns-then-not-left-clause-carried
 returns-then-not-left-clause-carried g c =
@@ -78,14 +78,14 @@ returns-then-not-left-clause-carried g c =
     let me = g.C.Caller.node c.args.caller.now in let us = g.C.Caller.config c.args.caller.now in let called = g.C.Caller.called c.loop.caller in
     let inv = c.loop.invariant in let ph = inv.5 in
     let none : All (λ (k : Job g.row.P.Denot). k.fault ≡ None) ks = subst (All (λ (k : Job g.row.P.Denot). k.fault ≡ None)) c.deref-in-loop.ensures.value (c.if-has_fault.ensures refl) in
-    let done = worked g.P.Process.state g.P.Process.is_of g.P.Process.too_great c.args.net.now g.C.Caller.answers c.args.at js0 js ks me us inv.3 inv.4 called c.requires.at ph c.workers_beside-jobs.ensures.worked.same c.workers_beside-jobs.ensures.worked.each none in
+    let done = worked g.P.Process.state g.P.Process.is_of g.P.Process.causes c.args.net.now g.C.Caller.answers c.args.at js0 js ks me us inv.3 inv.4 called c.requires.at ph c.workers_beside-jobs.ensures.worked.same c.workers_beside-jobs.ensures.worked.each none in
     let j : Job g.row.P.Denot = c.index_mut.result.now in
     let here : j ≡ get_or ks c.args.at j = c.index_mut.ensures.value in
     let y : Job g.row.P.Denot = c.call_round.new.job in let after = g.C.Caller.called c.call_round.new.caller in
     let e = c.call_round.ensures in
-    let w0 : Looks g.P.Process.state g.P.Process.is_of g.P.Process.too_great c.args.net.now g.C.Caller.answers c.args.at j y = record { own = e.own; goes = e.goes; posts = e.posts; up = e.up; cursor = e.cursor; risen = e.risen; fault = e.fault } in
-    let w = subst (λ (x : Job g.row.P.Denot). Looks g.P.Process.state g.P.Process.is_of g.P.Process.too_great c.args.net.now g.C.Caller.answers c.args.at x y) here w0 in
-    carried_asked g.P.Process.state g.P.Process.is_of g.P.Process.too_great c.args.net.now g.C.Caller.answers c.args.at js0 ks me us called y j c.requires.at done w
+    let w0 : Looks g.P.Process.state g.P.Process.is_of g.P.Process.causes c.args.net.now g.C.Caller.answers c.args.at j y = record { own = e.own; goes = e.goes; posts = e.posts; up = e.up; cursor = e.cursor; risen = e.risen; fault = e.fault } in
+    let w = subst (λ (x : Job g.row.P.Denot). Looks g.P.Process.state g.P.Process.is_of g.P.Process.causes c.args.net.now g.C.Caller.answers c.args.at x y) here w0 in
+    carried_asked g.P.Process.state g.P.Process.is_of g.P.Process.causes c.args.net.now g.C.Caller.answers c.args.at js0 ks me us called y j c.requires.at done w
 
 pub returns-then-not-left-clause-finished : goal.returns-then-not-left-clause-finished
 returns-then-not-left-clause-finished g c _ i d l =
@@ -93,18 +93,18 @@ returns-then-not-left-clause-finished g c _ i d l =
     let me = g.C.Caller.node c.args.caller.now in let us = g.C.Caller.config c.args.caller.now in let called = g.C.Caller.called c.loop.caller in
     let inv = c.loop.invariant in let ph = inv.5 in
     let none : All (λ (k : Job g.row.P.Denot). k.fault ≡ None) ks = subst (All (λ (k : Job g.row.P.Denot). k.fault ≡ None)) c.deref-in-loop.ensures.value (c.if-has_fault.ensures refl) in
-    let done = worked g.P.Process.state g.P.Process.is_of g.P.Process.too_great c.args.net.now g.C.Caller.answers c.args.at js0 js ks me us inv.3 inv.4 called c.requires.at ph c.workers_beside-jobs.ensures.worked.same c.workers_beside-jobs.ensures.worked.each none in
+    let done = worked g.P.Process.state g.P.Process.is_of g.P.Process.causes c.args.net.now g.C.Caller.answers c.args.at js0 js ks me us inv.3 inv.4 called c.requires.at ph c.workers_beside-jobs.ensures.worked.same c.workers_beside-jobs.ensures.worked.each none in
     let j : Job g.row.P.Denot = c.index_mut.result.now in
     let here : j ≡ get_or ks c.args.at j = c.index_mut.ensures.value in
     let y : Job g.row.P.Denot = c.call_round.new.job in let after = g.C.Caller.called c.call_round.new.caller in
     let e = c.call_round.ensures in
-    let w0 : Looks g.P.Process.state g.P.Process.is_of g.P.Process.too_great c.args.net.now g.C.Caller.answers c.args.at j y = record { own = e.own; goes = e.goes; posts = e.posts; up = e.up; cursor = e.cursor; risen = e.risen; fault = e.fault } in
-    let w = subst (λ (x : Job g.row.P.Denot). Looks g.P.Process.state g.P.Process.is_of g.P.Process.too_great c.args.net.now g.C.Caller.answers c.args.at x y) here w0 in
+    let w0 : Looks g.P.Process.state g.P.Process.is_of g.P.Process.causes c.args.net.now g.C.Caller.answers c.args.at j y = record { own = e.own; goes = e.goes; posts = e.posts; up = e.up; cursor = e.cursor; risen = e.risen; fault = e.fault } in
+    let w = subst (λ (x : Job g.row.P.Denot). Looks g.P.Process.state g.P.Process.is_of g.P.Process.causes c.args.net.now g.C.Caller.answers c.args.at x y) here w0 in
     let a = subst (λ (x : Job g.row.P.Denot). Asked g.P.Process.state (g.C.Caller.answers (g.P.Process.state x.cell).config (g.P.Process.state x.cell).node) called after x y c.in-Ok.left) here c.in-Ok.ensures.asked in
-    let ends = looked g.P.Process.state g.P.Process.is_of g.P.Process.too_great c.args.net.now g.C.Caller.answers c.args.at js0 js ks me us inv.3 inv.4 called ph c.workers_beside-jobs.ensures.worked.same c.workers_beside-jobs.ensures.worked.each none in
+    let ends = looked g.P.Process.state g.P.Process.is_of g.P.Process.causes c.args.net.now g.C.Caller.answers c.args.at js0 js ks me us inv.3 inv.4 called ph c.workers_beside-jobs.ensures.worked.same c.workers_beside-jobs.ensures.worked.each none in
     let quiet : All (λ (k : Job g.row.P.Denot). length (g.P.Process.state k.cell).list ≡ total g.P.Process.state c.args.others ks) ks =
     subst (λ (xs : List (Job g.row.P.Denot)). All (λ (k : Job g.row.P.Denot). length (g.P.Process.state k.cell).list ≡ total g.P.Process.state c.args.others xs) xs) c.deref-in-loop-2.ensures.value (c.if-quiet.ensures refl) in
-    finished g.P.Process.state g.P.Process.is_of g.P.Process.too_great c.args.net.now g.C.Caller.answers c.args.at js0 ks me us called after c.args.others y j c.in-Ok.left c.requires.at done w a c.if-not-left.true ends quiet i d l
+    finished g.P.Process.state g.P.Process.is_of g.P.Process.causes c.args.net.now g.C.Caller.answers c.args.at js0 ks me us called after c.args.others y j c.in-Ok.left c.requires.at done w a c.if-not-left.true ends quiet i d l
 
 pub returns-then-not-left-clause-opens : goal.returns-then-not-left-clause-opens
 returns-then-not-left-clause-opens g c _ i d l =
@@ -112,15 +112,15 @@ returns-then-not-left-clause-opens g c _ i d l =
     let me = g.C.Caller.node c.args.caller.now in let us = g.C.Caller.config c.args.caller.now in let called = g.C.Caller.called c.loop.caller in
     let inv = c.loop.invariant in let ph = inv.5 in
     let none : All (λ (k : Job g.row.P.Denot). k.fault ≡ None) ks = subst (All (λ (k : Job g.row.P.Denot). k.fault ≡ None)) c.deref-in-loop.ensures.value (c.if-has_fault.ensures refl) in
-    let done = worked g.P.Process.state g.P.Process.is_of g.P.Process.too_great c.args.net.now g.C.Caller.answers c.args.at js0 js ks me us inv.3 inv.4 called c.requires.at ph c.workers_beside-jobs.ensures.worked.same c.workers_beside-jobs.ensures.worked.each none in
+    let done = worked g.P.Process.state g.P.Process.is_of g.P.Process.causes c.args.net.now g.C.Caller.answers c.args.at js0 js ks me us inv.3 inv.4 called c.requires.at ph c.workers_beside-jobs.ensures.worked.same c.workers_beside-jobs.ensures.worked.each none in
     let j : Job g.row.P.Denot = c.index_mut.result.now in
     let here : j ≡ get_or ks c.args.at j = c.index_mut.ensures.value in
     let y : Job g.row.P.Denot = c.call_round.new.job in let after = g.C.Caller.called c.call_round.new.caller in
     let e = c.call_round.ensures in
-    let w0 : Looks g.P.Process.state g.P.Process.is_of g.P.Process.too_great c.args.net.now g.C.Caller.answers c.args.at j y = record { own = e.own; goes = e.goes; posts = e.posts; up = e.up; cursor = e.cursor; risen = e.risen; fault = e.fault } in
-    let w = subst (λ (x : Job g.row.P.Denot). Looks g.P.Process.state g.P.Process.is_of g.P.Process.too_great c.args.net.now g.C.Caller.answers c.args.at x y) here w0 in
-    let opened = worked_open g.P.Process.state g.P.Process.is_of g.P.Process.too_great c.args.net.now js0 js ks ph.size c.workers_beside-jobs.ensures.worked.same inv.6 c.workers_beside-jobs.ensures.worked.each none in
-    looked_open g.P.Process.state g.P.Process.is_of g.P.Process.too_great c.args.net.now g.C.Caller.answers c.args.at js0 ks y j done.size w opened i d l
+    let w0 : Looks g.P.Process.state g.P.Process.is_of g.P.Process.causes c.args.net.now g.C.Caller.answers c.args.at j y = record { own = e.own; goes = e.goes; posts = e.posts; up = e.up; cursor = e.cursor; risen = e.risen; fault = e.fault } in
+    let w = subst (λ (x : Job g.row.P.Denot). Looks g.P.Process.state g.P.Process.is_of g.P.Process.causes c.args.net.now g.C.Caller.answers c.args.at x y) here w0 in
+    let opened = worked_open g.P.Process.state g.P.Process.is_of g.P.Process.causes c.args.net.now js0 js ks ph.size c.workers_beside-jobs.ensures.worked.same inv.6 c.workers_beside-jobs.ensures.worked.each none in
+    looked_open g.P.Process.state g.P.Process.is_of g.P.Process.causes c.args.net.now g.C.Caller.answers c.args.at js0 ks y j done.size w opened i d l
 
 pub returns-then-not-left-clause-follows : goal.returns-then-not-left-clause-follows
 returns-then-not-left-clause-follows g c _ d =
@@ -128,15 +128,15 @@ returns-then-not-left-clause-follows g c _ d =
     let me = g.C.Caller.node c.args.caller.now in let us = g.C.Caller.config c.args.caller.now in let called = g.C.Caller.called c.loop.caller in
     let inv = c.loop.invariant in let ph = inv.5 in
     let none : All (λ (k : Job g.row.P.Denot). k.fault ≡ None) ks = subst (All (λ (k : Job g.row.P.Denot). k.fault ≡ None)) c.deref-in-loop.ensures.value (c.if-has_fault.ensures refl) in
-    let done = worked g.P.Process.state g.P.Process.is_of g.P.Process.too_great c.args.net.now g.C.Caller.answers c.args.at js0 js ks me us inv.3 inv.4 called c.requires.at ph c.workers_beside-jobs.ensures.worked.same c.workers_beside-jobs.ensures.worked.each none in
+    let done = worked g.P.Process.state g.P.Process.is_of g.P.Process.causes c.args.net.now g.C.Caller.answers c.args.at js0 js ks me us inv.3 inv.4 called c.requires.at ph c.workers_beside-jobs.ensures.worked.same c.workers_beside-jobs.ensures.worked.each none in
     let j : Job g.row.P.Denot = c.index_mut.result.now in
     let here : j ≡ get_or ks c.args.at j = c.index_mut.ensures.value in
     let y : Job g.row.P.Denot = c.call_round.new.job in let after = g.C.Caller.called c.call_round.new.caller in
     let e = c.call_round.ensures in
-    let w0 : Looks g.P.Process.state g.P.Process.is_of g.P.Process.too_great c.args.net.now g.C.Caller.answers c.args.at j y = record { own = e.own; goes = e.goes; posts = e.posts; up = e.up; cursor = e.cursor; risen = e.risen; fault = e.fault } in
-    let w = subst (λ (x : Job g.row.P.Denot). Looks g.P.Process.state g.P.Process.is_of g.P.Process.too_great c.args.net.now g.C.Caller.answers c.args.at x y) here w0 in
+    let w0 : Looks g.P.Process.state g.P.Process.is_of g.P.Process.causes c.args.net.now g.C.Caller.answers c.args.at j y = record { own = e.own; goes = e.goes; posts = e.posts; up = e.up; cursor = e.cursor; risen = e.risen; fault = e.fault } in
+    let w = subst (λ (x : Job g.row.P.Denot). Looks g.P.Process.state g.P.Process.is_of g.P.Process.causes c.args.net.now g.C.Caller.answers c.args.at x y) here w0 in
     let a = subst (λ (x : Job g.row.P.Denot). Asked g.P.Process.state (g.C.Caller.answers (g.P.Process.state x.cell).config (g.P.Process.state x.cell).node) called after x y c.in-Ok.left) here c.in-Ok.ensures.asked in
-    let next = asked g.P.Process.state g.P.Process.is_of g.P.Process.too_great c.args.net.now g.C.Caller.answers c.args.at js0 ks me us called after y j c.in-Ok.left c.requires.at done w a in
+    let next = asked g.P.Process.state g.P.Process.is_of g.P.Process.causes c.args.net.now g.C.Caller.answers c.args.at js0 ks me us called after y j c.in-Ok.left c.requires.at done w a in
     let same : called ≡ after = sym (next.all ∙ ap (λ o. called ++ option_to_list o) (a.none c.if-not-left.true) ∙ append-nil called) in
     subst (λ cs. Follows g.P.Process.state g.C.Caller.answers (get_or (set ks c.args.at y) c.args.at d) cs None) same
     (subst (Follows g.P.Process.state g.C.Caller.answers (get_or (set ks c.args.at y) c.args.at d) called) (a.none c.if-not-left.true) (next.follows d))
@@ -147,16 +147,16 @@ loop-preserved g c =
     let me = g.C.Caller.node c.args.caller.now in let us = g.C.Caller.config c.args.caller.now in let called = g.C.Caller.called c.loop.caller in
     let inv = c.loop.invariant in let ph = inv.5 in
     let none : All (λ (k : Job g.row.P.Denot). k.fault ≡ None) ks = subst (All (λ (k : Job g.row.P.Denot). k.fault ≡ None)) c.deref-in-loop.ensures.value (c.if-has_fault.ensures refl) in
-    let done = worked g.P.Process.state g.P.Process.is_of g.P.Process.too_great c.args.net.now g.C.Caller.answers c.args.at js0 js ks me us inv.3 inv.4 called c.requires.at ph c.workers_beside-jobs.ensures.worked.same c.workers_beside-jobs.ensures.worked.each none in
+    let done = worked g.P.Process.state g.P.Process.is_of g.P.Process.causes c.args.net.now g.C.Caller.answers c.args.at js0 js ks me us inv.3 inv.4 called c.requires.at ph c.workers_beside-jobs.ensures.worked.same c.workers_beside-jobs.ensures.worked.each none in
     let j : Job g.row.P.Denot = c.index_mut.result.now in
     let here : j ≡ get_or ks c.args.at j = c.index_mut.ensures.value in
     let y : Job g.row.P.Denot = c.call_round.new.job in let after = g.C.Caller.called c.call_round.new.caller in
     let e = c.call_round.ensures in
-    let w0 : Looks g.P.Process.state g.P.Process.is_of g.P.Process.too_great c.args.net.now g.C.Caller.answers c.args.at j y = record { own = e.own; goes = e.goes; posts = e.posts; up = e.up; cursor = e.cursor; risen = e.risen; fault = e.fault } in
-    let w = subst (λ (x : Job g.row.P.Denot). Looks g.P.Process.state g.P.Process.is_of g.P.Process.too_great c.args.net.now g.C.Caller.answers c.args.at x y) here w0 in
+    let w0 : Looks g.P.Process.state g.P.Process.is_of g.P.Process.causes c.args.net.now g.C.Caller.answers c.args.at j y = record { own = e.own; goes = e.goes; posts = e.posts; up = e.up; cursor = e.cursor; risen = e.risen; fault = e.fault } in
+    let w = subst (λ (x : Job g.row.P.Denot). Looks g.P.Process.state g.P.Process.is_of g.P.Process.causes c.args.net.now g.C.Caller.answers c.args.at x y) here w0 in
     let a = subst (λ (x : Job g.row.P.Denot). Asked g.P.Process.state (g.C.Caller.answers (g.P.Process.state x.cell).config (g.P.Process.state x.cell).node) called after x y c.in-Ok.left) here c.in-Ok.ensures.asked in
-    let opened = worked_open g.P.Process.state g.P.Process.is_of g.P.Process.too_great c.args.net.now js0 js ks ph.size c.workers_beside-jobs.ensures.worked.same inv.6 c.workers_beside-jobs.ensures.worked.each none in
-    let next = asked g.P.Process.state g.P.Process.is_of g.P.Process.too_great c.args.net.now g.C.Caller.answers c.args.at js0 ks me us called after y j c.in-Ok.left c.requires.at done w a in
+    let opened = worked_open g.P.Process.state g.P.Process.is_of g.P.Process.causes c.args.net.now js0 js ks ph.size c.workers_beside-jobs.ensures.worked.same inv.6 c.workers_beside-jobs.ensures.worked.each none in
+    let next = asked g.P.Process.state g.P.Process.is_of g.P.Process.causes c.args.net.now g.C.Caller.answers c.args.at js0 ks me us called after y j c.in-Ok.left c.requires.at done w a in
     let mine : (d : Job g.row.P.Denot) → get_or (set ks c.args.at y) c.args.at d ≡ y = λ d. get_or-set_same ks c.args.at y d (let size = done.size in let there = c.requires.at in omega arith) in (
       e.node ∙ inv.0,
       e.config ∙ inv.1,
@@ -164,6 +164,6 @@ loop-preserved g c =
       called,
       a.answer,
       next,
-      inr (looked_open g.P.Process.state g.P.Process.is_of g.P.Process.too_great c.args.net.now g.C.Caller.answers c.args.at js0 ks y j done.size w opened),
+      inr (looked_open g.P.Process.state g.P.Process.is_of g.P.Process.causes c.args.net.now g.C.Caller.answers c.args.at js0 ks y j done.size w opened),
       c.workers_beside-jobs.ensures.topics ∙ inv.7,
     )

@@ -4,7 +4,7 @@ use Rattle.gp_msg.specs.declared.node.Node.{Node}
 use Rattle.gp_msg.specs.declared.node.Node.TheVariants.{Coordinator}
 use Rattle.gp_wire.specs.Known.{records}
 use Rattle.gp_caller.specs.declared.policy.TheConstants.{LEADER}
-use Rattle.gp_rules.specs.Own.{own}
+use Rattle.gp_wire.specs.Own.{own}
 use Rattle.gp_caller.specs.Calling.{CallerState}
 use Rattle.gp_caller.specs.Standing.{StandsIn}
 use Rattle.gp_caller.proofs.Deciding.{stands_still, entered_epoch, round_of, decided}

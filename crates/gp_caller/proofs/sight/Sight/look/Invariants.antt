@@ -1,6 +1,6 @@
 use Rattle.std.proofs.Common.{◌≡◌}
 use Rattle.gp_wire.specs.Known.{records}
-use Rattle.gp_rules.specs.Own.{own}
+use Rattle.gp_wire.specs.Own.{own}
 use Rattle.gp_cell.specs.Cells.{IsSameBut}
 use Rattle.gp_cell.specs.Passing.{GoesOn}
 use Rattle.gp_caller.specs.Sights.{Saw}

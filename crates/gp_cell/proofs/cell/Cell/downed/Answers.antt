@@ -1,6 +1,6 @@
 use Rattle.std.proofs.Common.{◌≡◌, sym, subst, length}
 use Rattle.gp_wire.specs.Known.{records}
-use Rattle.gp_rules.specs.Own.{own}
+use Rattle.gp_wire.specs.Own.{own}
 use Rattle.gp_work.specs.Moves.{HasRoom}
 use Rattle.gp_cell.proofs.Falling.{map_ok, room_logged}
 use Rattle.gp_cell.proofs.cell.Cell.downed.Goals as goal

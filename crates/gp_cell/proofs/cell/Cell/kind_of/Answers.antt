@@ -1,7 +1,7 @@
 use Rattle.std.proofs.Common.{sym, subst, ap, ◌∙◌}
 use Rattle.gp_wire.specs.Lists.{Has}
 use Rattle.gp_wire.specs.Known.{records}
-use Rattle.gp_rules.specs.Own.{own}
+use Rattle.gp_wire.specs.Own.{own}
 use Rattle.gp_cell.specs.Cells.{CellState}
 use Rattle.gp_cell.proofs.Reading.{sound_later, own_later}
 use Rattle.gp_cell.proofs.Posting.{had_later}

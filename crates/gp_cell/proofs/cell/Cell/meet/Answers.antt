@@ -1,7 +1,7 @@
 use Rattle.std.proofs.Common.{◌≡◌, ◌⊎◌, [], ⊎_elim, sym, subst, ap, ◌∙◌}
 use Rattle.std.proofs.lemmas.List.{append-nil}
 use Rattle.gp_wire.specs.Known.{PassState, records}
-use Rattle.gp_rules.specs.Own.{own}
+use Rattle.gp_wire.specs.Own.{own}
 use Rattle.gp_cell.specs.Cells.{CellState, IsHeldBy}
 use Rattle.gp_cell.proofs.Posting.{sound_longer, own_begun}
 use Rattle.gp_cell.proofs.cell.Cell.meet.Goals as goal

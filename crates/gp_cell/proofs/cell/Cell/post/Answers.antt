@@ -4,7 +4,7 @@ use Rattle.gp_run.specs.Messages.{messages}
 use Rattle.gp_run.specs.Runs.{newest_first}
 use Rattle.gp_wire.specs.Lists.{Has}
 use Rattle.gp_wire.specs.Known.{HoldsAll, records}
-use Rattle.gp_rules.specs.Own.{own}
+use Rattle.gp_wire.specs.Own.{own}
 use Rattle.gp_rules.specs.Cores.{opening, acts, part_in}
 use Rattle.gp_rules.specs.Lawful.{IsLawful}
 use Rattle.gp_cell.specs.Cells.{CellState, Keeps, PostsOne}

@@ -1,7 +1,7 @@
 use Rattle.std.proofs.Common.{◌≡◌, sym, subst, length, ap, ◌∙◌}
 use Rattle.gp_wire.specs.Lists.{Has}
 use Rattle.gp_wire.specs.Known.{HoldsAll, records}
-use Rattle.gp_rules.specs.Own.{own}
+use Rattle.gp_wire.specs.Own.{own}
 use Rattle.gp_work.specs.Moves.{HasRoom}
 use Rattle.gp_cell.specs.Cells.{CellState}
 use Rattle.gp_cell.proofs.Reading.{sound_later, own_later}

@@ -1,6 +1,6 @@
 use Rattle.std.proofs.Common.{◌≡◌, subst}
 use Rattle.gp_wire.specs.Known.{records}
-use Rattle.gp_rules.specs.Own.{own}
+use Rattle.gp_wire.specs.Own.{own}
 use Rattle.gp_cell.specs.Cells.{CellState, cell_of, PostsOne}
 use Rattle.gp_cell.specs.Falls.{IsRevival}
 use Rattle.gp_cell.proofs.Reviving.{rises}

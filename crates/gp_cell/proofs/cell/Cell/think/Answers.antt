@@ -3,7 +3,7 @@ use Rattle.std.specs.Prelude.{IfOk}
 use Rattle.std.specs.Option.{option_copied}
 use Rattle.gp_msg.specs.Records.{messages_in}
 use Rattle.gp_wire.specs.Known.{records}
-use Rattle.gp_rules.specs.Own.{own}
+use Rattle.gp_wire.specs.Own.{own}
 use Rattle.gp_work.specs.Moves.{Fits, HasRoom}
 use Rattle.gp_cell.specs.Plans.{Names}
 use Rattle.gp_cell.specs.Cells.{CellState, IsThought}

@@ -1,6 +1,6 @@
 use Rattle.std.proofs.Common.{ap, ◌∙◌, sym}
 use Rattle.gp_wire.specs.Known.{records}
-use Rattle.gp_rules.specs.Own.{own}
+use Rattle.gp_wire.specs.Own.{own}
 use Rattle.gp_cell.proofs.Acts.{goes, at_same, posted_none, same_faults}
 use Rattle.gp_cell.proofs.Going.{later_goes}
 use Rattle.gp_cell.proofs.Posting.{had_later}

@@ -1,4 +1,0 @@
-pub mod Indexing
-pub mod Holding
-pub mod Offering
-pub mod Ending

@@ -1,5 +1,0 @@
-use Rattle.gp_quiet.proofs.Offering.{no_disk}
-use Rattle.gp_quiet.proofs.laws.a_proposer_has_no_disk.Goals as goal
-
-pub returns : goal.returns
-returns g c = λ j k proposer up kept. no_disk g.D.Disk.faults j k proposer up kept

@@ -1,4 +1,0 @@
-//! What holds of a run of nodes that ends quietly.
-#![tactic(auto)]
-
-pub mod laws;
