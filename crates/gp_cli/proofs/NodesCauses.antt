@@ -25,7 +25,7 @@ use Rattle.gp_offers.specs.Offering.{OffersReading, Offered, RefusedAt, offers_r
 use Rattle.gp_offers.specs.Answers.{Reads}
 use Rattle.gp_script.specs.declared.reason.Reason.{Reason}
 use Rattle.gp_cluster.specs.declared.policy.RoundPolicy.{RoundPolicy}
-use Rattle.gp_cluster.specs.Runs.{IsRunOf, HasLearnedAll, IsQuietOrSettled, EndCause, EndsWith, HoldParts}
+use Rattle.gp_cluster.specs.Runs.{IsRunOf, HasLearnedAll, IsQuietOrSettled, EndCause, SomeBroke, EndsWith, HoldParts}
 use Rattle.gp_cli.specs.declared.ran.Trail.{Trail}
 use Rattle.gp_cli.specs.declared.ran.Trail.TheVariants.{Folded}
 use Rattle.gp_cli.specs.declared.runs.TheConstants.{MOST_READ}
@@ -69,6 +69,17 @@ module _ {D : Type 0} (content : D → Option (List ℕ)) (faults : D → ℕ) w
     rose = h.rose;
   }
 
+  broke_seen : (limit : ℕ) (old new : List D) (at : ℕ) → SomeBroke content faults limit old new at → SomeBroke device_bytes device_faults limit (disk_states content faults old) (disk_states content faults new) at
+  broke_seen limit old new at h = record {
+    place = h.place;
+    was = see h.was;
+    is = see h.is;
+    before = seen_out old h.place h.was h.before;
+    after = seen_out new h.place h.is h.after;
+    rose = h.rose;
+    breaks = h.breaks;
+  }
+
   parts_seen : (config : Counts) (limit : ℕ) (run : List Entry) (disks : List D) → HoldParts content config limit run disks → HoldParts device_bytes config limit run (disk_states content faults disks)
   parts_seen config limit run disks hold = λ k n s at there.
       let d = seen_in disks (place_at config k) s there in
@@ -76,21 +87,21 @@ module _ {D : Type 0} (content : D → Option (List ℕ)) (faults : D → ℕ) w
 
   -- ---- why a run of nodes ended
 
-  cause_seen : (config : Counts) (limit : ℕ) (old new : List D) (list : List Record) (why : RunEnd) → EndCause faults config limit old new (Some list) why
-      → EndCause device_faults config limit (disk_states content faults old) (disk_states content faults new) (Some list) why
+  cause_seen : (config : Counts) (limit : ℕ) (old new : List D) (list : List Record) (why : RunEnd) → EndCause content faults config limit old new (Some list) why
+      → EndCause device_bytes device_faults config limit (disk_states content faults old) (disk_states content faults new) (Some list) why
   cause_seen config limit old new list end.Learned cause = tt
   cause_seen config limit old new list end.NoMemory cause = tt
   cause_seen config limit old new list end.Disk cause = rose_seen old new cause
   cause_seen config limit old new list (end.Full size need) cause = cause
-  cause_seen config limit old new list (end.NotLog at) cause = rose_seen old new cause
+  cause_seen config limit old new list (end.NotLog at) cause = broke_seen limit old new at cause
   cause_seen config limit old new list end.Changed cause = rose_seen old new cause
 
   -- without a list the cause says nothing of it
-  unposted_cause : (config : Counts) (limit : ℕ) (old new : List D) (why : RunEnd) → MayPostNothing why → EndCause faults config limit old new None why → EndCause faults config limit old new (Some []) why
-  unposted_cause config limit old new why (inl is) cause = subst (λ (w : RunEnd). EndCause faults config limit old new (Some []) w) (sym is) tt
+  unposted_cause : (config : Counts) (limit : ℕ) (old new : List D) (why : RunEnd) → MayPostNothing why → EndCause content faults config limit old new None why → EndCause content faults config limit old new (Some []) why
+  unposted_cause config limit old new why (inl is) cause = subst (λ (w : RunEnd). EndCause content faults config limit old new (Some []) w) (sym is) tt
   unposted_cause config limit old new why (inr is) cause =
-      let failed = subst (λ (w : RunEnd). EndCause faults config limit old new None w) is cause in
-      subst (λ (w : RunEnd). EndCause faults config limit old new (Some []) w) (sym is) failed
+      let failed = subst (λ (w : RunEnd). EndCause content faults config limit old new None w) is cause in
+      subst (λ (w : RunEnd). EndCause content faults config limit old new (Some []) w) (sym is) failed
 
   not_learned : (why : RunEnd) → MayPostNothing why → why ≡ end.Learned → ⊥
   not_learned why (inl is) learned = let both : end.NoMemory ≡ end.Learned = sym is ∙ learned in cc
@@ -99,7 +110,7 @@ module _ {D : Type 0} (content : D → Option (List ℕ)) (faults : D → ℕ) w
   -- what nodes came to, by what they posted
   pub has_run : (policy : RoundPolicy) (limit : ℕ) (viewed : Option (List ℕ)) (offers : Offers) (old new : List D) (why : RunEnd) (posted : Option (List Record)) → IfSome posted (IsRunOf policy offers.config offers.list) → (posted ≡ None → MayPostNothing why)
       → (why ≡ end.Learned → IfSome posted (HasLearnedAll offers.config offers.list)) → (why ≡ end.Learned → ¬ SomeRose faults old new → IfSome posted (IsQuietOrSettled policy offers.config offers.list))
-      → EndCause faults offers.config limit old new posted why → (why ≡ end.Learned → IfSome posted (λ list. HoldParts content offers.config limit (newest_first list) new))
+      → EndCause content faults offers.config limit old new posted why → (why ≡ end.Learned → IfSome posted (λ list. HoldParts content offers.config limit (newest_first list) new))
       → (text : List ℕ) → IsEndText viewed why offers.config (records_in (trail_of posted)) text
       → HasRun policy limit viewed (disk_states content faults old) (disk_states content faults new) offers why offers.config (records_in (trail_of posted)) text
   has_run policy limit viewed offers old new why None run none all quiet cause parts text says = record {

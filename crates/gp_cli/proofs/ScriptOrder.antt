@@ -1,5 +1,5 @@
 -- Commands that commute are run as in the order of the script.
-use Rattle.std.proofs.Common.{◌≡◌, ℕ, ◌<◌, true, false, Bool, List, [], refl, sym, ap, subst, ◌∙◌, All}
+use Rattle.std.proofs.Common.{◌≡◌, ℕ, ◌<◌, true, false, List, [], refl, sym, ap, subst, ◌∙◌}
 use Rattle.std.specs.List.{Contains}
 use Rattle.gp_command.specs.declared.command.Command.{Command}
 use Rattle.gp_command.specs.Conflict.{conflict}
@@ -20,22 +20,15 @@ use Rattle.gp_run.specs.Agreement.{Agrees}
 use Rattle.gp_run.specs.Learned.{learned_at}
 use Rattle.gp_run.specs.Messages.{messages}
 use Rattle.gp_run.specs.Runs.{newest_first}
-use Rattle.gp_seats.specs.Offering.{IsKnown}
 use Rattle.gp_held.specs.Offers.{commands_of}
 use Rattle.gp_held.proofs.Holding.{offered_are}
 use Rattle.gp_held.proofs.Scripts.{script_no_repeat, in_among, among_in}
 use Rattle.gp_offers.specs.declared.script.Offers.{Offers}
+use Rattle.gp_command.proofs.Truth.{iff_true}
 use Rattle.gp_cli.specs.Outside.{Outside}
 use Rattle.gp_cluster.specs.declared.policy.RoundPolicy.{RoundPolicy}
 use Rattle.gp_cluster.specs.Runs.{HasLearnedAll}
 use Rattle.gp_cli.specs.NodesRuns.{OffersAll, AllCommute, RunsInScriptOrder}
-
--- two truth values that are true together are equal
-alike : (a b : Bool) → (a ≡ true → b ≡ true) → (b ≡ true → a ≡ true) → a ≡ b
-alike true true there back = refl
-alike true false there back = sym (there refl)
-alike false true there back = back refl
-alike false false there back = refl
 
 -- a history of commands that commute orders none of them
 unordered : (h : History) → IsHistory h → ((c d : Command) → has h c ≡ true → has h d ≡ true → conflict c d ≡ false) → (c d : Command) → before h c d ≡ false
@@ -45,18 +38,15 @@ module _ (before now : Outside) (trail : List Record) (offers : Offers) (policy 
   abbrev cs : List Command
   cs = commands_of offers.list
 
-  known : All IsKnown offers.list
-  known k d less = let right = whole.right in (right.each k d less).0
-
   agreed : Agrees offers.config (newest_first trail)
   agreed = let agreement = whole.agreement in agreement.agrees
 
   -- what was offered is what the script says
   of_script : (c : Command) → Contains (messages (newest_first trail)) (Offered c) → Contains cs c
-  of_script c there = let run = whole.run in (offered_are offers.config offers.list known trail run.legal all.offered c).0 there
+  of_script c there = let run = whole.run in let right = whole.right in (offered_are offers.config offers.list (λ k d less. (right.each k d less).0) trail run.legal all.offered c).0 there
 
   from_script : (c : Command) → Contains cs c → Contains (messages (newest_first trail)) (Offered c)
-  from_script c there = let run = whole.run in (offered_are offers.config offers.list known trail run.legal all.offered c).1 there
+  from_script c there = let run = whole.run in let right = whole.right in (offered_are offers.config offers.list (λ k d less. (right.each k d less).0) trail run.legal all.offered c).1 there
 
   listed : (c : Command) → has (history_of cs) c ≡ true → Contains cs c
   listed c there = among_contains cs c (in_among cs c (sym (has_history_of cs c) ∙ there))
@@ -74,7 +64,7 @@ module _ (before now : Outside) (trail : List Record) (offers : Offers) (policy 
     -- the learner shows the history of the offers
     shows_script : history_of cs ≡ shown
     shows_script = same_history (history_of cs) shown
-        (λ c. alike (has (history_of cs) c) (has shown c) (λ there. all.learned l within c (from_script c (listed c there))) (λ there. unlisted c (shown_listed c there)))
+        (λ c. iff_true (has (history_of cs) c) (has shown c) (λ there. all.learned l within c (from_script c (listed c there))) (λ there. unlisted c (shown_listed c there)))
         (λ c d.
         unordered (history_of cs) (history_of_is cs) (λ a b in_a in_b. commute a b (listed a in_a) (listed b in_b)) c d
         ∙ sym (unordered shown (agreed.history [] (newest_first trail) refl l) (λ a b in_a in_b. commute a b (shown_listed a in_a) (shown_listed b in_b)) c d))

@@ -19,14 +19,14 @@ use Rattle.gp_offers.specs.declared.script.Offers.{Offers}
 use Rattle.gp_offers.specs.Offering.{Offer, Offered, RefusedAt, offers_reading}
 use Rattle.gp_offers.specs.Offered.{AreOffered}
 use Rattle.gp_cluster.specs.declared.policy.RoundPolicy.{RoundPolicy}
-use Rattle.gp_cluster.specs.Runs.{IsRunOf, IsOverLimit}
+use Rattle.gp_cluster.specs.Runs.{IsRunOf, SomeBroke, IsOverLimit}
 use Rattle.gp_cli.specs.declared.runs.TheConstants.{MOST_READ}
 use Rattle.gp_cli.specs.declared.subcommand.Subcommand.{Subcommand}
 use Rattle.gp_cli.specs.declared.subcommand.Subcommand.TheVariants.{Play, Run, Sim, Drive, Log, Upgrade, Audit}
 use Rattle.gp_cli.specs.Subcommands.{named}
 use Rattle.gp_cli.specs.Texts.{log_changed, full_text, broken_text, refusal_text}
 use Rattle.gp_cli.specs.Machines.{IsInAgreementOfAll}
-use Rattle.gp_cli.specs.Outside.{DeviceState, Outside, Told}
+use Rattle.gp_cli.specs.Outside.{DeviceState, Outside, Told, device_bytes, device_faults}
 use Rattle.gp_cli.specs.Causes.{device_at}
 use Rattle.gp_cli.specs.Run.{SomeFailed, HasLearned, HasReadOffers, IsLearnedText}
 
@@ -99,9 +99,10 @@ pub record FillsLog (words : List (List ℕ)) (before now : Outside) (status : �
   pub over : IsOverLimit offers.config limit (newest_first trail) size need
   pub told : Told before.sink now.sink (full_text size need) 7 7 status
 
--- what was printed says that a disk held other bytes than those that were written
-abbrev pub TellsChange : Outside → Outside → ℕ → Type 0
-TellsChange before now status = ((place : ℕ) × Told before.sink now.sink (broken_text place) 8 8 status) ⊎ Told before.sink now.sink log_changed 8 8 status
+-- what was printed says that a disk held other bytes than those that were written: either they break the format of a log at the place that was printed, or they are another log
+abbrev pub TellsChange : ℕ → Outside → Outside → ℕ → Type 0
+TellsChange limit before now status =
+    ((place : ℕ) × SomeBroke device_bytes device_faults limit before.disks now.disks place × Told before.sink now.sink (broken_text place) 8 8 status) ⊎ Told before.sink now.sink log_changed 8 8 status
 
 -- `run`, `adapt` or `views` ended because a disk failed, and what was printed says that it then held other bytes than those that were written
 pub record LosesLog (words : List (List ℕ)) (before now : Outside) (status : ℕ) (trail : List Record) : Type 0 where
@@ -112,7 +113,7 @@ pub record LosesLog (words : List (List ℕ)) (before now : Outside) (status : �
   pub offers : Offers
   pub whole : OffersAll policy before now trail offers
   pub failed : SomeFailed before.disks now.disks
-  pub told : TellsChange before now status
+  pub told : TellsChange limit before now status
 
 -- a disk that the subcommand uses failed: the one of `log` and `upgrade`, or some disk of `run`, `adapt` and `views`
 abbrev pub DiskFailed : Option Subcommand → Outside → Outside → Type 0

@@ -57,7 +57,7 @@ IsEndText viewed end.Changed config list text = text ≡ log_changed
 pub record HasRun (policy : RoundPolicy) (limit : ℕ) (viewed : Option (List ℕ)) (old new : List DeviceState) (offers : Offers) (why : RunEnd) (config : Counts) (list : List Record) (text : List ℕ) : Type 0 where
   pub own_config : config ≡ offers.config
   pub posted : ArePosted policy offers why list
-  pub cause : EndCause device_faults config limit old new (Some list) why
+  pub cause : EndCause device_bytes device_faults config limit old new (Some list) why
   pub learned : why ≡ end.Learned → HasLearned policy limit old new offers list
   pub says : IsEndText viewed why config list text
 

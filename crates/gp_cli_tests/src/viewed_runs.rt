@@ -10,6 +10,10 @@ use std::thread::Threads;
 const PUTS: &[u8] =
     b"nodes 3 2 1\noffer p0 put a 1\noffer p0 put a 2\noffer p0 put a 3\noffer p0 put a 4\noffer p0 put a 5\n";
 
+// Three checkpoints part the puts at the key `a`, so that they are learned in four epochs.
+const EPOCHS: &[u8] =
+    b"nodes 3 2 1\noffer p0 put a 1\noffer p0 checkpoint\noffer p0 put a 2\noffer p0 checkpoint\noffer p0 put a 3\noffer p0 checkpoint\noffer p0 put a 4\n";
+
 // What a read of reader 0 or 1 shows after the number of the reader, by how many of the puts it
 // saw.
 const LOOKS: [&[u8]; 6] = [
@@ -76,6 +80,14 @@ fn reads_of(looks: &[u8], reader: &[u8]) -> usize {
         .count()
 }
 
+// How many reads of a reader do not begin with these bytes.
+fn reads_beyond(looks: &[u8], reader: &[u8], begin: &[u8]) -> usize {
+    looks
+        .split(|byte| *byte == b'\n')
+        .filter(|line| line.starts_with(reader) && !line.starts_with(begin))
+        .count()
+}
+
 // How many of the puts a read saw that shows this, if any shows it.
 fn puts_seen(shown: &[u8]) -> Option<usize> {
     LOOKS.iter().position(|look| **look == *shown)
@@ -120,6 +132,20 @@ fn each_reader_reads_while_the_nodes_work(rt: HostRuntime) -> Result<(), Fail> {
         Some(viewed) => {
             assert!(rt; reads_of(&viewed.looks, b"r0 ") >= 2);
             assert!(rt; reads_of(&viewed.looks, b"r1 ") >= 2);
+        }
+        None => assert!(rt; false),
+    }
+    Ok(())
+}
+
+// What was learned is published while the nodes work in a later epoch. So each reader sees some of it before its last read.
+#[test]
+fn what_was_learned_is_published_while_the_nodes_work(rt: HostRuntime) -> Result<(), Fail> {
+    let alloc = rt.alloc();
+    match run_viewed(&rt, alloc, "a", EPOCHS)? {
+        Some(viewed) => {
+            assert!(rt; reads_beyond(&viewed.looks, b"r0 ", b"r0 seen 0") >= 2);
+            assert!(rt; reads_beyond(&viewed.looks, b"r1 ", b"r1 seen 0") >= 2);
         }
         None => assert!(rt; false),
     }

@@ -61,7 +61,7 @@ fn a_single_round_follows_a_clash(rt: HostRuntime) -> Result<(), Fail> {
             clashed,
             begun: 1,
         };
-        assert_eq!(rt; policy.next(&notice), next, "after {highest:?}");
+        assert!(rt; policy.next(&notice) == next, "after {highest:?}");
     }
     Ok(())
 }

@@ -1,6 +1,6 @@
 -- Jobs after a phase, and passes of a new wire.
 use Rattle.std.proofs.Common.{◌≡◌, ℕ, List, [], ◌∷◌, ◌++◌, refl, sym, subst, Option, Some, None, inl}
-use Rattle.gp_edge.specs.Records.{MemDiskState}
+use Rattle.gp_edge.specs.Records.{MemDiskState, content_of}
 use Rattle.gp_msg.specs.declared.node.Node.{Node}
 use Rattle.gp_wire.specs.Lists.{Each}
 use Rattle.gp_wire.specs.Known.{WireState, PassState}
@@ -11,27 +11,26 @@ use Rattle.gp_work.specs.declared.moves.Move.{Move}
 use Rattle.gp_work.specs.Doing.{ProcessState}
 use Rattle.gp_work.specs.Moves.{AllFit, HasOffer, Fits}
 use Rattle.gp_round.specs.Counts.{Counts}
+use Rattle.gp_work.specs.Causes.{FaultCauses}
 use Rattle.gp_work.specs.Jobs.{Ends}
-use Rattle.gp_work.specs.declared.moves.Move.{Move}
-use Rattle.gp_msg.specs.declared.event.Event.{Event}
 use Rattle.std.specs.Prelude.{Bool, true}
 use Rattle.gp_rules.specs.declared.rules.PaxosRules.{PaxosRules}
 use Rattle.gp_cell.specs.Cells.{CellState}
-use Rattle.gp_cell.specs.Working.{process_of}
+use Rattle.gp_cell.specs.Working.{process_of, causes_of}
 use Rattle.gp_node.specs.Phases.{IsWorkedJob}
 use Rattle.gp_node_tests.specs.Phases.{IsFresh, IsReady}
 
 -- work that came to its end leaves the node up
-ended_up : (too : Event → ℕ → ℕ → Type 0) (p : ProcessState) (f : Bool) (first : List Move) (a : ℕ) (q : ProcessState) (g : Bool) (b : ℕ) (o : Option JobFault) → o ≡ None → Ends too p f first a q g b o → q.up ≡ true
-ended_up too p f first a q g b None e h = h.up
-ended_up too p f first a q g b (Some fault) e h = absurd (let wrong : Some fault ≡ None = e in cc)
+ended_up : (causes : FaultCauses) (p : ProcessState) (f : Bool) (first : List Move) (a : ℕ) (q : ProcessState) (g : Bool) (b : ℕ) (o : Option JobFault) → o ≡ None → Ends causes p f first a q g b o → q.up ≡ true
+ended_up causes p f first a q g b None e h = h.up
+ended_up causes p f first a q g b (Some fault) e h = absurd (let wrong : Some fault ≡ None = e in cc)
 
 -- a job that did not end early can go on
-pub ready_again : (wire : WireState PaxosRules) (j k : Job (CellState MemDiskState)) → IsWorkedJob (λ d. d.calls.faults) wire j k → k.fault ≡ None → IsReady wire k
+pub ready_again : (wire : WireState PaxosRules) (j k : Job (CellState MemDiskState)) → IsWorkedJob (λ d. Some (content_of d.disk)) (λ d. d.calls.faults) wire j k → k.fault ≡ None → IsReady wire k
 ready_again wire j k w none = record {
   fault = none;
   own = w.own;
-  up = ended_up _ _ j.risen j.first j.cursor (process_of (λ (d : MemDiskState). d.calls.faults) k.cell) k.risen k.cursor k.fault none w.ends;
+  up = ended_up (causes_of (λ (d : MemDiskState). Some (content_of d.disk)) k.cell) _ j.risen j.first j.cursor (process_of (λ (d : MemDiskState). d.calls.faults) k.cell) k.risen k.cursor k.fault none w.ends;
   fits = subst (λ ms. AllFit k.cell.config k.cell.node ms) (sym w.first) tt;
   room = λ offer. absurd (subst HasOffer w.first offer);
 }

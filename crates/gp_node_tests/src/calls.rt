@@ -24,7 +24,7 @@ fn a_plan_shows_its_record(rt: HostRuntime) -> Result<(), Fail> {
     let alone = make_alone(alloc, config, Node::Coordinator(0), &[])?;
     let plan = alone.cell.think(&Move::Begin(ROUND), None)?;
     assert!(rt; matches!(plan.made().event, Event::Begin { .. }));
-    assert_eq!(rt; plan.made().out.as_slice().len(), 1);
+    assert!(rt; plan.made().out.as_slice().len() == 1);
     Ok(())
 }
 
@@ -40,10 +40,10 @@ fn check_step<R: Wait + Abort>(rt: &R, alloc: Global) -> Result<(), Fail> {
     let state = (cell.is_down(), cell.posted(), cell.seen());
     let shown = (cell.durable().is_some(), cell.learned().is_none());
     let (pass, log) = cell.into_parts();
-    assert_eq!(rt; messages, Some(1));
-    assert_eq!(rt; state, (false, 1, 1));
-    assert_eq!(rt; shown, (true, true));
-    assert_eq!(rt; pass.seen(), 1);
+    assert!(rt; messages == Some(1));
+    assert!(rt; state == (false, 1, 1));
+    assert!(rt; shown == (true, true));
+    assert!(rt; pass.seen() == 1);
     assert!(rt; log.is_some());
     Ok(())
 }
@@ -62,8 +62,8 @@ fn check_look<R: Wait + Abort>(rt: &R, alloc: Global) -> Result<(), Fail> {
     let messages = count_of(cell.step(rt, &wire, Move::Begin(ROUND), &Idle, 1));
     let first = kind_of(cell.look(rt, &wire, 0));
     let second = kind_of(cell.look(rt, &wire, 1));
-    assert_eq!(rt; messages, Some(1));
-    assert_eq!(rt; (first, second), (Some(MsgKind::P1a), None));
+    assert!(rt; messages == Some(1));
+    assert!(rt; (first, second) == (Some(MsgKind::P1a), None));
     Ok(())
 }
 

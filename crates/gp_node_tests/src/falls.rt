@@ -74,8 +74,8 @@ fn check_fall<R: Wait + Abort>(
     let risen = cell.rise(rt, &wire);
     assert!(rt; matches!(risen, Ok(0)));
     assert!(rt; !cell.is_down());
-    assert_eq!(rt; cell.posted(), 1);
-    assert_eq!(rt; cell.durable().is_some(), keeps);
+    assert!(rt; cell.posted() == 1);
+    assert!(rt; cell.durable().is_some() == keeps);
     let cells = vec![in alloc; cell]?;
     let Ok(finished) = finish(alloc, wire, cells) else {
         return Err(Fail::from("no end"));
@@ -87,13 +87,12 @@ fn check_fall<R: Wait + Abort>(
         },
         _ => return Err(Fail::from("not one record")),
     };
-    assert_eq!(rt;
-        kept,
-        if keeps {
+    assert!(rt;
+        kept == (if keeps {
             Some(Kept::Begin(ROUND))
         } else {
             None
-        }
+        })
     );
     Ok(())
 }

@@ -88,14 +88,14 @@ fn a_clash_is_answered_by_a_single_round(rt: HostRuntime) -> Result<(), Fail> {
     let config = Config::new(3, 2, 1).or(Err("no configuration"))?;
     for (scene, quiet, calls, learned) in CASES {
         let outcome = run(&rt, alloc, config, &scene, calls)?;
-        assert_eq!(rt; outcome, (quiet, !quiet, true, learned), "{scene:?}");
+        assert!(rt; outcome == (quiet, !quiet, true, learned), "{scene:?}");
     }
     Ok(())
 }
 
 #[test]
 fn a_calm_has_two_looks(rt: HostRuntime) -> Result<(), Fail> {
-    assert_eq!(rt; CALM, 2);
+    assert!(rt; CALM == 2);
     Ok(())
 }
 

@@ -85,7 +85,7 @@ fn the_last_look_is_at_the_end_of_the_order(rt: HostRuntime) -> Result<(), Fail>
         let (looked, looks) = looks_at(&rt, rt.alloc(), &learned)?;
         let looks = looks?;
         assert!(rt; looked);
-        assert_eq!(rt; looks.order.len(), row.puts.len());
+        assert!(rt; looks.order.len() == row.puts.len());
         assert!(rt;
             looks
                 .order

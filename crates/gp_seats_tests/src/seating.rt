@@ -23,7 +23,7 @@ type Outcome = (usize, usize, [u64; 8]);
 #[test]
 fn proposers_offer_what_is_their_own(rt: HostRuntime) -> Result<(), Fail> {
     let outcome = run(&rt, rt.alloc())?;
-    assert_eq!(rt; outcome, (6, 5, [2, 0, 0, 0, 0, 1, 0, 0]));
+    assert!(rt; outcome == (6, 5, [2, 0, 0, 0, 0, 1, 0, 0]));
     Ok(())
 }
 

@@ -144,7 +144,7 @@ fn what_is_learned_is_run_in_the_canonical_order(rt: HostRuntime) -> Result<(), 
     let alloc = rt.alloc();
     let learned = history(alloc, &LEARNED)?;
     let mut replica = Replica::new(alloc)?;
-    assert_eq!(rt; caught_up(&rt, &mut replica, &learned)?, 4);
+    assert!(rt; caught_up(&rt, &mut replica, &learned)? == 4);
     assert!(rt; shows(&replica, &RAN, Some(3), Some(5))?);
     Ok(())
 }
@@ -154,8 +154,8 @@ fn what_was_run_is_not_run_again(rt: HostRuntime) -> Result<(), Fail> {
     let alloc = rt.alloc();
     let learned = history(alloc, &LEARNED)?;
     let mut replica = Replica::new(alloc)?;
-    assert_eq!(rt; caught_up(&rt, &mut replica, &learned)?, 4);
-    assert_eq!(rt; caught_up(&rt, &mut replica, &learned)?, 0);
+    assert!(rt; caught_up(&rt, &mut replica, &learned)? == 4);
+    assert!(rt; caught_up(&rt, &mut replica, &learned)? == 0);
     assert!(rt; shows(&replica, &RAN, Some(3), Some(5))?);
     Ok(())
 }
@@ -165,9 +165,9 @@ fn what_is_learned_later_is_run_after_the_rest(rt: HostRuntime) -> Result<(), Fa
     let alloc = rt.alloc();
     let mut learned = history(alloc, &LEARNED)?;
     let mut replica = Replica::new(alloc)?;
-    assert_eq!(rt; caught_up(&rt, &mut replica, &learned)?, 4);
+    assert!(rt; caught_up(&rt, &mut replica, &learned)? == 4);
     learn(&mut learned, alloc, LATER)?;
-    assert_eq!(rt; caught_up(&rt, &mut replica, &learned)?, 1);
+    assert!(rt; caught_up(&rt, &mut replica, &learned)? == 1);
     assert!(rt; shows(&replica, &RAN_LATER, Some(3), Some(3))?);
     Ok(())
 }
@@ -177,7 +177,7 @@ fn a_key_is_served(rt: HostRuntime) -> Result<(), Fail> {
     let alloc = rt.alloc();
     let learned = history(alloc, &SERVED)?;
     let mut replica = Replica::new(alloc)?;
-    assert_eq!(rt; caught_up(&rt, &mut replica, &learned)?, 8);
+    assert!(rt; caught_up(&rt, &mut replica, &learned)? == 8);
     assert!(rt; shows(&replica, &SERVED_RAN, None, Some(9))?);
     Ok(())
 }

@@ -69,8 +69,8 @@ fn check<H: Hist, R: Abort>(rt: &R, alloc: Global, pair: &Pair) -> Result<(), Fa
     let (first, second, want, met, joined) = *pair;
     let a: H = history(alloc, first)?;
     let b: H = history(alloc, second)?;
-    assert_eq!(rt; compatible(&a, &b), want);
-    assert_eq!(rt; compatible(&b, &a), want);
+    assert!(rt; compatible(&a, &b) == want);
+    assert!(rt; compatible(&b, &a) == want);
     assert!(rt; is_meet(alloc, &a, &b, met)?);
     assert!(rt; is_meet(alloc, &b, &a, met)?);
     assert!(rt; is_join(alloc, &a, &b, joined)?);

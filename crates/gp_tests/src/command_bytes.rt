@@ -29,10 +29,7 @@ fn put_a_5(alloc: Global) -> Result<Command, Fail> {
 fn a_put_has_21_bytes(rt: HostRuntime) -> Result<(), Fail> {
     let alloc = rt.alloc();
     let command = put_a_5(alloc)?;
-    assert_eq!(rt;
-        written(&rt, alloc, &command)?.as_slice(),
-        PUT_A_5.as_slice()
-    );
+    assert!(rt; written(&rt, alloc, &command)?.as_slice() == PUT_A_5.as_slice());
     Ok(())
 }
 
@@ -42,7 +39,7 @@ fn written(rt: &impl Abort, alloc: Global, command: &Command) -> Result<Vec<u8>,
     let id = command.id();
     assert!(rt; id.proposer < 8 && 1 <= id.number);
     write_command(command, &mut bytes)?;
-    assert_eq!(rt; bytes.first(), Some(&9));
+    assert!(rt; bytes.first() == Some(&9));
     Ok(bytes[1..].to_vec(alloc)?)
 }
 
@@ -55,7 +52,7 @@ fn a_command_is_read_whatever_follows(rt: HostRuntime) -> Result<(), Fail> {
         bytes.resize(21 + more, 0xff)?;
         let (command, len) = read_command(alloc, &bytes)?;
         assert!(rt; command == want);
-        assert_eq!(rt; len, 21);
+        assert!(rt; len == 21);
     }
     Ok(())
 }
@@ -78,7 +75,7 @@ fn a_part_of_a_command_is_cut_in_the_field_that_is_not_whole(rt: HostRuntime) {
     ] {
         assert!(rt; len <= PUT_A_5.len());
         let read = read_command(rt.alloc(), &PUT_A_5[..len]);
-        assert_eq!(rt; read.err(), Some(ReadRefused::Cut { at }));
+        assert!(rt; read.err() == Some(ReadRefused::Cut { at }));
     }
 }
 
@@ -102,7 +99,7 @@ fn a_field_that_breaks_its_rule_is_bad(rt: HostRuntime) {
         assert!(rt; place < bytes.len());
         bytes[place] = byte;
         let read = read_command(rt.alloc(), &bytes);
-        assert_eq!(rt; read.err(), Some(ReadRefused::Bad { at }));
+        assert!(rt; read.err() == Some(ReadRefused::Bad { at }));
     }
 }
 
@@ -111,11 +108,11 @@ fn the_first_fault_is_told(rt: HostRuntime) {
     // a mark that breaks its rule, and an input that ends two fields later
     let marked = [0, 0, 0, 0, 1, 0, 0, 0, 7, 1];
     let read = read_command(rt.alloc(), &marked);
-    assert_eq!(rt; read.err(), Some(ReadRefused::Bad { at: 8 }));
+    assert!(rt; read.err() == Some(ReadRefused::Bad { at: 8 }));
     // two touches of one key
     let twice = [0, 0, 0, 0, 1, 0, 0, 0, 0, 2, 1, 0x61, 2, 1, 0x61, 2, 0];
     let read = read_command(rt.alloc(), &twice);
-    assert_eq!(rt; read.err(), Some(ReadRefused::Bad { at: 14 }));
+    assert!(rt; read.err() == Some(ReadRefused::Bad { at: 14 }));
 }
 
 // Eight keys of 16 bytes, which differ in the last, with the three accesses in turn.
@@ -173,10 +170,10 @@ fn goes_both_ways(
     command: &Command,
     bytes: &[u8],
 ) -> Result<(), Fail> {
-    assert_eq!(rt; written(rt, alloc, command)?.as_slice(), bytes);
+    assert!(rt; written(rt, alloc, command)?.as_slice() == bytes);
     let (read, len) = read_command(alloc, bytes)?;
     assert!(rt; read == *command);
-    assert_eq!(rt; len, bytes.len());
+    assert!(rt; len == bytes.len());
     Ok(())
 }
 

@@ -23,8 +23,8 @@ fn commands_conflict_by_their_keys_and_accesses(rt: HostRuntime) -> Result<(), F
         (b'K', b'K', false), // a checkpoint and itself
         (b'W', b'W', false), // a command and itself
     ] {
-        assert_eq!(rt; conflict(alloc, a, b)?, want);
-        assert_eq!(rt; conflict(alloc, b, a)?, want);
+        assert!(rt; conflict(alloc, a, b)? == want);
+        assert!(rt; conflict(alloc, b, a)? == want);
     }
     Ok(())
 }

@@ -25,9 +25,9 @@ fn push_all<H: Hist, R: Abort>(rt: &R, alloc: Global) -> Result<(), Fail> {
     let mut history = H::empty(alloc)?;
     for (letter, pushed, len) in PUSHES {
         let command = command(alloc, letter)?;
-        assert_eq!(rt; history.has(&command), !pushed);
-        assert_eq!(rt; history.push(command)?, pushed);
-        assert_eq!(rt; history.len(), len);
+        assert!(rt; history.has(&command) == !pushed);
+        assert!(rt; history.push(command)? == pushed);
+        assert!(rt; history.len() == len);
     }
     Ok(())
 }
@@ -83,7 +83,7 @@ fn clear_one<H: Hist, R: Abort>(rt: &R, alloc: Global) -> Result<(), Fail> {
     let mut history: H = history(alloc, "KWA")?;
     let copy = history.copy()?;
     history.clear();
-    assert_eq!(rt; history.len(), 0);
+    assert!(rt; history.len() == 0);
     assert!(rt; has_letters(alloc, &copy, "KWA")?);
     assert!(rt; history.push(command(alloc, b'W')?)?);
     assert!(rt; has_letters(alloc, &history, "W")?);
@@ -113,7 +113,7 @@ fn find_from_all<H: Hist, R: Abort>(
     let history: H = history(alloc, "KWVAR")?;
     let command = command(alloc, letter)?;
     for near in 0..7 {
-        assert_eq!(rt; history.place_of(&command, near), want);
+        assert!(rt; history.place_of(&command, near) == want);
     }
     Ok(())
 }
@@ -164,9 +164,9 @@ fn histories_are_compared_by_their_order(rt: HostRuntime) -> Result<(), Fail> {
 fn compare<H: Hist, R: Abort>(rt: &R, alloc: Global, of: &Comparison) -> Result<(), Fail> {
     let first: H = history(alloc, of.0)?;
     let second: H = history(alloc, of.1)?;
-    assert_eq!(rt; first.is_prefix(&second), of.2);
-    assert_eq!(rt; first.same(&second), of.3);
-    assert_eq!(rt; second.same(&first), of.3);
+    assert!(rt; first.is_prefix(&second) == of.2);
+    assert!(rt; first.same(&second) == of.3);
+    assert!(rt; second.same(&first) == of.3);
     Ok(())
 }
 
@@ -182,8 +182,8 @@ fn histories_are_compared_by_their_epochs(rt: HostRuntime) -> Result<(), Fail> {
 fn compare_epochs(rt: &impl Abort, alloc: Global, of: &Comparison) -> Result<(), Fail> {
     let first: History = history(alloc, of.0)?;
     let second: History = history(alloc, of.1)?;
-    assert_eq!(rt; first.is_prefix(&second), of.2);
-    assert_eq!(rt; first.is_prefix(&second) && second.is_prefix(&first), of.3);
+    assert!(rt; first.is_prefix(&second) == of.2);
+    assert!(rt; (first.is_prefix(&second) && second.is_prefix(&first)) == of.3);
     Ok(())
 }
 

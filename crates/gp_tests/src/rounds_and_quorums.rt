@@ -23,10 +23,7 @@ fn the_first_number_out_of_range_is_refused(rt: HostRuntime) {
         (3, 6, 5, Some((Which::Coordinators, 6))),
     ] {
         let refused = Config::new(acceptors, coordinators, learners).err();
-        assert_eq!(rt;
-            refused,
-            want.map(|(which, given)| BadCount { which, given })
-        );
+        assert!(rt; refused == want.map(|(which, given)| BadCount { which, given }));
     }
 }
 
@@ -35,11 +32,11 @@ fn quorums_have_these_sizes(rt: HostRuntime) -> Result<(), Fail> {
     // acceptors, the quorum of phase 1 and of single and multi rounds, and the fast quorum
     for (acceptors, classic, fast) in [(3, 2, 3), (4, 3, 3), (5, 3, 4), (6, 4, 5), (7, 4, 6)] {
         let config = Config::new(acceptors, 1, 1)?;
-        assert_eq!(rt; config.acceptors(), acceptors);
-        assert_eq!(rt; config.first_quorum(), classic);
-        assert_eq!(rt; config.quorum(Mode::Single), classic);
-        assert_eq!(rt; config.quorum(Mode::Multi), classic);
-        assert_eq!(rt; config.quorum(Mode::Fast), fast);
+        assert!(rt; config.acceptors() == acceptors);
+        assert!(rt; config.first_quorum() == classic);
+        assert!(rt; config.quorum(Mode::Single) == classic);
+        assert!(rt; config.quorum(Mode::Multi) == classic);
+        assert!(rt; config.quorum(Mode::Fast) == fast);
     }
     Ok(())
 }
@@ -48,11 +45,11 @@ fn quorums_have_these_sizes(rt: HostRuntime) -> Result<(), Fail> {
 fn coordinator_quorums_have_these_sizes(rt: HostRuntime) -> Result<(), Fail> {
     for (coordinators, multi) in [(1, 1), (2, 2), (3, 2), (4, 3), (5, 3)] {
         let config = Config::new(3, coordinators, 4)?;
-        assert_eq!(rt; config.coordinators(), coordinators);
-        assert_eq!(rt; config.learners(), 4);
-        assert_eq!(rt; config.coordinator_quorum(Mode::Multi), multi);
-        assert_eq!(rt; config.coordinator_quorum(Mode::Single), 1);
-        assert_eq!(rt; config.coordinator_quorum(Mode::Fast), 1);
+        assert!(rt; config.coordinators() == coordinators);
+        assert!(rt; config.learners() == 4);
+        assert!(rt; config.coordinator_quorum(Mode::Multi) == multi);
+        assert!(rt; config.coordinator_quorum(Mode::Single) == 1);
+        assert!(rt; config.coordinator_quorum(Mode::Fast) == 1);
     }
     Ok(())
 }
@@ -74,7 +71,7 @@ fn rounds_belong_to_their_lead_or_to_all(rt: HostRuntime) -> Result<(), Fail> {
         (0, 1_000_001, Mode::Single, 0, false),
     ] {
         let round = Round { count, mode, lead };
-        assert_eq!(rt; config.owns(coordinator, round), want);
+        assert!(rt; config.owns(coordinator, round) == want);
     }
     Ok(())
 }
@@ -99,11 +96,11 @@ fn rounds_are_ordered_by_count_and_mode_and_lead(rt: HostRuntime) {
 #[test]
 fn four_of_seven_have_35_subsets(rt: HostRuntime) -> Result<(), Fail> {
     let masks = subsets(rt.alloc(), 7, 4)?;
-    assert_eq!(rt; masks.len(), 35);
-    assert_eq!(rt; &masks[..4], [0b1111, 0b10111, 0b11011, 0b11101].as_slice());
-    assert_eq!(rt; masks.last(), Some(&0b111_1000));
+    assert!(rt; masks.len() == 35);
+    assert!(rt; &masks[..4] == [0b1111, 0b10111, 0b11011, 0b11101].as_slice());
+    assert!(rt; masks.last() == Some(&0b111_1000));
     for mask in masks {
-        assert_eq!(rt; count_members(mask, 7), 4);
+        assert!(rt; count_members(mask, 7) == 4);
     }
     Ok(())
 }
@@ -121,7 +118,7 @@ fn small_subsets_are_these(rt: HostRuntime) -> Result<(), Fail> {
 
 fn are_subsets(rt: &impl Abort, alloc: Global, n: u32, size: u32, want: &[u8]) -> Result<(), Fail> {
     assert!(rt; n <= 7 && size <= n);
-    assert_eq!(rt; subsets(alloc, n, size)?.as_slice(), want);
+    assert!(rt; subsets(alloc, n, size)?.as_slice() == want);
     Ok(())
 }
 

@@ -113,6 +113,6 @@ fn a_held_reader_sees_what_it_was_told_of(rt: HostRuntime) -> Result<(), Fail> {
         None => None,
     };
     feed.close(&rt);
-    assert_eq!(rt; seen, Some((((0, None), (1, Some(5))), 1)));
+    assert!(rt; seen == Some((((0, None), (1, Some(5))), 1)));
     Ok(())
 }

@@ -80,7 +80,7 @@ fn a_reader_sees_what_it_was_told_of(rt: HostRuntime) -> Result<(), Fail> {
         in_order_alone: true,
         counts: (0, 4),
     };
-    assert_eq!(rt; found, Some(want));
+    assert!(rt; found == Some(want));
     Ok(())
 }
 
@@ -89,10 +89,10 @@ fn a_reader_of_a_closed_feed_reads_nothing(rt: HostRuntime) -> Result<(), Fail> 
     let alloc = rt.alloc();
     let key = Key::new(b"a")?;
     let (feed, mut readers) = Feed::new(&rt, alloc, 16)?;
-    assert_eq!(rt; readers.len(), 16);
+    assert!(rt; readers.len() == 16);
     feed.close(&rt);
     let mut reader = readers.pop().ok_or(NoMemory)?;
-    assert_eq!(rt; reader.get(key), Err(Unread));
-    assert_eq!(rt; reader.seen(), 0);
+    assert!(rt; reader.get(key) == Err(Unread));
+    assert!(rt; reader.seen() == 0);
     Ok(())
 }

@@ -12,7 +12,7 @@ const LIMIT: u32 = 67_108_864;
 fn a_gate_that_is_not_zero_is_open_and_needs_a_whole_entry(rt: HostRuntime) -> Result<(), Fail> {
     let alloc = rt.alloc();
     let mut bytes = old_log(alloc, LIMIT)?;
-    assert_eq!(rt; bytes.len(), 94);
+    assert!(rt; bytes.len() == 94);
     assert!(rt; opens(alloc, &bytes)? == Ok((2, 94)));
     assert!(rt; opens_cut(alloc, &bytes, 70)? == broken(44));
     bytes[44] = 0;
@@ -51,12 +51,12 @@ fn cut_at(n: usize, second: usize, last: usize) -> Opens {
 fn a_cut_log_breaks_at_its_end_or_at_the_last_whole_gate(rt: HostRuntime) -> Result<(), Fail> {
     let alloc = rt.alloc();
     let old = old_log(alloc, LIMIT)?;
-    assert_eq!(rt; old.len(), 94);
+    assert!(rt; old.len() == 94);
     for n in 0..=94 {
         assert!(rt; opens_cut(alloc, &old, n)? == cut_at(n, 44, 93));
     }
     let new = new_log(alloc, LIMIT)?;
-    assert_eq!(rt; new.len(), 102);
+    assert!(rt; new.len() == 102);
     for n in 0..=102 {
         assert!(rt; opens_cut(alloc, &new, n)? == cut_at(n, 48, 101));
     }
@@ -144,11 +144,11 @@ fn an_old_log_is_upgraded_by_renewing_its_last_entry(rt: HostRuntime) -> Result<
     let last = part(alloc, 1)?;
     renew(&mut log, &last)?;
     assert!(rt; !log.is_old());
-    assert_eq!(rt; log.count(), 1);
-    assert_eq!(rt; log.size(), 70);
+    assert!(rt; log.count() == 1);
+    assert!(rt; log.size() == 70);
     let disk = log.into_disk();
     let bytes = disk.content();
-    assert_eq!(rt; bytes.len(), 182);
+    assert!(rt; bytes.len() == 182);
     assert!(rt; bytes[12] == 1 && bytes[128] == 1 && bytes[181] == 0);
     assert!(rt; opens(alloc, bytes)? == Ok((1, 70)));
     Ok(())

@@ -12,13 +12,13 @@ use std::test::Fail;
 fn a_full_log_tells_its_size_and_the_need(rt: HostRuntime) -> Result<(), Fail> {
     let alloc = rt.alloc();
     let mut log = created(alloc, 90)?;
-    assert_eq!(rt; log.size(), 17);
+    assert!(rt; log.size() == 17);
     append(&mut log, &part(alloc, 0)?)?;
-    assert_eq!(rt; log.size(), 49);
+    assert!(rt; log.size() == 49);
     let full = Err(AppendFault::Full { size: 49, need: 53 });
     assert!(rt; append(&mut log, &part(alloc, 1)?) == full);
     assert!(rt; log.is_ready());
-    assert_eq!(rt; log.count(), 1);
+    assert!(rt; log.count() == 1);
     Ok(())
 }
 
@@ -28,18 +28,18 @@ fn a_renewed_log_stands_in_the_other_area(rt: HostRuntime) -> Result<(), Fail> {
     let mut log = created(alloc, 128)?;
     append(&mut log, &part(alloc, 0)?)?;
     append(&mut log, &part(alloc, 1)?)?;
-    assert_eq!(rt; log.size(), 102);
+    assert!(rt; log.size() == 102);
     let full = Err(AppendFault::Full {
         size: 102,
         need: 53,
     });
     assert!(rt; append(&mut log, &part(alloc, 2)?) == full);
     renew(&mut log, &part(alloc, 2)?)?;
-    assert_eq!(rt; log.count(), 1);
-    assert_eq!(rt; log.size(), 91);
+    assert!(rt; log.count() == 1);
+    assert!(rt; log.size() == 91);
     let disk = log.into_disk();
     let bytes = disk.content();
-    assert_eq!(rt; bytes.len(), 203);
+    assert!(rt; bytes.len() == 203);
     assert!(rt; bytes[12] == 1 && bytes[128] == 1 && bytes[202] == 0);
     // an addition, and then back into the first area
     let Ok(mut log) = Log::open(alloc, disk) else {
@@ -48,10 +48,10 @@ fn a_renewed_log_stands_in_the_other_area(rt: HostRuntime) -> Result<(), Fail> {
     assert!(rt; log.count() == 1 && !log.is_old());
     renew(&mut log, &part(alloc, 1)?)?;
     append(&mut log, &part(alloc, 2)?)?;
-    assert_eq!(rt; log.size(), 123);
+    assert!(rt; log.size() == 123);
     let disk = log.into_disk();
     let bytes = disk.content();
-    assert_eq!(rt; bytes.len(), 203);
+    assert!(rt; bytes.len() == 203);
     assert!(rt;
         bytes[12] == 0 && bytes[16] == 1 && bytes[69] == 1 && bytes[74] == 19 && bytes[122] == 0
     );
@@ -75,7 +75,7 @@ fn what_is_added_stands_in_the_order_of_the_whole_vote(rt: HostRuntime) -> Resul
     let mut vote = History::empty(alloc)?;
     vote.push(put(alloc, 5, "k", "")?)?;
     append(&mut log, &voted(0, vote.copy()?))?;
-    assert_eq!(rt; log.size(), 63);
+    assert!(rt; log.size() == 63);
     // the write of proposer 0 waits for that of proposer 5, so that of proposer 1 comes first
     vote.push(put(alloc, 0, "k", "")?)?;
     vote.push(put(alloc, 1, "j", "")?)?;
@@ -84,7 +84,7 @@ fn what_is_added_stands_in_the_order_of_the_whole_vote(rt: HostRuntime) -> Resul
     append(&mut log, &voted(1, vote))?;
     let disk = log.into_disk();
     let bytes = disk.content();
-    assert_eq!(rt; bytes.len(), 197);
+    assert!(rt; bytes.len() == 197);
     assert!(rt; bytes[62] == 1 && bytes[67] == 19 && bytes[94] == 1 && bytes[108] == 0);
     assert!(rt; bytes[122] == 1 && bytes[127] == 17);
     let mut swapped = bytes.to_vec(alloc)?;
@@ -96,7 +96,7 @@ fn what_is_added_stands_in_the_order_of_the_whole_vote(rt: HostRuntime) -> Resul
     let Ok(log) = Log::open(alloc, disk) else {
         return Err(Fail::from("not opened"));
     };
-    assert_eq!(rt; log.count(), 3);
+    assert!(rt; log.count() == 3);
     assert!(rt; votes(log.entry(1)) == Some(3) && votes(log.entry(2)) == Some(3));
     match Log::open(alloc, CalmDisk::new(alloc, &swapped)?) {
         Ok(_) => Err(Fail::from("opened")),

@@ -9,7 +9,7 @@ use Rattle.gp_onlookers.proofs.texts.push_identities.Goals as goal
 pub loop-i-preserved : goal.loop-i-preserved
 loop-i-preserved c =
     let id = get_or c.args.order.now c.loop-i.i (record { proposer = 0; number = 0 }) in
-    c.in_ok-push_identity.ensures
+    c.in_ok-push_identity.ensures.written
     ∙ ap (λ (t : List ℕ). t ++ identity id) (c.in_ok-push_gap.ensures.written ∙ ap (λ (t : List ℕ). t ++ gap c.loop-i.i) c.loop-i.invariant)
     ∙ word_more identity c.args.to.now.items c.args.order.now c.loop-i.i id (slice_get-get_or c.args.order.now c.loop-i.i _ c.loop-i-test.true)
 
