@@ -15,8 +15,8 @@ use Rattle.gp_msg.specs.declared.record.Record.{Record}
 use Rattle.gp_run.specs.Runs.{newest_first}
 use Rattle.gp_wire.specs.Own.{own}
 use Rattle.gp_wire.proofs.OwnRecords.{own_append}
-use Rattle.gp_rules.specs.Cores.{core_at, part_in}
-use Rattle.gp_rules.specs.Still.{core_still, entries_append}
+use Rattle.gp_cell.specs.Cores.{core_at, part_in}
+use Rattle.gp_cell.specs.Still.{core_still, entries_append}
 use Rattle.gp_cell.proofs.Posting.{nothing_own, back_empty}
 use Rattle.gp_collide.specs.Watched.{Watched, watched}
 use Rattle.gp_phase.specs.declared.caller.Call.{Call}

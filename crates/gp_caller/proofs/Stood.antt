@@ -10,9 +10,9 @@ use Rattle.gp_msg.specs.declared.node.Node.TheVariants as node
 use Rattle.gp_msg.specs.Messages.{EpochPart, Coordinators, Entry, part_of}
 use Rattle.gp_coordinator.specs.Epochs as coordinator
 use Rattle.gp_vlog.specs.Logs.{LogState, last}
-use Rattle.gp_rules.specs.declared.roles.Core.{Core}
-use Rattle.gp_rules.specs.declared.roles.Core.TheVariants.{Proposer, Coordinator, Acceptor, Learner}
-use Rattle.gp_rules.specs.Cores.{opening, core_at, part_in}
+use Rattle.gp_cell.specs.declared.roles.Core.{Core}
+use Rattle.gp_cell.specs.declared.roles.Core.TheVariants.{Proposer, Coordinator, Acceptor, Learner}
+use Rattle.gp_cell.specs.Cores.{opening, core_at, part_in}
 use Rattle.gp_cell.specs.Cells.{Keeps, last_or, last_entry}
 use Rattle.gp_cell.specs.Plans.{HasRole}
 use Rattle.gp_cell.proofs.Acting.{core_role}

@@ -5,7 +5,7 @@ use Rattle.gp_msg.specs.declared.record.Record.{Record}
 use Rattle.gp_run.specs.Messages.{messages}
 use Rattle.gp_run.specs.Runs.{newest_first}
 use Rattle.gp_run.proofs.Telling.{messages-append}
-use Rattle.gp_rules.specs.Still.{entries_append}
+use Rattle.gp_cell.specs.Still.{entries_append}
 use Rattle.gp_collide.specs.Watched.{Watched, watched}
 
 -- a watch, and how many messages of a list it saw

@@ -6,7 +6,7 @@ use Rattle.gp_msg.specs.declared.node.Node.{Node}
 use Rattle.gp_msg.specs.declared.record.Record.{Record}
 use Rattle.gp_msg.specs.Messages.{Coordinators}
 use Rattle.gp_run.specs.Runs.{newest_first}
-use Rattle.gp_rules.specs.Cores.{core_at, part_in}
+use Rattle.gp_cell.specs.Cores.{core_at, part_in}
 
 -- after these records the coordinator is in this epoch, and this is its round there
 abbrev pub StandsIn : Counts → Node → List Record → ℕ → Round → Type 0

@@ -10,13 +10,12 @@ ghost use Rattle.gp_collide.specs.Clashes.{HasClash};
 ghost use Rattle.gp_caller.specs.Sights.{Saw, SawAll};
 ghost use Rattle.gp_wire.specs.Own.{own};
 
-use gp_cell::Cell;
+use gp_cell::{Cell, PaxosRules};
 use gp_collide::Watch;
 use gp_command::NoMemory;
 use gp_edge::Disk;
 use gp_msg::Msg;
 use gp_round::Round;
-use gp_rules::PaxosRules;
 use gp_wire::Wire;
 use std::alloc::Global;
 use std::marker::Model;

@@ -22,9 +22,9 @@ use Rattle.gp_work.specs.declared.moves.Move.{Move}
 use Rattle.gp_work.specs.declared.moves.Move.TheVariants.{Offer, Begin, Take}
 use Rattle.gp_msg.specs.Nodes.{same_node}
 use Rattle.gp_work.specs.Moves.{event_of, Fits, HasRoom}
-use Rattle.gp_rules.specs.declared.roles.Core.{Core}
-use Rattle.gp_rules.specs.declared.roles.Core.TheVariants.{Proposer, Coordinator, Acceptor, Learner}
-use Rattle.gp_rules.specs.Cores.{opening, acts, core_at}
+use Rattle.gp_cell.specs.declared.roles.Core.{Core}
+use Rattle.gp_cell.specs.declared.roles.Core.TheVariants.{Proposer, Coordinator, Acceptor, Learner}
+use Rattle.gp_cell.specs.Cores.{opening, acts, core_at}
 use Rattle.gp_cell.specs.Plans.{HasRole, took_if, planned, CanPlan, named}
 
 pub same_number : (n : ℕ) → nat_eq n n ≡ true

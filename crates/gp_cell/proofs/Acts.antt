@@ -19,7 +19,7 @@ use Rattle.gp_work.specs.Doing.{Goes, Posted, HasRisen}
 use Rattle.gp_work.specs.Causes as work
 use Rattle.gp_work.specs.Moves.{event_of}
 use Rattle.gp_wire.specs.Own.{own, own_events, event_in}
-use Rattle.gp_rules.specs.declared.rules.PaxosRules.{PaxosRules}
+use Rattle.gp_cell.specs.declared.rules.PaxosRules.{PaxosRules}
 use Rattle.gp_cell.specs.Cells.{CellState, PostsOne}
 use Rattle.gp_cell.specs.Passing.{GoesOn}
 use Rattle.gp_cell.specs.Crashes.{HoldsSame}

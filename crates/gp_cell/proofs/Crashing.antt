@@ -16,9 +16,9 @@ use Rattle.gp_wire.specs.Known.{PassState, records}
 use Rattle.gp_work.specs.declared.moves.Move.{Move}
 use Rattle.gp_work.specs.declared.faults.StepFault.{StepFault}
 use Rattle.gp_work.specs.Moves.{event_of}
-use Rattle.gp_rules.specs.declared.roles.Core.{Core}
-use Rattle.gp_rules.specs.Cores.{opening, acts, part_in}
-use Rattle.gp_rules.specs.Still.{entries_append}
+use Rattle.gp_cell.specs.declared.roles.Core.{Core}
+use Rattle.gp_cell.specs.Cores.{opening, acts, part_in}
+use Rattle.gp_cell.specs.Still.{entries_append}
 use Rattle.gp_work.proofs.Stretches.{up_same}
 use Rattle.gp_cell.specs.declared.planning.Plan.{Plan}
 use Rattle.gp_work.specs.Doing.{IsUpTo}

@@ -29,14 +29,14 @@ use Rattle.gp_wire.specs.Known.{PassState, records}
 use Rattle.gp_work.specs.declared.moves.Move.{Move}
 use Rattle.gp_work.specs.declared.moves.Move.TheVariants.{Offer, Begin, Take}
 use Rattle.gp_work.specs.Moves.{Fits, HasRoom}
-use Rattle.gp_rules.specs.declared.roles.Core.{Core}
-use Rattle.gp_rules.specs.declared.roles.Core.TheVariants.{Proposer, Coordinator, Acceptor, Learner}
+use Rattle.gp_cell.specs.declared.roles.Core.{Core}
+use Rattle.gp_cell.specs.declared.roles.Core.TheVariants.{Proposer, Coordinator, Acceptor, Learner}
 use Rattle.gp_command.proofs.Truth.{true_both}
 use Rattle.gp_cell.specs.declared.planning.Plan.{Plan}
-use Rattle.gp_rules.specs.Cores.{opening, acts, core_at, part_in}
+use Rattle.gp_cell.specs.Cores.{opening, acts, core_at, part_in}
 use Rattle.gp_cell.specs.Plans.{HasRole, planned, named, took_if, IsNamed}
 use Rattle.gp_cell.specs.Cells.{IsSound, IsPlan, Keeps, IsFitLog, HasLog, IsLogged, WentDown}
-use Rattle.gp_rules.specs.Lawful.{IsLawful}
+use Rattle.gp_cell.specs.Lawful.{IsLawful}
 use Rattle.gp_cell.specs.Falls.{fell, kept_of, KeepsMove}
 use Rattle.gp_cell.proofs.Acting.{core_role, same_number}
 use Rattle.gp_cell.proofs.Stepping.{named_more, get_within}

@@ -8,7 +8,7 @@ use Rattle.gp_msg.specs.Messages.{entry_of}
 use Rattle.gp_run.specs.Runs.{newest_first}
 use Rattle.gp_wire.specs.Own.{own}
 use Rattle.gp_wire.proofs.SameNodes.{same_tells}
-use Rattle.gp_rules.specs.Lawful.{IsLawful}
+use Rattle.gp_cell.specs.Lawful.{IsLawful}
 use Rattle.gp_cell.specs.Cells.{OwnLawful}
 
 abbrev first_or : Record → List Record → Record

@@ -19,10 +19,10 @@ use Rattle.gp_wire.specs.Own.{own}
 use Rattle.gp_work.specs.Doing.{IsUpTo}
 use Rattle.gp_wire.proofs.SameNodes.{same_tells}
 use Rattle.gp_wire.proofs.OwnRecords.{own_append, own_foreign}
-use Rattle.gp_rules.specs.declared.roles.Core.{Core}
-use Rattle.gp_rules.specs.Cores.{opening, acts, core_at, part_in}
-use Rattle.gp_rules.specs.Lawful.{IsLawful}
-use Rattle.gp_rules.specs.Still.{AreOthers, core_still, lawful_still, entries_append}
+use Rattle.gp_cell.specs.declared.roles.Core.{Core}
+use Rattle.gp_cell.specs.Cores.{opening, acts, core_at, part_in}
+use Rattle.gp_cell.specs.Lawful.{IsLawful}
+use Rattle.gp_cell.specs.Still.{AreOthers, core_still, lawful_still, entries_append}
 use Rattle.gp_vlog.specs.Logs.{LogState, has_old, log_entries}
 use Rattle.gp_cell.specs.Cells.{last_or, Keeps, IsFreshLog, IsSound, OwnLawful, PostsOne}
 use Rattle.gp_cell.specs.Passing.{Later}

@@ -21,9 +21,9 @@ use Rattle.gp_cell.proofs.Stepping.{named_more}
 use Rattle.gp_cell.proofs.Acting.{own_entries, can_plan}
 use Rattle.gp_cell.proofs.Lawfully.{lawful_more}
 use Rattle.gp_wire.proofs.OwnRecords.{own_append, own_foreign}
-use Rattle.gp_rules.specs.declared.roles.Core.{Core}
-use Rattle.gp_rules.specs.Cores.{core_at}
-use Rattle.gp_rules.specs.Still.{AreOthers, core_still, entries_append}
+use Rattle.gp_cell.specs.declared.roles.Core.{Core}
+use Rattle.gp_cell.specs.Cores.{core_at}
+use Rattle.gp_cell.specs.Still.{AreOthers, core_still, entries_append}
 use Rattle.gp_vlog.specs.Logs.{LogState}
 use Rattle.gp_cell.specs.Cells.{IsSound, WentDown, OwnLawful}
 use Rattle.gp_cell.specs.Passing.{Later}

@@ -11,8 +11,8 @@ use Rattle.gp_work.specs.declared.moves.Move.{Move}
 use Rattle.gp_work.specs.declared.faults.StepFault.{StepFault}
 use Rattle.gp_work.specs.declared.faults.StepFault.TheVariants.{Waiting, NoMemory, Disk, Full}
 use Rattle.gp_work.specs.Moves.{event_of}
-use Rattle.gp_rules.specs.declared.roles.Core.{Core}
-use Rattle.gp_rules.specs.Cores.{acts, part_in}
+use Rattle.gp_cell.specs.declared.roles.Core.{Core}
+use Rattle.gp_cell.specs.Cores.{acts, part_in}
 use Rattle.gp_cell.specs.declared.planning.Plan.{Plan}
 use Rattle.gp_cell.specs.Cells.{CellState, cell_of, IsThought}
 use Rattle.gp_cell.specs.Refusals.{IsFullLogWhere, IsOverFull, IsTried, IsTooGreat, WriteCause, StepCause}

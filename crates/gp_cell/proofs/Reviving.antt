@@ -20,9 +20,9 @@ use Rattle.gp_work.specs.declared.faults.RiseFault.{RiseFault}
 use Rattle.gp_work.specs.declared.faults.RiseFault.TheVariants as rise
 use Rattle.gp_work.specs.Moves.{event_of, Fits}
 use Rattle.gp_wire.specs.Own.{own}
-use Rattle.gp_rules.specs.declared.roles.Core.{Core}
-use Rattle.gp_rules.specs.Cores.{opening, acts, part_in}
-use Rattle.gp_rules.specs.Still.{entries_append}
+use Rattle.gp_cell.specs.declared.roles.Core.{Core}
+use Rattle.gp_cell.specs.Cores.{opening, acts, part_in}
+use Rattle.gp_cell.specs.Still.{entries_append}
 use Rattle.gp_cell.specs.declared.planning.Plan.{Plan}
 use Rattle.gp_cell.specs.declared.found.Found.{Found}
 use Rattle.gp_cell.specs.Cells.{CellState, cell_of, IsSound, IsThoughtAt, IsLogged, Keeps, PostsOne}

@@ -15,13 +15,13 @@ use Rattle.gp_wire.specs.Known.{PassState, records}
 use Rattle.gp_work.specs.declared.moves.Move.{Move}
 use Rattle.gp_work.specs.declared.moves.Move.TheVariants.{Offer, Begin, Take}
 use Rattle.gp_work.specs.Moves.{event_of, Fits}
-use Rattle.gp_rules.specs.declared.roles.Core.{Core}
+use Rattle.gp_cell.specs.declared.roles.Core.{Core}
 use Rattle.gp_run.proofs.Others.{front}
 use Rattle.gp_command.proofs.Truth.{true_both}
 use Rattle.gp_cell.specs.declared.planning.Plan.{Plan}
-use Rattle.gp_rules.specs.Cores.{acts, core_at}
+use Rattle.gp_cell.specs.Cores.{acts, core_at}
 use Rattle.gp_cell.specs.Plans.{HasRole, planned, named, IsNamed}
-use Rattle.gp_rules.specs.Lawful.{IsLawful}
+use Rattle.gp_cell.specs.Lawful.{IsLawful}
 use Rattle.gp_vlog.specs.Logs.{LogState}
 use Rattle.gp_cell.specs.Cells.{IsSound, IsPlan}
 use Rattle.gp_cell.proofs.Acting.{core_role, acts_role, acts_planned}

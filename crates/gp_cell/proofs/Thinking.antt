@@ -17,7 +17,7 @@ use Rattle.gp_wire.specs.Known.{PassState, records}
 use Rattle.gp_work.specs.declared.moves.Move.{Move}
 use Rattle.gp_work.specs.declared.moves.Move.TheVariants.{Offer, Begin, Take}
 use Rattle.gp_work.specs.Moves.{event_of, Fits}
-use Rattle.gp_rules.specs.declared.roles.Core.{Core}
+use Rattle.gp_cell.specs.declared.roles.Core.{Core}
 use Rattle.gp_cell.specs.declared.planning.Plan.{Plan}
 use Rattle.gp_cell.specs.Plans.{planned, named, IsNamed, Names}
 use Rattle.gp_cell.specs.Cells.{IsSound, IsPlan, IsThoughtAt}

@@ -17,10 +17,10 @@ use Rattle.gp_wire.specs.Known.{PassState, records}
 use Rattle.gp_work.specs.declared.moves.Move.{Move}
 use Rattle.gp_wire.specs.Own.{own}
 use Rattle.gp_work.specs.Moves.{event_of, Fits}
-use Rattle.gp_rules.specs.declared.roles.Core.{Core}
+use Rattle.gp_cell.specs.declared.roles.Core.{Core}
 use Rattle.gp_cell.specs.declared.planning.Plan.{Plan}
-use Rattle.gp_rules.specs.Cores.{opening, acts, core_at, part_in}
-use Rattle.gp_rules.specs.Lawful.{IsLawful}
+use Rattle.gp_cell.specs.Cores.{opening, acts, core_at, part_in}
+use Rattle.gp_cell.specs.Lawful.{IsLawful}
 use Rattle.gp_cell.specs.Plans.{HasRole, planned, named, IsNamed}
 
 -- its configuration and node, its core, its log, its pass, and the move in which it went down

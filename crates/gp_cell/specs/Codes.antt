@@ -21,8 +21,8 @@ use Rattle.gp_learner.specs.Epochs.{LearnerInEpoch}
 use Rattle.gp_msg.specs.declared.durable.Durable.{Durable}
 use Rattle.gp_msg.specs.contracts.durable.Durable as durable
 use Rattle.gp_vlog.specs.Logs.{LogState}
-use Rattle.gp_rules.specs.declared.roles.Core.{Core}
-use Rattle.gp_rules.specs.declared.roles.Core.TheVariants.{Proposer, Coordinator, Acceptor, Learner}
+use Rattle.gp_cell.specs.declared.roles.Core.{Core}
+use Rattle.gp_cell.specs.declared.roles.Core.TheVariants.{Proposer, Coordinator, Acceptor, Learner}
 use Rattle.gp_cell.specs.Cells.{CellState}
 
 abbrev pub Cores : Type 0

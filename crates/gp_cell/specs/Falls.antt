@@ -15,10 +15,10 @@ use Rattle.gp_wire.specs.Known.{records}
 use Rattle.gp_work.specs.declared.moves.Move.{Move}
 use Rattle.gp_work.specs.declared.moves.Move.TheVariants.{Offer, Begin, Take}
 use Rattle.gp_work.specs.Moves.{event_of}
-use Rattle.gp_rules.specs.declared.roles.Core.{Core}
-use Rattle.gp_rules.specs.declared.roles.Core.TheVariants.{Proposer, Coordinator, Acceptor, Learner}
-use Rattle.gp_rules.specs.Cores.{opening, acts, part_in}
-use Rattle.gp_rules.specs.Lawful.{IsLawful}
+use Rattle.gp_cell.specs.declared.roles.Core.{Core}
+use Rattle.gp_cell.specs.declared.roles.Core.TheVariants.{Proposer, Coordinator, Acceptor, Learner}
+use Rattle.gp_cell.specs.Cores.{opening, acts, part_in}
+use Rattle.gp_cell.specs.Lawful.{IsLawful}
 use Rattle.gp_cell.specs.Cells.{CellState, Keeps, PostsOne}
 
 -- the core after a crash that leaves this durable part

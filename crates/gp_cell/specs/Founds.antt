@@ -13,7 +13,7 @@ use Rattle.gp_wire.specs.Known.{records}
 use Rattle.gp_work.specs.declared.moves.Move.{Move}
 use Rattle.gp_work.specs.Moves.{event_of}
 use Rattle.gp_cell.specs.declared.found.Found.{Found}
-use Rattle.gp_rules.specs.Cores.{opening, acts, part_in}
+use Rattle.gp_cell.specs.Cores.{opening, acts, part_in}
 use Rattle.gp_cell.specs.Cells.{CellState, Keeps, last_or, last_entry}
 use Rattle.gp_cell.specs.Falls.{FitsNone}
 

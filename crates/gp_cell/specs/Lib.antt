@@ -1,3 +1,6 @@
+pub mod Cores
+pub mod Lawful
+pub mod Still
 pub mod Plans
 pub mod Cells
 pub mod Codes
@@ -6,4 +9,5 @@ pub mod Falls
 pub mod Refusals
 pub mod Founds
 pub mod Crashes
+pub mod Endings
 pub mod Working

@@ -18,9 +18,9 @@ use Rattle.gp_work.specs.declared.faults.StepFault.{StepFault}
 use Rattle.gp_work.specs.declared.faults.StepFault.TheVariants.{Waiting, NoMemory, Disk, Full}
 use Rattle.gp_work.specs.declared.faults.RiseFault.{RiseFault}
 use Rattle.gp_work.specs.declared.faults.RiseFault.TheVariants as rise
-use Rattle.gp_rules.specs.declared.roles.Core.{Core}
-use Rattle.gp_rules.specs.Cores.{acts, part_in}
-use Rattle.gp_rules.specs.Lawful.{IsLawful}
+use Rattle.gp_cell.specs.declared.roles.Core.{Core}
+use Rattle.gp_cell.specs.Cores.{acts, part_in}
+use Rattle.gp_cell.specs.Lawful.{IsLawful}
 use Rattle.gp_cell.specs.Cells.{CellState}
 
 -- how often the disk of a log failed, and 0 if there is no log

@@ -7,7 +7,7 @@ use Rattle.gp_work.specs.declared.faults.RiseFault.{RiseFault}
 use Rattle.gp_work.specs.declared.faults.RiseFault.TheVariants.{NoMemory, Disk, NotLog, Changed}
 use Rattle.gp_work.specs.Causes.{FaultCauses}
 use Rattle.gp_work.specs.Doing.{ProcessState}
-use Rattle.gp_rules.specs.declared.rules.PaxosRules.{PaxosRules}
+use Rattle.gp_cell.specs.declared.rules.PaxosRules.{PaxosRules}
 use Rattle.gp_cell.specs.Cells.{CellState, last_entry}
 use Rattle.gp_cell.specs.Founds.{LogBreaksWhere, HasOtherLog}
 use Rattle.gp_cell.specs.Refusals.{IsTooGreat, faults_of, limit_of}

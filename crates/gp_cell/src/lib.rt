@@ -4,14 +4,19 @@
 
 mod cell;
 mod found;
+pub mod laws;
 mod opening;
 mod planning;
 mod process;
 mod rises;
 mod rising;
+mod roles;
+mod rules;
 mod steps;
 mod writing;
 
 pub use cell::{Cell, Unmade};
 pub use planning::Plan;
+pub use roles::Core;
+pub use rules::PaxosRules;
 pub use steps::MOST_RECORDS;

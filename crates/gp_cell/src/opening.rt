@@ -2,8 +2,9 @@
 ghost use Rattle.std.specs.Prelude.{◌≡◌, IfOk};
 ghost use Rattle.std.specs.Option.{option_map};
 ghost use Rattle.gp_msg.specs.Messages.{part_of};
-ghost use Rattle.gp_rules.specs.Cores.{opening, part_in};
+ghost use Rattle.gp_cell.specs.Cores.{opening, part_in};
 
+use crate::roles::Core;
 use gp_acceptor::Acceptor;
 use gp_command::NoMemory;
 use gp_coordinator::Coordinator;
@@ -11,7 +12,6 @@ use gp_learner::Learner;
 use gp_msg::{Durable, Node};
 use gp_proposer::Proposer;
 use gp_round::Config;
-use gp_rules::Core;
 use std::alloc::Global;
 
 /// The core of a node to which nothing has happened.

@@ -8,12 +8,12 @@ ghost use Rattle.gp_coordinator.specs.Epochs as table;
 ghost use Rattle.gp_work.specs.Moves.{event_of};
 ghost use Rattle.gp_cell.specs.Plans.{IsNamed, took, planned, CanPlan};
 
+use crate::roles::Core;
 use gp_command::{Draft, NoMemory};
 use gp_coordinator::Coordinator;
 use gp_msg::{Event, Msg, Node, Outs, Record};
 use gp_proposer::Proposer;
 use gp_round::Round;
-use gp_rules::Core;
 use gp_work::Move;
 use std::alloc::Global;
 

@@ -12,9 +12,9 @@ ghost use Rattle.gp_cell.specs.Cells.{IsSameBut};
 ghost use Rattle.gp_cell.specs.Working.{process_of, causes_of, IsAt};
 
 use crate::cell::Cell;
+use crate::rules::PaxosRules;
 use gp_edge::{Disk, Gate};
 use gp_msg::{MsgKind, Node};
-use gp_rules::PaxosRules;
 use gp_wire::Wire;
 use gp_work::{Move, Process, RiseFault, StepFault};
 use std::sync::Wait;

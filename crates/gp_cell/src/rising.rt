@@ -5,18 +5,18 @@ ghost use Rattle.gp_msg.specs.Messages.{part_of};
 ghost use Rattle.gp_vlog.specs.Logs.{IsReady, last};
 ghost use Rattle.gp_cell.specs.Crashes.{HoldsSame, IsReadyLog};
 ghost use Rattle.gp_work.specs.declared.faults.RiseFault.TheVariants as RiseFault;
-ghost use Rattle.gp_rules.specs.Cores.{part_in};
+ghost use Rattle.gp_cell.specs.Cores.{part_in};
 ghost use Rattle.gp_cell.specs.Cells.{HasLog, last_or};
 ghost use Rattle.gp_cell.specs.Falls.{fell, kept_of, KeepsMove, FitsNone};
 ghost use Rattle.gp_cell.specs.Refusals.{CountsRiseFaults, faults_of, limit_of};
 ghost use Rattle.gp_cell.specs.Founds.{found_entry, IsFound, IsChanged, BreaksWhere, LogBreaksWhere};
 
 use crate::found::Found;
+use crate::roles::Core;
 use crate::writing::{durable_part, is_same};
 use gp_command::NoMemory;
 use gp_edge::Disk;
 use gp_msg::{Durable, Kept};
-use gp_rules::Core;
 use gp_vlog::{Log, OpenFault};
 use gp_work::{Move, RiseFault};
 

@@ -10,9 +10,9 @@ ghost use Rattle.gp_wire.specs.Known.{records, HoldsAll};
 ghost use Rattle.gp_work.specs.declared.faults.StepFault.TheVariants as StepFault;
 ghost use Rattle.gp_wire.specs.Own.{own};
 ghost use Rattle.gp_work.specs.Moves.{event_of, Fits, HasRoom, IsBeyond};
-ghost use Rattle.gp_rules.specs.Cores.{opening, acts, part_in};
+ghost use Rattle.gp_cell.specs.Cores.{opening, acts, part_in};
 ghost use Rattle.gp_cell.specs.Plans.{HasRole, IsNamed, Names, named};
-ghost use Rattle.gp_rules.specs.Lawful.{IsLawful};
+ghost use Rattle.gp_cell.specs.Lawful.{IsLawful};
 ghost use Rattle.gp_cell.specs.Cells.{IsSameBut, IsThought, Keeps, PostsOne};
 ghost use Rattle.gp_cell.specs.Passing.{Later, GoesOn, posts_in};
 ghost use Rattle.gp_cell.specs.Crashes.{Writes, LeavesOneOf, IsReadyLog};
@@ -20,11 +20,12 @@ ghost use Rattle.gp_cell.specs.Refusals.{CountsFaults, IsReadFault, StepCause, W
 
 use crate::cell::Cell;
 use crate::planning::{Plan, make_plan};
+use crate::roles::Core;
+use crate::rules::PaxosRules;
 use crate::writing::{new_part, write_to};
 use gp_command::NoMemory;
 use gp_edge::{Disk, Gate};
 use gp_msg::{Msg, Record};
-use gp_rules::{Core, PaxosRules};
 use gp_wire::{Pass, Wire};
 use gp_work::{Move, StepFault};
 use std::sync::Wait;

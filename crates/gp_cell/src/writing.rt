@@ -5,16 +5,16 @@ ghost use Rattle.gp_msg.specs.Messages.{EpochPart, part_of};
 ghost use Rattle.gp_edge.specs.Disks.{IfRevealed, LeavesOnly};
 ghost use Rattle.gp_vlog.specs.Bodies.{need};
 ghost use Rattle.gp_vlog.specs.Logs.{KeepsRules, log_entries, entry_for, last};
-ghost use Rattle.gp_rules.specs.Cores.{part_in};
+ghost use Rattle.gp_cell.specs.Cores.{part_in};
 ghost use Rattle.gp_cell.specs.Cells.{IsFit, IsFitLog, HasLog, Keeps, SameKind};
 ghost use Rattle.gp_cell.specs.Refusals.{CountsFaults, IsFullWhere, IsFullLogWhere, AddsPart, faults_of, limit_of};
 ghost use Rattle.gp_cell.specs.Crashes.{AddsToLog, OldOrWritten, LeavesWritten};
 
+use crate::roles::Core;
 use gp_command::NoMemory;
 use gp_edge::Disk;
 use gp_history::Hist;
 use gp_msg::Durable;
-use gp_rules::Core;
 use gp_vlog::{AppendFault, Log, keeps_rules};
 use gp_work::StepFault;
 

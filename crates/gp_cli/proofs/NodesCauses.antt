@@ -12,7 +12,7 @@ use Rattle.gp_run.specs.Legal.{Legal}
 use Rattle.gp_run.specs.Runs.{newest_first}
 use Rattle.gp_edge.specs.Disks.{IfRevealed}
 use Rattle.gp_edge.specs.Reads.{ReadsUpTo}
-use Rattle.gp_rules.specs.Cores.{opening, core_at, part_in}
+use Rattle.gp_cell.specs.Cores.{opening, core_at, part_in}
 use Rattle.gp_shelf.specs.Lists.{KeepsOthers}
 use Rattle.gp_shelf.specs.Places.{place_at}
 use Rattle.gp_shelf.specs.Making.{SomeRose, NoneFell}

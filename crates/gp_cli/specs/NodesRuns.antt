@@ -8,7 +8,7 @@ use Rattle.gp_command.specs.Conflict.{conflict}
 use Rattle.gp_replica.specs.Machines.{state_of, state_after, reply_of, replies_to, is_named}
 use Rattle.gp_store.specs.Effects.{store_rules}
 use Rattle.gp_run.specs.Learned.{learned_at}
-use Rattle.gp_held.specs.Offers.{commands_of}
+use Rattle.gp_cluster.specs.Offers.{commands_of}
 use Rattle.gp_round.specs.Counts.{Counts}
 use Rattle.gp_msg.specs.declared.record.Record.{Record}
 use Rattle.gp_run.specs.Runs.{newest_first}

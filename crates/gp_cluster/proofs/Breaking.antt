@@ -15,7 +15,7 @@ use Rattle.gp_cell.specs.Refusals.{faults_of, limit_of}
 use Rattle.gp_shelf.specs.Lists.{disk_in, lent_of, unlent_of, shelved}
 use Rattle.gp_shelf.specs.Places.{logged, place_at}
 use Rattle.gp_shelf.proofs.Segments.{lent_at, shelved_at, length-unlent}
-use Rattle.gp_closing.specs.Cells.{logs_of, CellsGo}
+use Rattle.gp_cluster.specs.Cells.{logs_of, CellsGo}
 use Rattle.gp_cluster.specs.Runs.{SomeBroke}
 
 module _ {D : Type 0} (content : D → Option (List ℕ)) (faults : D → ℕ) (limit at : ℕ) where

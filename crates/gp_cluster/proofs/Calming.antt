@@ -11,7 +11,7 @@ use Rattle.gp_run.specs.Runs.{newest_first}
 use Rattle.gp_edge.specs.Faults.{Rose}
 use Rattle.gp_vlog.specs.Logs.{LogState}
 use Rattle.gp_wire.specs.Known.{WireState, records}
-use Rattle.gp_rules.specs.declared.rules.PaxosRules.{PaxosRules}
+use Rattle.gp_cell.specs.declared.rules.PaxosRules.{PaxosRules}
 use Rattle.gp_work.specs.declared.job.Job.{Job}
 use Rattle.gp_cell.specs.Cells.{CellState}
 use Rattle.gp_cell.specs.Refusals.{faults_of}
@@ -24,10 +24,10 @@ use Rattle.gp_shelf.specs.Making.{SomeRose}
 use Rattle.gp_ending.specs.declared.ends.RunEnd.{RunEnd}
 use Rattle.gp_ending.specs.declared.ends.RunEnd.TheVariants.{Learned}
 use Rattle.gp_ending.specs.Working.{IsCarriedJob, IsDecided, EndsQuietlyFrom}
-use Rattle.gp_closing.specs.Cells.{IsKnownCell, SomeCellRose, logs_of}
-use Rattle.gp_closing.specs.Closing.{IsRunOfCells, IsConclusion, Stood, Settled, SettledTo, Leaves}
-use Rattle.gp_closing.proofs.Going.{cell_rose}
-use Rattle.gp_closing.proofs.Settled.{rose_after}
+use Rattle.gp_cluster.specs.Cells.{IsKnownCell, SomeCellRose, logs_of}
+use Rattle.gp_cluster.specs.Closing.{IsRunOfCells, IsConclusion, Stood, Settled, SettledTo, Leaves}
+use Rattle.gp_cluster.proofs.Going.{cell_rose}
+use Rattle.gp_cluster.proofs.Settled.{rose_after}
 use Rattle.gp_cluster.specs.declared.policy.RoundPolicy.{RoundPolicy}
 use Rattle.gp_cluster.specs.declared.policy.RoundPolicy.TheVariants.{Multi, Adaptive}
 use Rattle.gp_cluster.specs.Policies.{answers_of, IsQuietBy}

@@ -7,7 +7,7 @@ use Rattle.gp_command.specs.Views.{DraftView}
 use Rattle.gp_round.specs.Counts.{Counts}
 use Rattle.gp_msg.specs.declared.record.Record.{Record}
 use Rattle.gp_wire.specs.Known.{WireState}
-use Rattle.gp_rules.specs.declared.rules.PaxosRules.{PaxosRules}
+use Rattle.gp_cell.specs.declared.rules.PaxosRules.{PaxosRules}
 use Rattle.gp_work.specs.declared.job.Job.{Job}
 use Rattle.gp_work.specs.declared.moves.Move.{Move}
 use Rattle.gp_cell.specs.Cells.{CellState}
@@ -22,9 +22,9 @@ use Rattle.gp_vlog.specs.Logs.{LogState}
 use Rattle.gp_ending.specs.declared.ends.RunEnd.{RunEnd}
 use Rattle.gp_ending.specs.declared.ends.RunEnd.TheVariants.{Learned, NoMemory}
 use Rattle.gp_ending.specs.Working.{IsCarriedJob, IsDecided}
-use Rattle.gp_closing.specs.Cells.{LogGoes}
-use Rattle.gp_closing.proofs.Going.{logs_go}
-use Rattle.gp_closing.specs.Closing.{IsConclusion, Stood, Settled, Leaves}
+use Rattle.gp_cluster.specs.Cells.{LogGoes}
+use Rattle.gp_cluster.proofs.Going.{logs_go}
+use Rattle.gp_cluster.specs.Closing.{IsConclusion, Stood, Settled, Leaves}
 use Rattle.gp_cluster.specs.declared.policy.RoundPolicy.{RoundPolicy}
 use Rattle.gp_cluster.specs.Seated.{IsCarriedRun, logs_in}
 use Rattle.gp_cluster.proofs.Celling.{each_cell, go_cells}

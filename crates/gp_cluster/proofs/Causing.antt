@@ -26,17 +26,17 @@ use Rattle.gp_run.proofs.Telling.{messages-append}
 use Rattle.gp_vlog.specs.Logs.{LogState}
 use Rattle.gp_wire.specs.Lists.{Each}
 use Rattle.gp_wire.specs.Known.{records}
-use Rattle.gp_rules.specs.Cores.{acts, core_at, part_in}
-use Rattle.gp_rules.specs.declared.roles.Core.{Core}
-use Rattle.gp_rules.specs.declared.roles.Core.TheVariants.{Proposer, Coordinator, Acceptor, Learner}
-use Rattle.gp_rules.specs.Lawful.{IsLawful}
-use Rattle.gp_rules.specs.Still.{AreOthers, lawful_still, entries_append}
+use Rattle.gp_cell.specs.Cores.{acts, core_at, part_in}
+use Rattle.gp_cell.specs.declared.roles.Core.{Core}
+use Rattle.gp_cell.specs.declared.roles.Core.TheVariants.{Proposer, Coordinator, Acceptor, Learner}
+use Rattle.gp_cell.specs.Lawful.{IsLawful}
+use Rattle.gp_cell.specs.Still.{AreOthers, lawful_still, entries_append}
 use Rattle.gp_cell.specs.Cells.{CellState}
 use Rattle.gp_cell.specs.Refusals.{IsTooGreat}
 use Rattle.gp_cell.proofs.Posting.{nothing_own}
 use Rattle.gp_wire.specs.Own.{IsBehind}
-use Rattle.gp_closing.specs.Cells.{LogGoes, logs_of}
-use Rattle.gp_closing.specs.Closing.{IsTooGreatFor}
+use Rattle.gp_cluster.specs.Cells.{LogGoes, logs_of}
+use Rattle.gp_cluster.specs.Closing.{IsTooGreatFor}
 use Rattle.gp_run.proofs.Others.{front, named_stands}
 use Rattle.gp_round.proofs.Counting.{right_true}
 use Rattle.gp_cluster.specs.Runs.{IsOverLimit}

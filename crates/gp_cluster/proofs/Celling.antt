@@ -8,7 +8,7 @@ use Rattle.gp_round.specs.Counts.{Counts}
 use Rattle.gp_vlog.specs.Logs.{LogState}
 use Rattle.gp_wire.specs.Lists.{Each}
 use Rattle.gp_wire.specs.Known.{WireState}
-use Rattle.gp_rules.specs.declared.rules.PaxosRules.{PaxosRules}
+use Rattle.gp_cell.specs.declared.rules.PaxosRules.{PaxosRules}
 use Rattle.gp_work.specs.declared.job.Job.{Job}
 use Rattle.gp_work.specs.Doing.{Goes}
 use Rattle.gp_cell.specs.Cells.{CellState}
@@ -21,8 +21,8 @@ use Rattle.gp_seats.specs.Offering.{HasOffered}
 use Rattle.gp_seats.proofs.Sitting.{proposers_sit, all_of_each}
 use Rattle.gp_shelf.proofs.Zips.{AllZip-append}
 use Rattle.gp_ending.specs.Working.{IsCarriedJob}
-use Rattle.gp_closing.specs.Cells.{IsKnownCell, AreCellsAt, CellGoes, CellsGo, node_in, logs_of}
-use Rattle.gp_closing.proofs.Going.{nodes_go}
+use Rattle.gp_cluster.specs.Cells.{IsKnownCell, AreCellsAt, CellGoes, CellsGo, node_in, logs_of}
+use Rattle.gp_cluster.proofs.Going.{nodes_go}
 use Rattle.gp_cluster.specs.Seated.{IsSeated}
 use Rattle.gp_cluster.proofs.Starting.{seated_nodes, seated_logs}
 

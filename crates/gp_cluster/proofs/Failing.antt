@@ -8,7 +8,7 @@ use Rattle.gp_cell.specs.Cells.{CellState}
 use Rattle.gp_cell.specs.Refusals.{faults_of}
 use Rattle.gp_ending.specs.Ended.{cell_in, cells_of}
 use Rattle.gp_shelf.proofs.Segments.{get-append_left, get-append_right}
-use Rattle.gp_closing.specs.Cells.{SomeCellRose}
+use Rattle.gp_cluster.specs.Cells.{SomeCellRose}
 
 module _ {D : Type 0} where
   pub cell_there : (js : List (Job (CellState D))) (i : ℕ) (d : Job (CellState D)) → i < length js → slice_get (cells_of js) i ≡ Some (get_or js i d).cell

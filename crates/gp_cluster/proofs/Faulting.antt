@@ -8,12 +8,12 @@ use Rattle.gp_round.specs.Counts.{Counts}
 use Rattle.gp_msg.specs.declared.event.Event.{Event}
 use Rattle.gp_msg.specs.declared.record.Record.{Record}
 use Rattle.gp_edge.specs.Faults.{Rose}
-use Rattle.gp_rules.specs.Cores.{core_at}
+use Rattle.gp_cell.specs.Cores.{core_at}
 use Rattle.gp_run.specs.Runs.{newest_first}
 use Rattle.gp_vlog.specs.Logs.{LogState}
 use Rattle.gp_wire.specs.Lists.{Each}
 use Rattle.gp_wire.specs.Known.{WireState}
-use Rattle.gp_rules.specs.declared.rules.PaxosRules.{PaxosRules}
+use Rattle.gp_cell.specs.declared.rules.PaxosRules.{PaxosRules}
 use Rattle.gp_work.specs.declared.faults.JobFault.{JobFault}
 use Rattle.gp_work.specs.declared.faults.JobFault.TheVariants as fault
 use Rattle.gp_work.specs.declared.job.Job.{Job}
@@ -34,10 +34,10 @@ use Rattle.gp_ending.specs.declared.ends.RunEnd.TheVariants.{Learned, NoMemory, 
 use Rattle.gp_ending.specs.Ends.{end_of, fault_in}
 use Rattle.gp_ending.specs.Working.{IsCarriedJob, IsDecided}
 use Rattle.gp_ending.proofs.Deciding.{decides}
-use Rattle.gp_closing.specs.Cells.{IsKnownCell, SomeCellRose, logs_of}
-use Rattle.gp_closing.specs.Closing.{IsRunOfCells, IsConclusion, Stood, Settled, SettledTo, StoodTo, Leaves}
-use Rattle.gp_closing.proofs.Going.{cell_rose}
-use Rattle.gp_closing.proofs.Settled.{rose_before}
+use Rattle.gp_cluster.specs.Cells.{IsKnownCell, SomeCellRose, logs_of}
+use Rattle.gp_cluster.specs.Closing.{IsRunOfCells, IsConclusion, Stood, Settled, SettledTo, StoodTo, Leaves}
+use Rattle.gp_cluster.proofs.Going.{cell_rose}
+use Rattle.gp_cluster.proofs.Settled.{rose_before}
 use Rattle.gp_cluster.specs.Runs.{EndCause, SomeBroke, IsOverLimit}
 use Rattle.gp_cluster.specs.Seated.{IsSeated, HaveLimit, logs_in}
 use Rattle.gp_cluster.proofs.Learning.{core_behind}

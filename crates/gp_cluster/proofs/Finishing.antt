@@ -9,7 +9,7 @@ use Rattle.gp_run.specs.Runs.{newest_first}
 use Rattle.gp_vlog.specs.Logs.{LogState, IsReady}
 use Rattle.gp_wire.specs.Lists.{Each}
 use Rattle.gp_wire.specs.Known.{WireState}
-use Rattle.gp_rules.specs.declared.rules.PaxosRules.{PaxosRules}
+use Rattle.gp_cell.specs.declared.rules.PaxosRules.{PaxosRules}
 use Rattle.gp_work.specs.declared.job.Job.{Job}
 use Rattle.gp_cell.specs.Cells.{CellState}
 use Rattle.gp_ending.specs.Ended.{cells_of}
@@ -21,8 +21,8 @@ use Rattle.gp_seats.specs.Offering.{HasOffered, IsKnown, given_to}
 use Rattle.gp_ending.specs.declared.ends.RunEnd.{RunEnd}
 use Rattle.gp_ending.specs.declared.ends.RunEnd.TheVariants.{Learned}
 use Rattle.gp_ending.specs.Working.{IsCarriedJob, IsDecided, EndsQuietlyFrom}
-use Rattle.gp_closing.specs.Cells.{IsKnownCell, logs_of}
-use Rattle.gp_closing.specs.Closing.{IsRunOfCells, IsConclusion, Stood, Settled, SettledTo, Leaves}
+use Rattle.gp_cluster.specs.Cells.{IsKnownCell, logs_of}
+use Rattle.gp_cluster.specs.Closing.{IsRunOfCells, IsConclusion, Stood, Settled, SettledTo, Leaves}
 use Rattle.gp_seats.proofs.Sitting.{logged_have}
 use Rattle.gp_cluster.specs.declared.policy.RoundPolicy.{RoundPolicy}
 use Rattle.gp_cluster.specs.Policies.{answers_of}

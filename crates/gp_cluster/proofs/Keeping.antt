@@ -10,14 +10,14 @@ use Rattle.gp_msg.specs.Messages.{EpochPart, Entry, part_of}
 use Rattle.gp_edge.specs.Disks.{IfRevealed}
 use Rattle.gp_vlog.specs.Logs.{LogState, Shows, IsReady, log_entries}
 use Rattle.gp_wire.specs.Lists.{Each}
-use Rattle.gp_rules.specs.Cores.{opening, core_at, part_in}
+use Rattle.gp_cell.specs.Cores.{opening, core_at, part_in}
 use Rattle.gp_cell.specs.Cells.{CellState, Keeps, last_or}
 use Rattle.gp_cell.specs.Crashes.{last_part}
 use Rattle.gp_seats.specs.declared.nodes.Role.TheVariants.{Learner, Proposer}
 use Rattle.gp_seats.specs.Nodes.{first_of, proposer_nodes}
 use Rattle.gp_seats.specs.Seats.{has_log}
 use Rattle.gp_seats.proofs.Sitting.{each_both, each_first}
-use Rattle.gp_closing.specs.Cells.{node_in, logs_of}
+use Rattle.gp_cluster.specs.Cells.{node_in, logs_of}
 use Rattle.gp_cluster.specs.Runs.{EndsWith}
 
 -- ---- one log

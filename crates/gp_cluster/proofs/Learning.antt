@@ -13,13 +13,13 @@ use Rattle.gp_run.specs.Legal.{Legal}
 use Rattle.gp_run.specs.Runs.{newest_first}
 use Rattle.gp_wire.specs.Lists.{Each, Has}
 use Rattle.gp_wire.specs.Known.{records}
-use Rattle.gp_rules.specs.Cores.{core_at, learned_in}
-use Rattle.gp_rules.specs.Still.{core_still, entries_append}
-use Rattle.gp_rules.proofs.Runs.{core_is, state_at}
+use Rattle.gp_cell.specs.Cores.{core_at, learned_in}
+use Rattle.gp_cell.specs.Still.{core_still, entries_append}
+use Rattle.gp_cell.proofs.Runs.{core_is, state_at}
 use Rattle.gp_cell.specs.Cells.{CellState}
 use Rattle.gp_cell.proofs.Posting.{nothing_own}
 use Rattle.gp_wire.specs.Own.{IsBehind}
-use Rattle.gp_closing.specs.Cells.{IsKnownCell, HasLearned, node_in}
+use Rattle.gp_cluster.specs.Cells.{IsKnownCell, HasLearned, node_in}
 
 -- the core of a cell is the state of its node after a list that begins with what it has seen
 pub core_behind : {D : Type 0} (config : Counts) (c : CellState D) (list : List Record) → c.config ≡ config → IsKnownCell c → IsBehind c.node (records c.pass) list → c.core ≡ core_at config c.node (newest_first list)

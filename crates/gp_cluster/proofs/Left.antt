@@ -11,8 +11,8 @@ use Rattle.gp_vlog.specs.Logs.{LogState}
 use Rattle.gp_shelf.specs.Lists.{HasRoomFor}
 use Rattle.gp_ending.specs.declared.ends.RunEnd.{RunEnd}
 use Rattle.gp_ending.specs.declared.ends.RunEnd.TheVariants.{Learned, NoMemory}
-use Rattle.gp_closing.specs.Cells.{LogGoes}
-use Rattle.gp_held.specs.Offers.{AreOffered}
+use Rattle.gp_cluster.specs.Cells.{LogGoes}
+use Rattle.gp_cluster.specs.Offers.{AreOffered}
 use Rattle.gp_cluster.specs.declared.policy.RoundPolicy.{RoundPolicy}
 use Rattle.gp_cluster.specs.declared.policy.RoundPolicy.TheVariants.{Adaptive}
 use Rattle.gp_cluster.specs.Runs.{IsRunOf}

@@ -1,3 +1,12 @@
+pub mod Present
+pub mod Going
+pub mod Standing
+pub mod Settled
+pub mod Leaving
+pub mod Drafts
+pub mod Sent
+pub mod Scripts
+pub mod Holding
 pub mod Starting
 pub mod Celling
 pub mod Posting

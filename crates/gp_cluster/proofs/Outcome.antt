@@ -9,7 +9,7 @@ use Rattle.gp_run.specs.Runs.{newest_first}
 use Rattle.gp_vlog.specs.Logs.{LogState}
 use Rattle.gp_wire.specs.Lists.{Each, Has}
 use Rattle.gp_wire.specs.Known.{WireState}
-use Rattle.gp_rules.specs.declared.rules.PaxosRules.{PaxosRules}
+use Rattle.gp_cell.specs.declared.rules.PaxosRules.{PaxosRules}
 use Rattle.gp_work.specs.declared.faults.JobFault.{JobFault}
 use Rattle.gp_work.specs.declared.faults.JobFault.TheVariants as fault
 use Rattle.gp_work.specs.declared.job.Job.{Job}
@@ -23,17 +23,17 @@ use Rattle.gp_seats.specs.Seats.{IsNewAt, IsNewJob}
 use Rattle.gp_seats.specs.Offering.{HasOffered, IsKnown}
 use Rattle.gp_seats.proofs.Listing.{present_all, all_present}
 use Rattle.gp_seats.proofs.Sitting.{new_jobs, all_of_each}
-use Rattle.gp_held.specs.Offers.{AreOffered}
-use Rattle.gp_held.proofs.Holding as held
+use Rattle.gp_cluster.specs.Offers.{AreOffered}
+use Rattle.gp_cluster.proofs.Holding as held
 use Rattle.gp_ending.specs.declared.ends.RunEnd.{RunEnd}
 use Rattle.gp_ending.specs.declared.ends.RunEnd.TheVariants.{Learned, NoMemory}
 use Rattle.gp_ending.specs.Ends.{end_of, fault_in}
 use Rattle.gp_ending.specs.Working.{IsCarriedJob, IsDecided}
 use Rattle.gp_ending.proofs.Deciding.{decides}
-use Rattle.gp_closing.specs.Cells.{IsKnownCell, AreCellsAt, HasLearned, CellsGo, LogGoes, node_in, logs_of}
-use Rattle.gp_closing.specs.Closing.{IsRunOfCells, StoodTo, IsConclusion, Stood, Settled, SettledTo, Leaves}
-use Rattle.gp_closing.proofs.Going.{cells_on, nodes_go, logs_go}
-use Rattle.gp_closing.proofs.Settled.{configs_are}
+use Rattle.gp_cluster.specs.Cells.{IsKnownCell, AreCellsAt, HasLearned, CellsGo, LogGoes, node_in, logs_of}
+use Rattle.gp_cluster.specs.Closing.{IsRunOfCells, StoodTo, IsConclusion, Stood, Settled, SettledTo, Leaves}
+use Rattle.gp_cluster.proofs.Going.{cells_on, nodes_go, logs_go}
+use Rattle.gp_cluster.proofs.Settled.{configs_are}
 use Rattle.gp_cluster.specs.declared.policy.RoundPolicy.{RoundPolicy}
 use Rattle.gp_cluster.specs.declared.policy.RoundPolicy.TheVariants.{Multi, Adaptive}
 use Rattle.gp_cluster.specs.Policies.{MayBeOffered}

@@ -9,7 +9,7 @@ use Rattle.gp_msg.specs.declared.record.Record.{Record}
 use Rattle.gp_wire.specs.Lists.{Each, Has}
 use Rattle.gp_wire.specs.Known.{WireState, records}
 use Rattle.gp_wire.specs.Own.{own_events, event_in, IsBehind}
-use Rattle.gp_rules.specs.declared.rules.PaxosRules.{PaxosRules}
+use Rattle.gp_cell.specs.declared.rules.PaxosRules.{PaxosRules}
 use Rattle.gp_work.specs.declared.job.Job.{Job}
 use Rattle.gp_work.specs.Moves.{event_of}
 use Rattle.gp_cell.specs.Cells.{CellState}
@@ -21,8 +21,8 @@ use Rattle.gp_seats.specs.Nodes.{proposer_nodes}
 use Rattle.gp_seats.specs.Seats.{IsNewAt}
 use Rattle.gp_seats.specs.Offering.{moves_of, HasOffered}
 use Rattle.gp_seats.proofs.Listing.{has_first}
-use Rattle.gp_held.specs.Offers.{AreOffered}
-use Rattle.gp_closing.specs.Closing.{IsRunOfCells}
+use Rattle.gp_cluster.specs.Offers.{AreOffered}
+use Rattle.gp_cluster.specs.Closing.{IsRunOfCells}
 
 -- a list has of a proposer what its cell has seen
 abbrev pub KeepsProposer : {D : Type 0} → List Record → CellState D → Type 0

@@ -14,7 +14,7 @@ use Rattle.gp_edge.specs.Faults.{Rose}
 use Rattle.gp_run.specs.Runs.{newest_first}
 use Rattle.gp_vlog.specs.Logs.{LogState}
 use Rattle.gp_wire.specs.Lists.{Each}
-use Rattle.gp_rules.specs.Cores.{opening, core_at, part_in}
+use Rattle.gp_cell.specs.Cores.{opening, core_at, part_in}
 use Rattle.gp_seats.specs.Nodes.{logged_nodes}
 use Rattle.gp_seats.specs.Seats.{IsBlank}
 use Rattle.gp_shelf.specs.declared.making.LendFault.{LendFault}
@@ -26,7 +26,7 @@ use Rattle.gp_shelf.proofs.Segments.{length-lent, length-unlent, shelved_at, oth
 use Rattle.gp_shelf.proofs.Zips.{zip_all, fell_there}
 use Rattle.gp_ending.specs.declared.ends.RunEnd.{RunEnd}
 use Rattle.gp_ending.specs.declared.ends.RunEnd.TheVariants.{Learned, NoMemory, Disk, Full, NotLog, Changed}
-use Rattle.gp_closing.specs.Cells.{LogGoes}
+use Rattle.gp_cluster.specs.Cells.{LogGoes}
 use Rattle.gp_seats.proofs.Sitting.{all_of_each}
 use Rattle.gp_cluster.specs.Runs.{EndCause, SomeBroke, EndsWith, HoldParts, IsQuietOrSettled}
 use Rattle.gp_cluster.specs.declared.policy.RoundPolicy.{RoundPolicy}

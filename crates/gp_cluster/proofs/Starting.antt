@@ -7,8 +7,8 @@ use Rattle.gp_msg.specs.declared.node.Node.TheVariants as node
 use Rattle.gp_vlog.specs.Logs.{LogState}
 use Rattle.gp_wire.specs.Lists.{Has}
 use Rattle.gp_wire.specs.Known.{WireState, PassState}
-use Rattle.gp_rules.specs.declared.rules.PaxosRules.{PaxosRules}
-use Rattle.gp_rules.specs.Cores.{opening, part_in}
+use Rattle.gp_cell.specs.declared.rules.PaxosRules.{PaxosRules}
+use Rattle.gp_cell.specs.Cores.{opening, part_in}
 use Rattle.gp_cell.specs.Cells.{IsFreshLog}
 use Rattle.gp_ending.specs.Begins.{leader}
 use Rattle.gp_ending.specs.Ended.{is_proposer, nodes_of, cells_of, AreNodesOf}
@@ -17,7 +17,7 @@ use Rattle.gp_seats.specs.declared.nodes.Role.TheVariants.{Acceptor, Coordinator
 use Rattle.gp_seats.specs.Nodes.{node_of, first_of, logged_nodes, working_nodes, proposer_nodes}
 use Rattle.gp_seats.specs.Seats.{CanSit, first_log, later_logs, new_passes, seats}
 use Rattle.gp_seats.proofs.Listing.{first_has, all_distinct, all_present, present_working, present_proposers}
-use Rattle.gp_closing.specs.Cells.{logs_of}
+use Rattle.gp_cluster.specs.Cells.{logs_of}
 use Rattle.gp_seats.proofs.Sitting.{length_first}
 use Rattle.gp_wire.proofs.Words.{has_either}
 

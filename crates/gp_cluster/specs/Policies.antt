@@ -7,7 +7,7 @@ use Rattle.gp_phase.specs.Phases.{Answers}
 use Rattle.gp_caller.specs.Calling.{IsCalled}
 use Rattle.gp_caller.specs.Adapting.{IsAdapted}
 use Rattle.gp_ending.specs.Quiet.{IsQuietRun, IsAdaptiveRun}
-use Rattle.gp_held.specs.Offers.{AreOffered}
+use Rattle.gp_cluster.specs.Offers.{AreOffered}
 use Rattle.gp_cluster.specs.declared.policy.RoundPolicy.{RoundPolicy}
 use Rattle.gp_cluster.specs.declared.policy.RoundPolicy.TheVariants.{Multi, Adaptive}
 

@@ -16,12 +16,12 @@ use Rattle.gp_vlog.specs.Bodies.{LogEntry, need}
 use Rattle.gp_vlog.specs.Logs.{HoldsEntries}
 use Rattle.gp_vlog.specs.Reading.{BreaksAt}
 use Rattle.gp_vlog.specs.declared.fault.OpenFault.TheVariants as opening_fault
-use Rattle.gp_rules.specs.Cores.{opening, acts, core_at, part_in}
+use Rattle.gp_cell.specs.Cores.{opening, acts, core_at, part_in}
 use Rattle.gp_cell.specs.Crashes.{last_part}
 use Rattle.gp_driver.specs.Settling.{settle}
 use Rattle.gp_driver.specs.Settled.{AllLearned}
 use Rattle.gp_seats.specs.Nodes.{logged_nodes}
-use Rattle.gp_held.specs.Offers.{AreOffered}
+use Rattle.gp_cluster.specs.Offers.{AreOffered}
 use Rattle.gp_shelf.specs.Places.{place_at}
 use Rattle.gp_shelf.specs.Making.{SomeRose}
 use Rattle.gp_ending.specs.declared.ends.RunEnd.{RunEnd}

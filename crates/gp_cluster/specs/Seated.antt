@@ -10,8 +10,8 @@ use Rattle.gp_edge.specs.Disks.{IfRevealed}
 use Rattle.gp_run.specs.Runs.{newest_first}
 use Rattle.gp_vlog.specs.Logs.{LogState}
 use Rattle.gp_wire.specs.Known.{WireState}
-use Rattle.gp_rules.specs.declared.rules.PaxosRules.{PaxosRules}
-use Rattle.gp_rules.specs.Cores.{opening, core_at, part_in}
+use Rattle.gp_cell.specs.declared.rules.PaxosRules.{PaxosRules}
+use Rattle.gp_cell.specs.Cores.{opening, core_at, part_in}
 use Rattle.gp_work.specs.declared.job.Job.{Job}
 use Rattle.gp_cell.specs.Cells.{CellState}
 use Rattle.gp_ending.specs.Ended.{cells_of}
@@ -26,7 +26,7 @@ use Rattle.gp_shelf.specs.declared.making.LendFault.TheVariants as fault
 use Rattle.gp_shelf.specs.Places.{logged}
 use Rattle.gp_ending.specs.declared.ends.RunEnd.{RunEnd}
 use Rattle.gp_ending.specs.declared.ends.RunEnd.TheVariants.{Learned, NoMemory, Disk}
-use Rattle.gp_closing.specs.Cells.{LogGoes, logs_of}
+use Rattle.gp_cluster.specs.Cells.{LogGoes, logs_of}
 use Rattle.gp_cluster.specs.declared.policy.RoundPolicy.{RoundPolicy}
 use Rattle.gp_cluster.specs.Policies.{answers_of}
 use Rattle.gp_cluster.specs.Runs.{EndsWith, IsRunOf, HasLearnedAll, IsQuietOrSettled, EndCause}

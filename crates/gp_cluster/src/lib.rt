@@ -2,9 +2,13 @@
 #![tactic(auto)]
 
 mod adapting;
+mod closing;
+mod gathering;
+pub mod laws;
 mod policy;
 mod running;
 mod seated;
+mod settling;
 mod turning;
 
 pub use gp_ending::RunEnd;

@@ -21,8 +21,8 @@ use Rattle.gp_run.specs.Legal.{Legal, Follows, fits}
 use Rattle.gp_run.specs.Runs.{newest_first}
 use Rattle.gp_wire.specs.Own.{own_events}
 use Rattle.gp_wire.proofs.SameNodes.{same_tells}
-use Rattle.gp_rules.specs.Cores.{part_in}
-use Rattle.gp_rules.proofs.Runs.{core_is}
+use Rattle.gp_cell.specs.Cores.{part_in}
+use Rattle.gp_cell.proofs.Runs.{core_is}
 use Rattle.gp_work.specs.Doing.{ProcessState}
 use Rattle.gp_work.specs.declared.moves.Move.TheVariants as move
 use Rattle.gp_work.specs.Moves.{event_of}

@@ -13,7 +13,7 @@ use Rattle.gp_run.specs.Messages.{messages}
 use Rattle.gp_run.specs.Legal.{Legal}
 use Rattle.gp_run.specs.Runs.{newest_first}
 use Rattle.gp_run.proofs.Telling.{messages-append}
-use Rattle.gp_rules.specs.Still.{entries_append}
+use Rattle.gp_cell.specs.Still.{entries_append}
 use Rattle.gp_cstructs.proofs.Lists.{get_among, among_contains}
 use Rattle.gp_agreement.specs.Facts.{HasSent}
 use Rattle.gp_agreement.proofs.Facts.{all_facts}

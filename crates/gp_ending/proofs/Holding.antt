@@ -19,7 +19,7 @@ use Rattle.gp_wire.specs.Rule.{items, item, Begins}
 use Rattle.gp_wire.specs.Own.{own, own_events, event_in, IsBehind}
 use Rattle.gp_wire.proofs.SameNodes.{same_tells}
 use Rattle.gp_wire.proofs.OwnRecords.{own_append, own_foreign}
-use Rattle.gp_rules.specs.Still.{entries_append}
+use Rattle.gp_cell.specs.Still.{entries_append}
 use Rattle.gp_work.specs.declared.job.Job.{Job}
 use Rattle.gp_cell.specs.Cells.{CellState, pass_of}
 use Rattle.gp_cell.specs.Working.{process_of}

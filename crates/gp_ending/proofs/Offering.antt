@@ -22,7 +22,7 @@ use Rattle.gp_phase.proofs.Deeds.{mid_false, does_up}
 use Rattle.gp_round.specs.Counts.{Counts}
 use Rattle.gp_msg.specs.Messages.{EpochPart}
 use Rattle.gp_vlog.specs.Logs.{LogState}
-use Rattle.gp_rules.specs.Cores.{opening, part_in}
+use Rattle.gp_cell.specs.Cores.{opening, part_in}
 use Rattle.gp_work.specs.declared.job.Job.{Job}
 use Rattle.gp_cell.specs.Cells.{CellState, Keeps}
 use Rattle.gp_cell.specs.Refusals.{faults_of}

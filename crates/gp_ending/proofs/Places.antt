@@ -16,7 +16,7 @@ use Rattle.gp_wire.specs.Own.{own, own_events, event_in}
 use Rattle.gp_msg.specs.Nodes.{same_node}
 use Rattle.gp_wire.proofs.SameNodes.{same_tells}
 use Rattle.gp_wire.proofs.OwnRecords.{own_append}
-use Rattle.gp_rules.specs.Still.{entries_append}
+use Rattle.gp_cell.specs.Still.{entries_append}
 use Rattle.gp_phase.specs.Deeds.{besides, others_in}
 
 -- ---- a place cuts a list

@@ -6,7 +6,7 @@ use Rattle.gp_round.specs.declared.round.Round.{Round}
 use Rattle.gp_edge.specs.Faults.{Rose}
 use Rattle.gp_wire.specs.Known.{WireState}
 use Rattle.gp_wire.specs.Own.{own_events}
-use Rattle.gp_rules.specs.declared.rules.PaxosRules.{PaxosRules}
+use Rattle.gp_cell.specs.declared.rules.PaxosRules.{PaxosRules}
 use Rattle.gp_work.specs.declared.job.Job.{Job}
 use Rattle.gp_work.specs.declared.moves.Move.{Move}
 use Rattle.gp_work.specs.Doing.{ProcessState, Goes, Posted}

@@ -13,8 +13,8 @@ use Rattle.gp_wire.specs.Lists.{Each, IsDistinct, Has}
 use Rattle.gp_wire.specs.Known.{WireState, records}
 use Rattle.gp_wire.specs.Ends.{Closed}
 use Rattle.gp_wire.specs.Own.{own_events, IsBehind}
-use Rattle.gp_rules.specs.Lawful.{paxos_legal}
-use Rattle.gp_rules.specs.declared.rules.PaxosRules.{PaxosRules}
+use Rattle.gp_cell.specs.Lawful.{paxos_legal}
+use Rattle.gp_cell.specs.declared.rules.PaxosRules.{PaxosRules}
 use Rattle.gp_work.specs.declared.job.Job.{Job}
 use Rattle.gp_work.specs.Moves.{is_offer, event_of}
 use Rattle.gp_cell.specs.Cells.{CellState, pass_of}

@@ -12,12 +12,11 @@ ghost use Rattle.gp_ending.specs.Ended.{HaveWorked};
 ghost use Rattle.gp_ending.specs.Working.{IsCarriedJob, IsCallerAt, RestsAfter, IsDecided};
 
 use crate::ends::{RunEnd, deciding};
-use gp_cell::Cell;
+use gp_cell::{Cell, PaxosRules};
 use gp_edge::{Disk, Gate};
 use gp_node::Job;
 use gp_phase::{Beside, Caller, PhasesEnd, Trio, call_first, run_phases};
 use gp_round::Config;
-use gp_rules::PaxosRules;
 use gp_wire::Wire;
 use gp_work::Process;
 use std::alloc::Global;

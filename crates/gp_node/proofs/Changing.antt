@@ -12,8 +12,8 @@ use Rattle.gp_run.specs.Runs.{newest_first}
 use Rattle.gp_vlog.specs.Logs.{LogState}
 use Rattle.gp_wire.specs.Own.{own}
 use Rattle.gp_wire.proofs.OwnRecords.{own_append}
-use Rattle.gp_rules.specs.Cores.{core_at, part_in}
-use Rattle.gp_rules.specs.Still.{AreOthers, core_other, core_still, entries_append}
+use Rattle.gp_cell.specs.Cores.{core_at, part_in}
+use Rattle.gp_cell.specs.Still.{AreOthers, core_other, core_still, entries_append}
 use Rattle.gp_cell.specs.Cells.{PostsOne}
 use Rattle.gp_cell.specs.Crashes.{Writes, AddsToLog}
 use Rattle.gp_cell.specs.Refusals.{AddsPart}

@@ -6,7 +6,7 @@ use Rattle.gp_msg.specs.declared.record.Record.{Record}
 use Rattle.gp_msg.specs.Messages.{EpochPart, Entry, part_of}
 use Rattle.gp_run.specs.Runs.{newest_first}
 use Rattle.gp_vlog.specs.Logs.{LogState}
-use Rattle.gp_rules.specs.Cores.{core_at, part_in}
+use Rattle.gp_cell.specs.Cores.{core_at, part_in}
 
 -- one more part, if the part has changed
 abbrev pub Grows : Option EpochPart → Option EpochPart → List EpochPart → List EpochPart → Type 0

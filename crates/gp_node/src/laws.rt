@@ -8,7 +8,7 @@ ghost use Rattle.gp_msg.specs.Nodes.{node_of};
 ghost use Rattle.gp_run.specs.Runs.{newest_first};
 ghost use Rattle.gp_vlog.specs.Logs.{LogState};
 ghost use Rattle.gp_wire.specs.Own.{own};
-ghost use Rattle.gp_rules.specs.Cores.{core_at, part_in};
+ghost use Rattle.gp_cell.specs.Cores.{core_at, part_in};
 ghost use Rattle.gp_cell.specs.Cells.{PostsOne};
 ghost use Rattle.gp_node.specs.Changes.{HoldsLastParts};
 ghost use Rattle.gp_cell.specs.Crashes.{Writes};

@@ -5,8 +5,7 @@ pub mod laws;
 mod phase;
 mod posted;
 
-pub use gp_cell::{Cell, MOST_RECORDS, Plan, Unmade};
-pub use gp_rules::{Core, PaxosRules};
+pub use gp_cell::{Cell, Core, MOST_RECORDS, PaxosRules, Plan, Unmade};
 pub use gp_work::{JobFault, Move, Moves, RiseFault, StepFault};
 pub use phase::{Job, workers};
 pub use posted::{Finished, Posted, Unfinished, finish};

@@ -4,9 +4,8 @@ ghost use Rattle.gp_cell.specs.Cells.{CellState};
 ghost use Rattle.gp_work.specs.declared.job.Job.{Job as JobOf};
 ghost use Rattle.gp_node.specs.Phases.{IsReadyJob, IsWorkedJob};
 
-use gp_cell::Cell;
+use gp_cell::{Cell, PaxosRules};
 use gp_edge::{Disk, Gate};
-use gp_rules::PaxosRules;
 use gp_wire::Wire;
 use std::alloc::Global;
 use std::sync::Wait;

@@ -3,14 +3,13 @@ ghost use Rattle.std.specs.Prelude.{◌≡◌, ◌≤◌, [], length, map, vec_c
 ghost use Rattle.gp_run.specs.Legal.{Legal};
 ghost use Rattle.gp_run.specs.Runs.{newest_first};
 ghost use Rattle.gp_wire.specs.Ends.{Closed};
-ghost use Rattle.gp_rules.specs.Lawful.{paxos_legal};
+ghost use Rattle.gp_cell.specs.Lawful.{paxos_legal};
 ghost use Rattle.gp_cell.specs.Cells.{pass_of, log_of};
-ghost use Rattle.gp_node.specs.Endings.{AreAllCells};
+ghost use Rattle.gp_cell.specs.Endings.{AreAllCells};
 
-use gp_cell::Cell;
+use gp_cell::{Cell, PaxosRules};
 use gp_edge::Disk;
 use gp_msg::{Record, Records};
-use gp_rules::PaxosRules;
 use gp_vlog::Log;
 use gp_wire::{Pass, Wire};
 use std::alloc::Global;

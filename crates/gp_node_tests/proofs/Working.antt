@@ -14,7 +14,7 @@ use Rattle.gp_round.specs.Counts.{Counts}
 use Rattle.gp_work.specs.Causes.{FaultCauses}
 use Rattle.gp_work.specs.Jobs.{Ends}
 use Rattle.std.specs.Prelude.{Bool, true}
-use Rattle.gp_rules.specs.declared.rules.PaxosRules.{PaxosRules}
+use Rattle.gp_cell.specs.declared.rules.PaxosRules.{PaxosRules}
 use Rattle.gp_cell.specs.Cells.{CellState}
 use Rattle.gp_cell.specs.Working.{process_of, causes_of}
 use Rattle.gp_node.specs.Phases.{IsWorkedJob}

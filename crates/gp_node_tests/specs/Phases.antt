@@ -7,7 +7,7 @@ use Rattle.gp_edge.specs.Records.{MemDiskState}
 use Rattle.gp_wire.specs.Lists.{Has}
 use Rattle.gp_wire.specs.Known.{WireState, PassState}
 use Rattle.gp_work.specs.declared.job.Job.{Job}
-use Rattle.gp_rules.specs.declared.rules.PaxosRules.{PaxosRules}
+use Rattle.gp_cell.specs.declared.rules.PaxosRules.{PaxosRules}
 use Rattle.gp_cell.specs.Cells.{CellState}
 use Rattle.gp_node.specs.Phases.{IsReadyJob}
 

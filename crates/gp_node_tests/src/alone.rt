@@ -2,7 +2,7 @@
 ghost use Rattle.std.specs.Prelude.{◌≡◌, [], ◌∷◌, true, None, IfOk};
 ghost use Rattle.gp_msg.specs.Nodes.{is_present};
 ghost use Rattle.gp_wire.specs.Known.{records};
-ghost use Rattle.gp_rules.specs.Cores.{opening, part_in};
+ghost use Rattle.gp_cell.specs.Cores.{opening, part_in};
 ghost use Rattle.gp_cell.specs.Cells.{IsFreshLog};
 ghost use Rattle.gp_node_tests.specs.Alone.{IsAlone, IsNew};
 

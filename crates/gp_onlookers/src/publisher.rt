@@ -3,12 +3,11 @@ ghost use Rattle.std.specs.Prelude.{◌≡◌};
 ghost use Rattle.gp_views.specs.Lists.{Extends};
 
 use crate::catching::catch_up;
-use gp_cell::Cell;
+use gp_cell::{Cell, PaxosRules};
 use gp_edge::Disk;
 use gp_index::History;
 use gp_phase::Beside;
 use gp_replica::Replica;
-use gp_rules::PaxosRules;
 use gp_store::KeyStore;
 use gp_views::Feed;
 use gp_wire::Wire;

@@ -5,11 +5,10 @@ ghost use Rattle.gp_onlookers.specs.Looks.{look_after, cut_at, AreLooks};
 ghost use Rattle.gp_onlookers.specs.Steps.{HasLookedOnce};
 
 use crate::looks::Look;
-use gp_cell::Cell;
+use gp_cell::{Cell, PaxosRules};
 use gp_command::{Key, NoMemory};
 use gp_edge::Disk;
 use gp_phase::Beside;
-use gp_rules::PaxosRules;
 use gp_views::{Reader, Told};
 use gp_wire::Wire;
 use gp_work::Job;

@@ -11,8 +11,8 @@ use Rattle.gp_command.specs.declared.command.Command.{Command}
 use Rattle.gp_history.specs.History.{History, has, push}
 use Rattle.gp_round.specs.Rounds.{earlier, same_round, is_fast, is_multi}
 use Rattle.gp_round.specs.declared.round.Round.{Round}
-use Rattle.gp_safe.specs.Choice.{Reply}
-use Rattle.gp_safe.specs.Held.{newer}
+use Rattle.gp_coordinator.specs.State.{Reply}
+use Rattle.gp_acceptor.specs.Table.{newer}
 use Rattle.gp_msg.specs.Messages.{Message, Proposed, Asked, Answered, Sent, Voted}
 use Rattle.gp_coordinator.specs.State.{CoordinatorState}
 use Rattle.gp_coordinator.specs.Replies.{unanswered}

@@ -23,7 +23,7 @@ use Rattle.gp_learner.specs.Table.{learner_take}
 use Rattle.gp_run.specs.TopCount.{message_rounds, coordinator_rounds, acceptor_rounds, learner_rounds, rounds_below}
 use Rattle.gp_run.proofs.Counting.{AreUpTo, none_up_to, cons_up_to, head_up_to, append_up_to, left_up_to, right_up_to, below_up_to, up_to_below, up_to_each}
 use Rattle.gp_run.proofs.RoleRounds.{one_up_to, two_up_to, AcceptorIsUpTo, acceptor_takes, RepliesUpTo, no_rounds, coordinator_begins, coordinator_takes, learner_takes}
-use Rattle.gp_epoch.specs.Cut.{first_checkpoint}
+use Rattle.gp_learner.specs.Epochs.{first_checkpoint}
 use Rattle.gp_msg.specs.Messages.{Stamped, Offered, InEpoch, Final, EpochPart, Entry}
 use Rattle.gp_coordinator.specs.Epochs as coordinator
 use Rattle.gp_coordinator.specs.Epochs.{CoordinatorInEpoch}

@@ -3,7 +3,7 @@ use Rattle.std.specs.Prelude.{ℕ, zero, suc, List, [], ◌∷◌, ◌++◌, map
 use Rattle.std.specs.List.{flat_map}
 use Rattle.gp_round.specs.declared.round.Round.{Round}
 use Rattle.gp_round.specs.Counts.{Counts}
-use Rattle.gp_safe.specs.Choice.{Reply}
+use Rattle.gp_coordinator.specs.State.{Reply}
 use Rattle.gp_msg.specs.Messages.{Message, Proposed, Asked, Answered, Sent, Voted, Stamped, Offered, InEpoch, Final, Entry}
 use Rattle.gp_coordinator.specs.State.{CoordinatorState}
 use Rattle.gp_acceptor.specs.State.{AcceptorState}

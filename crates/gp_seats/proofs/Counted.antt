@@ -6,7 +6,7 @@ use Rattle.gp_command.specs.Views.{DraftView}
 use Rattle.gp_msg.specs.declared.node.Node.{Node}
 use Rattle.gp_wire.specs.Known.{WireState, records}
 use Rattle.gp_wire.specs.Lists.{Each, Has}
-use Rattle.gp_rules.specs.declared.rules.PaxosRules.{PaxosRules}
+use Rattle.gp_cell.specs.declared.rules.PaxosRules.{PaxosRules}
 use Rattle.gp_wire.specs.Own.{own, event_in}
 use Rattle.gp_work.specs.declared.job.Job.{Job}
 use Rattle.gp_work.specs.Doing.{posted}

@@ -14,9 +14,9 @@ use Rattle.gp_vlog.specs.Logs.{LogState}
 use Rattle.gp_wire.specs.Known.{WireState, records}
 use Rattle.gp_wire.specs.Lists.{Each}
 use Rattle.gp_edge.specs.Faults.{Rose}
-use Rattle.gp_rules.specs.declared.rules.PaxosRules.{PaxosRules}
+use Rattle.gp_cell.specs.declared.rules.PaxosRules.{PaxosRules}
 use Rattle.gp_wire.specs.Own.{own, own_events, event_in}
-use Rattle.gp_rules.specs.Cores.{opening, part_in}
+use Rattle.gp_cell.specs.Cores.{opening, part_in}
 use Rattle.gp_work.specs.declared.job.Job.{Job}
 use Rattle.gp_work.specs.declared.moves.Move.{Move}
 use Rattle.gp_work.specs.declared.moves.Move.TheVariants as move

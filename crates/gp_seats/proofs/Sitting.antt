@@ -11,8 +11,8 @@ use Rattle.gp_wire.specs.Lists.{Each, Has}
 use Rattle.gp_wire.specs.Known.{WireState, PassState, new_pass}
 use Rattle.gp_wire.specs.Fresh.{AreFresh}
 use Rattle.gp_work.specs.declared.job.Job.{Job}
-use Rattle.gp_rules.specs.declared.rules.PaxosRules.{PaxosRules}
-use Rattle.gp_rules.specs.Cores.{opening, part_in}
+use Rattle.gp_cell.specs.declared.rules.PaxosRules.{PaxosRules}
+use Rattle.gp_cell.specs.Cores.{opening, part_in}
 use Rattle.gp_cell.specs.Cells.{CellState, IsFreshLog, log_of}
 use Rattle.gp_wire.proofs.Words.{has_left, has_right}
 use Rattle.gp_seats.specs.declared.nodes.Role.{Role}

@@ -10,8 +10,8 @@ use Rattle.gp_work.specs.declared.moves.Move.TheVariants as move
 use Rattle.gp_work.specs.declared.job.Job.{Job}
 use Rattle.gp_work.specs.Doing.{Goes, Posted}
 use Rattle.gp_work.specs.Moves.{event_of}
-use Rattle.gp_rules.specs.declared.rules.PaxosRules.{PaxosRules}
-use Rattle.gp_rules.specs.Cores.{opening, part_in}
+use Rattle.gp_cell.specs.declared.rules.PaxosRules.{PaxosRules}
+use Rattle.gp_cell.specs.Cores.{opening, part_in}
 use Rattle.gp_cell.specs.Cells.{CellState, Keeps}
 use Rattle.gp_cell.specs.Working.{process_of, IsAt, is_up}
 

@@ -8,8 +8,8 @@ use Rattle.gp_msg.specs.Nodes.{is_present}
 use Rattle.gp_vlog.specs.Logs.{LogState}
 use Rattle.gp_wire.specs.Known.{WireState, PassState, new_pass}
 use Rattle.gp_work.specs.declared.job.Job.{Job}
-use Rattle.gp_rules.specs.declared.rules.PaxosRules.{PaxosRules}
-use Rattle.gp_rules.specs.Cores.{opening, part_in}
+use Rattle.gp_cell.specs.declared.rules.PaxosRules.{PaxosRules}
+use Rattle.gp_cell.specs.Cores.{opening, part_in}
 use Rattle.gp_cell.specs.Cells.{CellState, cell_of, IsFreshLog, log_of}
 use Rattle.gp_cell.specs.Working.{process_of, IsAt}
 use Rattle.gp_phase.specs.Phases.{IsNew}

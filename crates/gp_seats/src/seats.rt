@@ -1,7 +1,7 @@
 //! Jobs of nodes to which nothing has happened.
 ghost use Rattle.std.specs.Prelude.{◌≡◌, ◌≤◌, ◌+◌, ◌++◌, length, reverse, vec_capacity, IfOk, IfErr};
 ghost use Rattle.std.specs.Option.{option_to_list};
-ghost use Rattle.gp_rules.specs.Cores.{opening, part_in};
+ghost use Rattle.gp_cell.specs.Cores.{opening, part_in};
 ghost use Rattle.gp_cell.specs.Cells.{IsFreshLog, log_of};
 ghost use Rattle.gp_seats.specs.Seats.{CanSit, IsUnused, first_log, logs_in, seat, seats};
 

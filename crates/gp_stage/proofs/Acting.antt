@@ -9,7 +9,7 @@ use Rattle.gp_work.specs.declared.moves.Move.TheVariants.{Offer, Begin, Take}
 use Rattle.gp_work.specs.declared.faults.StepFault.{StepFault}
 use Rattle.gp_work.specs.Moves.{event_of, Fits, HasRoom}
 use Rattle.gp_wire.specs.Own.{own}
-use Rattle.gp_rules.specs.declared.rules.PaxosRules.{PaxosRules}
+use Rattle.gp_cell.specs.declared.rules.PaxosRules.{PaxosRules}
 use Rattle.gp_cell.specs.Cells.{CellState, PostsOne}
 use Rattle.gp_cell.specs.Passing.{GoesOn, posts_in}
 use Rattle.gp_cell.specs.Refusals.{CountsFaults, StepCause, faults_of, limit_of}

@@ -11,9 +11,9 @@ use Rattle.gp_wire.specs.Rule.{Begins, IsForeign, items}
 use Rattle.gp_wire.specs.Known.{WireState, records, old_of}
 use Rattle.gp_wire.specs.Ends.{AreOf, IsHeld, AllBegin, Closed}
 use Rattle.gp_wire.proofs.Words.{each_back}
-use Rattle.gp_rules.specs.declared.rules.PaxosRules.{PaxosRules}
+use Rattle.gp_cell.specs.declared.rules.PaxosRules.{PaxosRules}
 use Rattle.gp_cell.specs.Cells.{CellState, pass_of}
-use Rattle.gp_node.specs.Endings.{AreAllCells}
+use Rattle.gp_cell.specs.Endings.{AreAllCells}
 use Rattle.gp_stage.specs.Kept.{AreHeld}
 use Rattle.gp_stage.proofs.Places.{same_value}
 

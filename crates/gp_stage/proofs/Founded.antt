@@ -11,9 +11,9 @@ use Rattle.gp_run.specs.TopCount.{top_of_messages}
 use Rattle.gp_wire.specs.Lists.{Each, Has}
 use Rattle.gp_wire.specs.Known.{WireState, HoldsAll, records}
 use Rattle.gp_msg.specs.Records.{messages_in}
-use Rattle.gp_rules.specs.declared.rules.PaxosRules.{PaxosRules}
+use Rattle.gp_cell.specs.declared.rules.PaxosRules.{PaxosRules}
 use Rattle.gp_cell.specs.Cells.{CellState, IsSameBut}
-use Rattle.gp_node.specs.Endings.{AreAllCells}
+use Rattle.gp_cell.specs.Endings.{AreAllCells}
 use Rattle.gp_stage.specs.Held.{AreAllNodes, AreCellsOf, seen_by}
 use Rattle.gp_stage.specs.Gathered.{AreBehind, AreGathered, AreSameBut, HasLooked}
 use Rattle.gp_stage.specs.Kept.{IsKept}

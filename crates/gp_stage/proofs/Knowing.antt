@@ -14,10 +14,10 @@ use Rattle.gp_run.proofs.Telling.{messages-entries}
 use Rattle.gp_world.proofs.Showing.{tops-append}
 use Rattle.gp_msg.specs.Records.{messages_in}
 use Rattle.gp_wire.proofs.SameNodes.{same_tells}
-use Rattle.gp_rules.specs.Still.{entries_append}
-use Rattle.gp_rules.specs.declared.roles.Core.{Core}
-use Rattle.gp_rules.specs.Cores.{acts, core_at, part_in}
-use Rattle.gp_rules.specs.Lawful.{IsLawful}
+use Rattle.gp_cell.specs.Still.{entries_append}
+use Rattle.gp_cell.specs.declared.roles.Core.{Core}
+use Rattle.gp_cell.specs.Cores.{acts, core_at, part_in}
+use Rattle.gp_cell.specs.Lawful.{IsLawful}
 use Rattle.gp_cell.proofs.Acting.{core_role}
 use Rattle.gp_wire.proofs.Placing.{messages-push}
 use Rattle.gp_stage.specs.Tops.{top_in}

@@ -10,7 +10,7 @@ use Rattle.gp_msg.specs.Messages.{EpochPart, part_of}
 use Rattle.gp_vlog.specs.Logs.{LogState, last}
 use Rattle.gp_run.specs.Runs.{newest_first}
 use Rattle.gp_wire.specs.Known.{records}
-use Rattle.gp_rules.specs.Cores.{opening, core_at, part_in}
+use Rattle.gp_cell.specs.Cores.{opening, core_at, part_in}
 use Rattle.gp_cell.specs.Cells.{CellState, Keeps, last_or, last_entry}
 use Rattle.gp_cell.proofs.Lasting.{last_there}
 use Rattle.gp_stage.specs.Held.{AreUp}

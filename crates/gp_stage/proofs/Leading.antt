@@ -13,10 +13,10 @@ use Rattle.gp_run.specs.Runs.{newest_first}
 use Rattle.gp_run.specs.States.{coordinator_at}
 use Rattle.gp_run.specs.TopCount.{rounds_below, greatest_count, top_of_coordinators}
 use Rattle.gp_wire.specs.Known.{WireState, records}
-use Rattle.gp_rules.specs.declared.rules.PaxosRules.{PaxosRules}
-use Rattle.gp_rules.specs.Cores.{core_at, part_in}
-use Rattle.gp_rules.specs.Still.{core_still, entries_append}
-use Rattle.gp_rules.proofs.Runs.{core_is}
+use Rattle.gp_cell.specs.declared.rules.PaxosRules.{PaxosRules}
+use Rattle.gp_cell.specs.Cores.{core_at, part_in}
+use Rattle.gp_cell.specs.Still.{core_still, entries_append}
+use Rattle.gp_cell.proofs.Runs.{core_is}
 use Rattle.gp_cell.specs.Cells.{CellState}
 use Rattle.gp_cell.proofs.Posting.{nothing_own}
 use Rattle.gp_world.proofs.Showing.{greatest-append}

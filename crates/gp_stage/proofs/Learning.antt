@@ -9,8 +9,8 @@ use Rattle.gp_wire.specs.Lists.{Has}
 use Rattle.gp_wire.specs.Known.{WireState, PassState, HoldsAll, records}
 use Rattle.gp_msg.specs.Records.{messages_in}
 use Rattle.gp_wire.specs.Passes.{HadTurn, nothing}
-use Rattle.gp_rules.specs.declared.rules.PaxosRules.{PaxosRules}
-use Rattle.gp_rules.specs.Cores.{core_at, part_in}
+use Rattle.gp_cell.specs.declared.rules.PaxosRules.{PaxosRules}
+use Rattle.gp_cell.specs.Cores.{core_at, part_in}
 use Rattle.gp_cell.specs.Cells.{CellState, IsSameBut}
 use Rattle.gp_cell.specs.Passing.{GoesOn}
 use Rattle.gp_cell.proofs.Going.{later_goes}

@@ -16,7 +16,7 @@ use Rattle.gp_wire.specs.Passes.{met, spent}
 use Rattle.gp_wire.proofs.Words.{has_left, has_right}
 use Rattle.gp_wire.specs.Own.{own, IsBehind}
 use Rattle.gp_wire.proofs.OwnRecords.{own_append, own_foreign}
-use Rattle.gp_rules.specs.declared.rules.PaxosRules.{PaxosRules}
+use Rattle.gp_cell.specs.declared.rules.PaxosRules.{PaxosRules}
 use Rattle.gp_cell.specs.Cells.{CellState, OwnLawful}
 use Rattle.gp_cell.specs.Working.{IsAt}
 use Rattle.gp_cell.proofs.Lawfully.{lawful_more}

@@ -22,10 +22,10 @@ use Rattle.gp_wire.specs.Passes.{met, spent}
 use Rattle.gp_wire.proofs.Words.{has_right}
 use Rattle.gp_wire.specs.Own.{own, IsBehind}
 use Rattle.gp_wire.proofs.SameNodes.{same_tells}
-use Rattle.gp_rules.specs.Still.{entries_append}
-use Rattle.gp_rules.specs.declared.rules.PaxosRules.{PaxosRules}
-use Rattle.gp_rules.specs.Lawful.{IsLawful}
-use Rattle.gp_rules.proofs.Runs.{lawful_follows}
+use Rattle.gp_cell.specs.Still.{entries_append}
+use Rattle.gp_cell.specs.declared.rules.PaxosRules.{PaxosRules}
+use Rattle.gp_cell.specs.Lawful.{IsLawful}
+use Rattle.gp_cell.proofs.Runs.{lawful_follows}
 use Rattle.gp_cell.specs.Cells.{CellState, PostsOne, IsHeldBy}
 use Rattle.gp_cell.specs.Passing.{GoesOn}
 use Rattle.gp_stage.specs.Held.{with_pass, AreCellsOf}

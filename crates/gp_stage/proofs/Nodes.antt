@@ -14,7 +14,7 @@ use Rattle.gp_work.specs.declared.faults.StepFault.{StepFault}
 use Rattle.gp_work.specs.declared.faults.StepFault.TheVariants as step
 use Rattle.gp_wire.specs.Own.{own, own_events, event_in}
 use Rattle.gp_wire.proofs.OwnRecords.{own_append}
-use Rattle.gp_rules.specs.declared.rules.PaxosRules.{PaxosRules}
+use Rattle.gp_cell.specs.declared.rules.PaxosRules.{PaxosRules}
 use Rattle.gp_cell.specs.Cells.{CellState}
 use Rattle.gp_cell.specs.Refusals.{FailsByDisk, faults_of, limit_of}
 use Rattle.gp_edge.specs.Faults as edge

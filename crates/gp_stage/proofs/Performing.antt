@@ -26,7 +26,7 @@ use Rattle.gp_work.specs.declared.moves.Move.TheVariants.{Offer, Begin, Take}
 use Rattle.gp_work.specs.declared.faults.StepFault.{StepFault}
 use Rattle.gp_work.specs.declared.faults.StepFault.TheVariants.{Waiting, NoMemory, Disk, Full}
 use Rattle.gp_work.specs.Moves.{event_of, Fits}
-use Rattle.gp_rules.specs.declared.rules.PaxosRules.{PaxosRules}
+use Rattle.gp_cell.specs.declared.rules.PaxosRules.{PaxosRules}
 use Rattle.gp_cell.specs.Cells.{CellState}
 use Rattle.gp_cell.specs.Refusals.{FailsByDisk, IsTooGreat, faults_of}
 use Rattle.gp_stage.specs.Held.{HasCell, AreUp, IsTooGreatIn, capped, disk_faults, seen_by}

@@ -10,8 +10,8 @@ use Rattle.gp_wire.specs.declared.view.Post.{Post}
 use Rattle.gp_wire.specs.Lists.{Each, Has}
 use Rattle.gp_wire.specs.Legal.{LegalFrom}
 use Rattle.gp_wire.specs.Rule.{items}
-use Rattle.gp_rules.specs.Lawful.{IsLawful, paxos_legal}
-use Rattle.gp_rules.proofs.Runs.{legal_run}
+use Rattle.gp_cell.specs.Lawful.{IsLawful, paxos_legal}
+use Rattle.gp_cell.proofs.Runs.{legal_run}
 use Rattle.gp_cell.specs.Cells.{OwnLawful}
 
 abbrev first_or : Record → List Record → Record

@@ -28,9 +28,9 @@ use Rattle.gp_command.specs.declared.command.Command.{Command}
 use Rattle.gp_learner.specs.Table as learner_table
 use Rattle.gp_learner.specs.Epochs as learner
 use Rattle.gp_learner.specs.Epochs.{LearnerInEpoch}
-use Rattle.gp_rules.specs.declared.roles.Core.{Core}
-use Rattle.gp_rules.specs.declared.roles.Core.TheVariants.{Proposer, Coordinator, Acceptor, Learner}
-use Rattle.gp_rules.specs.Cores.{acts, part_in}
+use Rattle.gp_cell.specs.declared.roles.Core.{Core}
+use Rattle.gp_cell.specs.declared.roles.Core.TheVariants.{Proposer, Coordinator, Acceptor, Learner}
+use Rattle.gp_cell.specs.Cores.{acts, part_in}
 use Rattle.gp_cell.specs.Plans.{HasRole}
 use Rattle.gp_round.proofs.Counting.{left_true}
 use Rattle.gp_round.proofs.Orders.{same_round_is}

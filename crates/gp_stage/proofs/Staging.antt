@@ -7,7 +7,7 @@ use Rattle.gp_round.specs.Counts.{Counts}
 use Rattle.gp_msg.specs.declared.node.Node.{Node}
 use Rattle.gp_wire.specs.Lists.{Each, Has}
 use Rattle.gp_wire.specs.Known.{WireState, PassState, records}
-use Rattle.gp_rules.specs.declared.rules.PaxosRules.{PaxosRules}
+use Rattle.gp_cell.specs.declared.rules.PaxosRules.{PaxosRules}
 use Rattle.gp_cell.specs.Cells.{CellState, IsSameBut, OwnLawful}
 use Rattle.gp_stage.specs.Held.{AreAllNodes, AreCellsOf}
 use Rattle.gp_stage.specs.Gathered.{AreGathered, AreSameBut, HasLooked, IsPlaced, rest_of}

@@ -21,8 +21,8 @@ use Rattle.gp_work.specs.declared.moves.Move.TheVariants.{Offer, Begin, Take}
 use Rattle.gp_work.specs.declared.faults.StepFault.{StepFault}
 use Rattle.gp_work.specs.declared.faults.StepFault.TheVariants.{Waiting, NoMemory, Disk, Full}
 use Rattle.gp_work.specs.Moves.{event_of, Fits, IsBeyond}
-use Rattle.gp_rules.specs.Lawful.{IsLawful}
-use Rattle.gp_rules.specs.declared.rules.PaxosRules.{PaxosRules}
+use Rattle.gp_cell.specs.Lawful.{IsLawful}
+use Rattle.gp_cell.specs.declared.rules.PaxosRules.{PaxosRules}
 use Rattle.gp_cell.specs.Cells.{CellState, PostsOne}
 use Rattle.gp_cell.specs.Passing.{GoesOn}
 use Rattle.gp_cell.specs.Refusals.{CountsFaults, StepCause, faults_of, limit_of}

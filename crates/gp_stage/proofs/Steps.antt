@@ -19,7 +19,7 @@ use Rattle.gp_work.specs.declared.moves.Move.{Move}
 use Rattle.gp_work.specs.declared.faults.StepFault.{StepFault}
 use Rattle.gp_work.specs.declared.faults.StepFault.TheVariants.{NoMemory, Full}
 use Rattle.gp_work.specs.Moves.{event_of}
-use Rattle.gp_rules.specs.declared.rules.PaxosRules.{PaxosRules}
+use Rattle.gp_cell.specs.declared.rules.PaxosRules.{PaxosRules}
 use Rattle.gp_cell.specs.Cells.{CellState}
 use Rattle.gp_stage.specs.Held.{HeldCells, AreUp, IsTooGreatIn, capped, disk_faults, seen_by, stage_node}
 use Rattle.gp_stage.specs.Gathered.{AreSameBut}

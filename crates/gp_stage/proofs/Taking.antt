@@ -3,7 +3,7 @@ use Rattle.std.proofs.Common.{◌≡◌, ℕ, List, length, refl, sym, ap, ◌�
 use Rattle.std.proofs.lemmas.List.{length-map}
 use Rattle.gp_stage.specs.Gathered.{AreSameBut, rest_of}
 use Rattle.gp_wire.specs.Known.{WireState}
-use Rattle.gp_rules.specs.declared.rules.PaxosRules.{PaxosRules}
+use Rattle.gp_cell.specs.declared.rules.PaxosRules.{PaxosRules}
 use Rattle.gp_cell.specs.Cells.{CellState}
 use Rattle.gp_stage.specs.Kept.{AreHeld}
 use Rattle.gp_stage.specs.Played.{HasTakenOver}

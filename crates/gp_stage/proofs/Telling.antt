@@ -16,7 +16,7 @@ use Rattle.gp_driver.specs.Kinds.{kind_of}
 use Rattle.gp_driver.proofs.Worlds.{kind_told}
 use Rattle.gp_wire.specs.Known.{WireState, records, record_of}
 use Rattle.gp_msg.specs.Records.{messages_in}
-use Rattle.gp_rules.specs.declared.rules.PaxosRules.{PaxosRules}
+use Rattle.gp_cell.specs.declared.rules.PaxosRules.{PaxosRules}
 use Rattle.gp_cell.specs.Cells.{CellState}
 use Rattle.gp_stage.specs.declared.settling.TheConstants.{MOST_ENTRIES, MOST_ROUNDS}
 use Rattle.gp_stage.specs.Held.{seen_by}

@@ -5,13 +5,13 @@ use Rattle.gp_msg.specs.declared.node.Node.{Node}
 use Rattle.gp_msg.specs.declared.record.Record.{Record}
 use Rattle.gp_vlog.specs.Logs.{LogState}
 use Rattle.gp_work.specs.declared.moves.Move.{Move}
-use Rattle.gp_rules.specs.declared.roles.Core.{Core}
+use Rattle.gp_cell.specs.declared.roles.Core.{Core}
 use Rattle.gp_wire.specs.Lists.{Has}
 use Rattle.gp_wire.specs.Rule.{Begins}
 use Rattle.gp_wire.specs.Known.{WireState, PassState, records, old_of}
 use Rattle.gp_wire.specs.Passes.{met, spent}
 use Rattle.gp_wire.specs.Own.{IsBehind}
-use Rattle.gp_rules.specs.declared.rules.PaxosRules.{PaxosRules}
+use Rattle.gp_cell.specs.declared.rules.PaxosRules.{PaxosRules}
 use Rattle.gp_cell.specs.Cells.{CellState, OwnLawful}
 use Rattle.gp_stage.specs.Held.{with_pass}
 

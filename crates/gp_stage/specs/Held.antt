@@ -10,7 +10,7 @@ use Rattle.gp_run.specs.Runs.{newest_first}
 use Rattle.gp_wire.specs.Lists.{Has}
 use Rattle.gp_wire.specs.Known.{WireState, PassState, records}
 use Rattle.gp_wire.specs.Own.{own_events}
-use Rattle.gp_rules.specs.declared.rules.PaxosRules.{PaxosRules}
+use Rattle.gp_cell.specs.declared.rules.PaxosRules.{PaxosRules}
 use Rattle.gp_cell.specs.Cells.{CellState, cell_of}
 use Rattle.gp_cell.specs.Refusals.{IsTooGreat, faults_of, limit_of}
 use Rattle.gp_cell.specs.Working.{IsAt}

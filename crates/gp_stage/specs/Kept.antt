@@ -11,7 +11,7 @@ use Rattle.gp_run.specs.TopCount.{top_count, top_of_messages}
 use Rattle.gp_wire.specs.Lists.{Has}
 use Rattle.gp_wire.specs.Known.{WireState, records}
 use Rattle.gp_msg.specs.Records.{messages_in}
-use Rattle.gp_rules.specs.declared.rules.PaxosRules.{PaxosRules}
+use Rattle.gp_cell.specs.declared.rules.PaxosRules.{PaxosRules}
 use Rattle.gp_cell.specs.Cells.{CellState}
 use Rattle.gp_stage.specs.Held.{AreAllNodes, AreCellsOf, seen_by}
 use Rattle.gp_stage.specs.Gathered.{AreBehind, IsPlaced}

@@ -18,8 +18,8 @@ use Rattle.gp_work.specs.declared.faults.StepFault.TheVariants.{Waiting, NoMemor
 use Rattle.gp_work.specs.Moves.{event_of, Fits}
 use Rattle.gp_driver.specs.declared.stage.StageFault.{StageFault}
 use Rattle.gp_driver.specs.declared.stage.StageFault.TheVariants as stage
-use Rattle.gp_rules.specs.Lawful.{IsLawful}
-use Rattle.gp_rules.specs.declared.rules.PaxosRules.{PaxosRules}
+use Rattle.gp_cell.specs.Lawful.{IsLawful}
+use Rattle.gp_cell.specs.declared.rules.PaxosRules.{PaxosRules}
 use Rattle.gp_cell.specs.Cells.{CellState}
 use Rattle.gp_cell.specs.Refusals.{CountsFaults, IsTooGreat, faults_of, limit_of}
 use Rattle.gp_stage.specs.Held.{seen_by}

@@ -5,7 +5,7 @@ use Rattle.gp_msg.specs.declared.node.Node.TheVariants.{Proposer, Coordinator, A
 use Rattle.gp_msg.specs.Messages.{Part, Acceptors, Coordinators, EpochPart}
 use Rattle.gp_run.specs.Runs.{newest_first}
 use Rattle.gp_wire.specs.Known.{records}
-use Rattle.gp_rules.specs.Cores.{core_at, part_in}
+use Rattle.gp_cell.specs.Cores.{core_at, part_in}
 use Rattle.gp_cell.specs.Cells.{CellState}
 
 -- the greatest count of the rounds in a durable part

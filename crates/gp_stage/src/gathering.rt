@@ -4,9 +4,8 @@ ghost use Rattle.gp_cell.specs.Cells.{CellState, IsHeldBy};
 ghost use Rattle.gp_stage.specs.Held.{AreReady};
 ghost use Rattle.gp_stage.specs.Gathered.{AreGathered, HasMet};
 
-use gp_cell::Cell;
+use gp_cell::{Cell, PaxosRules};
 use gp_edge::Disk;
-use gp_rules::PaxosRules;
 use gp_wire::Wire;
 
 /// The cell at one place takes over the nodes that the pass of the cell at the other place holds.

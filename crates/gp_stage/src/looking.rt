@@ -10,11 +10,10 @@ ghost use Rattle.gp_cell.specs.Cells.{IsSameBut};
 ghost use Rattle.gp_stage.specs.Gathered.{HasLooked};
 
 use crate::tops::top_of_message;
-use gp_cell::Cell;
+use gp_cell::{Cell, PaxosRules};
 use gp_command::NoMemory;
 use gp_edge::Disk;
 use gp_msg::MsgKind;
-use gp_rules::PaxosRules;
 use gp_wire::Wire;
 use std::alloc::Global;
 use std::sync::Wait;

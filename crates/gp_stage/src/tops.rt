@@ -4,7 +4,7 @@ ghost use Rattle.gp_msg.specs.Messages.{message_of, part_of};
 ghost use Rattle.gp_run.specs.TopCount.{rounds_of, greatest_count};
 ghost use Rattle.gp_run.specs.Runs.{newest_first};
 ghost use Rattle.gp_wire.specs.Known.{records};
-ghost use Rattle.gp_rules.specs.Cores.{core_at, part_in};
+ghost use Rattle.gp_cell.specs.Cores.{core_at, part_in};
 ghost use Rattle.gp_stage.specs.Held.{AreUp};
 ghost use Rattle.gp_stage.specs.Tops.{AreTrue, coordinator_top, top_of_part, top_in, top_of_cells};
 

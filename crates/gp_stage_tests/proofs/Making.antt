@@ -10,7 +10,7 @@ use Rattle.gp_msg.specs.Nodes.{is_present}
 use Rattle.gp_wire.specs.Lists.{Each, Has, IsDistinct}
 use Rattle.gp_wire.specs.Known.{WireState, PassState}
 use Rattle.gp_wire.specs.Fresh.{AreFresh}
-use Rattle.gp_rules.specs.declared.rules.PaxosRules.{PaxosRules}
+use Rattle.gp_cell.specs.declared.rules.PaxosRules.{PaxosRules}
 use Rattle.gp_cell.specs.Cells.{CellState}
 use Rattle.gp_cell.specs.Working.{IsAt}
 use Rattle.gp_stage.specs.Held.{AreAllNodes, AreCellsOf, AreReady, HasCell}

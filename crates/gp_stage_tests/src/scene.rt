@@ -4,7 +4,7 @@ ghost use Rattle.gp_msg.specs.Nodes.{is_present};
 ghost use Rattle.gp_wire.specs.Known.{records};
 ghost use Rattle.gp_wire.specs.Fresh.{AreFresh};
 ghost use Rattle.gp_wire.specs.Own.{own};
-ghost use Rattle.gp_rules.specs.Cores.{opening, part_in};
+ghost use Rattle.gp_cell.specs.Cores.{opening, part_in};
 ghost use Rattle.gp_cell.specs.Cells.{IsFreshLog};
 ghost use Rattle.gp_cell.specs.Working.{IsAt};
 ghost use Rattle.gp_stage.specs.Held.{AreAllNodes, AreReady};

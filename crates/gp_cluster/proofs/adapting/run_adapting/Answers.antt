@@ -9,7 +9,7 @@ use Rattle.gp_caller.specs.Adapting.{IsAdapted}
 use Rattle.gp_ending.specs.Working.{IsCarriedJob, RestsAfter}
 use Rattle.gp_ending.proofs.Carrying.{carried_on}
 use Rattle.gp_ending.proofs.Resting.{rests_on, ready_again}
-use Rattle.gp_closing.specs.Cells.{LogGoes}
+use Rattle.gp_cluster.specs.Cells.{LogGoes}
 use Rattle.gp_cluster.specs.declared.policy.RoundPolicy.TheVariants.{Adaptive}
 use Rattle.gp_cluster.specs.Seated.{IsCarriedRun, logs_in}
 use Rattle.gp_cluster.proofs.Sitting as sitting

@@ -4,9 +4,9 @@ use Rattle.gp_cell.specs.Cells.{CellState}
 use Rattle.gp_ending.specs.Ended.{cells_of}
 use Rattle.gp_shelf.specs.Lists.{HasRoomFor}
 use Rattle.gp_stage.specs.Held.{AreUp}
-use Rattle.gp_closing.specs.Cells.{AreCellsAt, logs_of}
-use Rattle.gp_closing.specs.Closing.{Leaves}
-use Rattle.gp_closing.proofs.Going.{logs_go}
+use Rattle.gp_cluster.specs.Cells.{AreCellsAt, logs_of}
+use Rattle.gp_cluster.specs.Closing.{Leaves}
+use Rattle.gp_cluster.proofs.Going.{logs_go}
 use Rattle.gp_cluster.proofs.Sitting as sitting
 use Rattle.gp_cluster.proofs.Outcome as outcome
 use Rattle.gp_cluster.proofs.Finishing as finishing

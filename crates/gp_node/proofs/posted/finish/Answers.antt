@@ -2,7 +2,7 @@ use Rattle.std.proofs.Common.{sym, subst}
 use Rattle.gp_msg.specs.declared.node.Node.{Node}
 use Rattle.gp_wire.specs.Lists.{Has}
 use Rattle.gp_wire.specs.Ends.{IsHeld}
-use Rattle.gp_rules.proofs.Runs.{legal_run}
+use Rattle.gp_cell.proofs.Runs.{legal_run}
 use Rattle.gp_node.proofs.posted.finish.Goals as goal
 
 pub close-records-requires-clause-all : goal.close-records-requires-clause-all

@@ -1,5 +1,5 @@
 use Rattle.std.proofs.Common.{◌≡◌, length, sym, subst, ap, ◌∙◌, arith, rules}
-use Rattle.gp_rules.specs.declared.rules.PaxosRules.{PaxosRules}
+use Rattle.gp_cell.specs.declared.rules.PaxosRules.{PaxosRules}
 use Rattle.gp_wire.specs.Lists.{IsDistinct}
 use Rattle.gp_seats.specs.Nodes.{all_nodes, proposer_nodes}
 use Rattle.gp_seats.specs.Seats.{CanSit, new_passes, seats}

@@ -1,6 +1,6 @@
 use Rattle.std.proofs.Common.{sym, ap, ◌∙◌}
 use Rattle.std.specs.Option.{option_copied}
-use Rattle.gp_rules.specs.Cores.{part_in}
+use Rattle.gp_cell.specs.Cores.{part_in}
 use Rattle.gp_stage.proofs.Lasting.{top_last, top_none}
 use Rattle.gp_stage.proofs.tops.top_of_cell.Goals as goal
 

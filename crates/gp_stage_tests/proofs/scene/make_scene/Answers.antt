@@ -1,7 +1,7 @@
 use Rattle.std.proofs.Common.{sym, ap, subst}
 use Rattle.gp_wire.specs.Fresh.{AreFresh}
 use Rattle.gp_wire.specs.Lists.{IsDistinct}
-use Rattle.gp_rules.specs.declared.rules.PaxosRules.{PaxosRules}
+use Rattle.gp_cell.specs.declared.rules.PaxosRules.{PaxosRules}
 use Rattle.gp_stage.specs.Held.{AreAllNodes}
 use Rattle.gp_stage_tests.proofs.Making.{cells_of, three, three_distinct, three_nodes}
 use Rattle.gp_stage_tests.proofs.scene.make_scene.Goals as goal

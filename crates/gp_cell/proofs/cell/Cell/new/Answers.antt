@@ -1,4 +1,4 @@
-use Rattle.gp_rules.specs.Cores.{opening, part_in}
+use Rattle.gp_cell.specs.Cores.{opening, part_in}
 use Rattle.gp_cell.proofs.Posting.{sound_new}
 use Rattle.gp_cell.proofs.cell.Cell.new.Goals as goal
 

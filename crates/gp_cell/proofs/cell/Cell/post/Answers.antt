@@ -5,8 +5,8 @@ use Rattle.gp_run.specs.Runs.{newest_first}
 use Rattle.gp_wire.specs.Lists.{Has}
 use Rattle.gp_wire.specs.Known.{HoldsAll, records}
 use Rattle.gp_wire.specs.Own.{own}
-use Rattle.gp_rules.specs.Cores.{opening, acts, part_in}
-use Rattle.gp_rules.specs.Lawful.{IsLawful}
+use Rattle.gp_cell.specs.Cores.{opening, acts, part_in}
+use Rattle.gp_cell.specs.Lawful.{IsLawful}
 use Rattle.gp_cell.specs.Cells.{CellState, Keeps, PostsOne}
 use Rattle.gp_cell.proofs.Reading.{own_later, sound_later}
 use Rattle.gp_cell.proofs.Posting.{had_later, posts_one, sound_posted, count_within}

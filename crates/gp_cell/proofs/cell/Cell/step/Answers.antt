@@ -1,5 +1,5 @@
 use Rattle.std.proofs.Common.{◌≡◌, arith, sym, subst, ap, ◌∙◌}
-use Rattle.gp_rules.specs.Cores.{opening, part_in}
+use Rattle.gp_cell.specs.Cores.{opening, part_in}
 use Rattle.gp_wire.specs.Known.{records}
 use Rattle.gp_wire.specs.Own.{own}
 use Rattle.gp_work.specs.Moves.{event_of}

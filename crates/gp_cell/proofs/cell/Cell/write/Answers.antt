@@ -1,7 +1,7 @@
 use Rattle.std.proofs.Common.{◌≡◌, ◌≢◌, sym, subst, ap, ◌∙◌, Some}
 use Rattle.std.specs.Prelude.{IfSome, IfErr, OnOk}
 use Rattle.gp_msg.specs.Messages.{EpochPart, part_of}
-use Rattle.gp_rules.specs.Cores.{opening, part_in}
+use Rattle.gp_cell.specs.Cores.{opening, part_in}
 use Rattle.gp_work.proofs.Results.{on_ok}
 use Rattle.gp_cell.specs.Plans.{HasRole}
 use Rattle.gp_cell.specs.Cells.{CellState, cell_of, Keeps}

@@ -1,5 +1,5 @@
 use Rattle.std.proofs.Common.{sym, ap, ◌∙◌, subst}
-use Rattle.gp_rules.specs.Lawful.{paxos_legal}
+use Rattle.gp_cell.specs.Lawful.{paxos_legal}
 use Rattle.gp_stage.specs.Held.{HeldCells, whole_list}
 use Rattle.gp_stage.specs.Kept.{AreHeld}
 use Rattle.gp_stage.proofs.Keeping.{list_of_lead}

@@ -1,7 +1,0 @@
-use Rattle.std.proofs.Common.{take}
-use Rattle.std.specs.List.{All}
-use Rattle.gp_closing.specs.Cells.{HasLearned}
-use Rattle.gp_closing.proofs.gathering.have_learned.Given as goal
-
-abbrev pub invariant-loop-cell : goal.invariant-loop-cell
-invariant-loop-cell g l = All (HasLearned l.commands) (take l.cell-index l.cells)

@@ -1,4 +1,0 @@
-pub mod Drafts
-pub mod Sent
-pub mod Scripts
-pub mod Holding

@@ -1,3 +1,0 @@
-pub mod Cores
-pub mod Lawful
-pub mod Still
