@@ -34,35 +34,42 @@ fn are_refused<W: Threads + Wait + Sync>(
     Ok(ran.status == 2 && ran.trail.records().is_empty() && sink.written() == USAGE)
 }
 
+// Words that name no subcommand, or one with other words than it takes.
+static UNKNOWN: [&'static [&'static str]; 26] = [
+    &[],
+    &["play", "now"],
+    &["run", "63"],
+    &["run", "67108865"],
+    &["run", "064"],
+    &["run", "64", "64"],
+    &["log", "12"],
+    &["upgrade", "12"],
+    &["log", "00"],
+    &["sim", "0"],
+    &["sim", "1", "0"],
+    &["sim", "1", "257"],
+    &["drive", "8", "1", "1"],
+    &["drive", "3", "5", "1"],
+    &["drive", "3", "1", "65"],
+    &["audit", "x"],
+    &["Audit"],
+    &["bank", "x"],
+    &["bank", "0"],
+    &["Bank"],
+    &["views"],
+    &["views", "A"],
+    &["views", ""],
+    &["views", "a", "a"],
+    &["Play"],
+    &["--help"],
+];
+
 #[test]
 fn unknown_words_print_the_usage(rt: HostRuntime) -> Result<(), Fail> {
     let alloc = rt.alloc();
-    assert!(rt; are_refused(&rt, alloc, &[])?);
-    assert!(rt; are_refused(&rt, alloc, &["play", "now"])?);
-    assert!(rt; are_refused(&rt, alloc, &["run", "63"])?);
-    assert!(rt; are_refused(&rt, alloc, &["run", "67108865"])?);
-    assert!(rt; are_refused(&rt, alloc, &["run", "064"])?);
-    assert!(rt; are_refused(&rt, alloc, &["run", "64", "64"])?);
-    assert!(rt; are_refused(&rt, alloc, &["log", "12"])?);
-    assert!(rt; are_refused(&rt, alloc, &["upgrade", "12"])?);
-    assert!(rt; are_refused(&rt, alloc, &["log", "00"])?);
-    assert!(rt; are_refused(&rt, alloc, &["sim", "0"])?);
-    assert!(rt; are_refused(&rt, alloc, &["sim", "1", "0"])?);
-    assert!(rt; are_refused(&rt, alloc, &["sim", "1", "257"])?);
-    assert!(rt; are_refused(&rt, alloc, &["drive", "8", "1", "1"])?);
-    assert!(rt; are_refused(&rt, alloc, &["drive", "3", "5", "1"])?);
-    assert!(rt; are_refused(&rt, alloc, &["drive", "3", "1", "65"])?);
-    assert!(rt; are_refused(&rt, alloc, &["audit", "x"])?);
-    assert!(rt; are_refused(&rt, alloc, &["Audit"])?);
-    assert!(rt; are_refused(&rt, alloc, &["bank", "x"])?);
-    assert!(rt; are_refused(&rt, alloc, &["bank", "0"])?);
-    assert!(rt; are_refused(&rt, alloc, &["Bank"])?);
-    assert!(rt; are_refused(&rt, alloc, &["views"])?);
-    assert!(rt; are_refused(&rt, alloc, &["views", "A"])?);
-    assert!(rt; are_refused(&rt, alloc, &["views", ""])?);
-    assert!(rt; are_refused(&rt, alloc, &["views", "a", "a"])?);
-    assert!(rt; are_refused(&rt, alloc, &["Play"])?);
-    assert!(rt; are_refused(&rt, alloc, &["--help"])?);
+    for words in &UNKNOWN {
+        assert!(rt; are_refused(&rt, alloc, words)?);
+    }
     Ok(())
 }
 
