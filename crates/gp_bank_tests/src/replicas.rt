@@ -5,6 +5,8 @@ use gp_bank::{Bank, Totals, totals};
 use gp_command::{CommandId, Key};
 use gp_history::Hist;
 use gp_replica::{Replica, Reply};
+use std::alloc::Global;
+use std::process::Abort;
 use std::test::Fail;
 
 // The command's proposer and number, and the reply.
@@ -106,11 +108,17 @@ fn a_replica_holds_what_was_not_withdrawn(rt: HostRuntime) -> Result<(), Fail> {
     Ok(())
 }
 
+// Whether a replica that learns some commands before the others agrees.
+fn agrees_in_another_order(rt: &impl Abort, alloc: Global) -> Result<bool, Fail> {
+    let mut replica = Replica::new(alloc)?;
+    let first = caught_up(rt, alloc, &mut replica, &EARLY)?;
+    let second = caught_up(rt, alloc, &mut replica, &TOGETHER)?;
+    let is_together = is_together(&replica)?;
+    Ok((first, second) == (3, 4) && is_together)
+}
+
 #[test]
 fn a_replica_that_learns_in_another_order_agrees(rt: HostRuntime) -> Result<(), Fail> {
-    let mut replica = Replica::new(rt.alloc())?;
-    assert!(rt; caught_up(&rt, rt.alloc(), &mut replica, &EARLY)? == 3);
-    assert!(rt; caught_up(&rt, rt.alloc(), &mut replica, &TOGETHER)? == 4);
-    assert!(rt; is_together(&replica)?);
+    assert!(rt; agrees_in_another_order(&rt, rt.alloc())?);
     Ok(())
 }

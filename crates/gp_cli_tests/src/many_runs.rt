@@ -65,11 +65,9 @@ fn is_played_again<W: Threads + Wait + Sync>(
     let disks = disks_with(alloc, 0, b"", &[])?;
     let finished = served_with(rt, alloc, &["run"], &script, disks)?;
     let printed = parts_of(alloc, finished.sink.written())?;
-    Ok(
-        finished.ran.status == 0
-            && plays_again(rt, alloc, &printed)?
-            && is_audited(rt, alloc, config_of(seed)?, &finished)?,
-    )
+    let is_same = plays_again(rt, alloc, &printed)?;
+    let is_upheld = is_audited(rt, alloc, config_of(seed)?, &finished)?;
+    Ok(finished.ran.status == 0 && is_same && is_upheld)
 }
 
 #[test]

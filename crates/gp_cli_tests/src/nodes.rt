@@ -21,9 +21,23 @@ const EIGHT_LEARNED: [&[u8]; 3] = [
 /// Two commands that conflict, which a coordinator with an odd number takes in the other order.
 pub const TWO: &[u8] = b"nodes 3 2 1\noffer p0 put a 1\noffer p0 put a 2\n";
 
+// What a learner of these commands shows, after its name.
+const TWO_LEARNED: [&[u8]; 3] = [
+    b" learned 2: p0.1 p0.2",
+    b" state: a=2",
+    b" replies: p0.1=ok p0.2=ok",
+];
+
 /// A checkpoint between two commands that conflict.
 pub const CHECKPOINT: &[u8] =
     b"nodes 3 3 2\noffer p0 put a 1\noffer p0 checkpoint\noffer p0 add a 2\n";
+
+// What each learner of these commands shows, after its name.
+const CHECKPOINT_LEARNED: [&[u8]; 3] = [
+    b" learned 3: p0.1 p0.2 p0.3",
+    b" state: a=3",
+    b" replies: p0.1=ok p0.2=ok p0.3=ok",
+];
 
 /// What a run of nodes printed before and after the line `--`.
 #[derive(Drop)]
@@ -95,16 +109,31 @@ pub fn plays_again<W: Threads + Wait + Sync>(
     Ok(played.ran.status == 0 && *played.sink.written() == *printed.report)
 }
 
+// What `run` prints if nodes in threads learn all commands. These calls of this disk fail.
+fn printed_by_run<W: Threads + Wait + Sync>(
+    rt: &W,
+    alloc: Global,
+    script: &[u8],
+    number: u64,
+    failing: &[u64],
+) -> Result<Printed, Fail> {
+    let disks = disks_with(alloc, number, b"", failing)?;
+    let finished = served_with(rt, alloc, &["run"], script, disks)?;
+    if finished.ran.status != 0 || !is_posted(&finished.ran) {
+        return Err(Fail::from("not all is learned"));
+    }
+    parts_of(alloc, finished.sink.written())
+}
+
+// Whether both learners show the eight commands, and the run is played again.
+fn learns_eight<W: Threads + Wait + Sync>(rt: &W, alloc: Global) -> Result<bool, Fail> {
+    let printed = printed_by_run(rt, alloc, EIGHT, 0, &[])?;
+    Ok(show_eight(alloc, &printed.report)? && plays_again(rt, alloc, &printed)?)
+}
+
 #[test]
 fn commands_that_commute_are_learned_by_all(rt: HostRuntime) -> Result<(), Fail> {
-    let alloc = rt.alloc();
-    let disks = disks_with(alloc, 0, b"", &[])?;
-    let finished = served_with(&rt, alloc, &["run"], EIGHT, disks)?;
-    assert!(rt; finished.ran.status == 0);
-    assert!(rt; is_posted(&finished.ran));
-    let printed = parts_of(alloc, finished.sink.written())?;
-    assert!(rt; show_eight(alloc, &printed.report)?);
-    assert!(rt; plays_again(&rt, alloc, &printed)?);
+    assert!(rt; learns_eight(&rt, rt.alloc())?);
     Ok(())
 }
 
@@ -138,66 +167,49 @@ fn a_log_without_room_for_one_more_entry_is_renewed(rt: HostRuntime) -> Result<(
     Ok(())
 }
 
+// Whether the offers come before the first round, a single round follows the multi round, and the
+// learner shows both commands.
+fn answers_the_clash<W: Threads + Wait + Sync>(rt: &W, alloc: Global) -> Result<bool, Fail> {
+    let printed = printed_by_run(rt, alloc, TWO, 0, &[])?;
+    let trace = &printed.trace;
+    let rounds = count(trace, b"begin c0 1 multi") == 1 && count(trace, b"begin c0 2 single") == 1;
+    let offered = trace.starts_with(TWO) && count(trace, b"take c0 0") == 1;
+    Ok(rounds && offered && shows(alloc, &printed.report, b"l0", &TWO_LEARNED)?)
+}
+
 #[test]
 fn a_clash_is_answered_by_a_single_round(rt: HostRuntime) -> Result<(), Fail> {
-    let alloc = rt.alloc();
-    let disks = disks_with(alloc, 0, b"", &[])?;
-    let finished = served_with(&rt, alloc, &["run"], TWO, disks)?;
-    assert!(rt; finished.ran.status == 0);
-    let printed = parts_of(alloc, finished.sink.written())?;
-
-    // the offers come before the first round
-    assert!(rt;
-        printed
-            .trace
-            .starts_with(b"nodes 3 2 1\noffer p0 put a 1\noffer p0 put a 2\n")
-    );
-    for line in [
-        b"begin c0 1 multi".as_slice(),
-        b"begin c0 2 single",
-        b"take c0 0",
-    ] {
-        assert!(rt; count(&printed.trace, line) == 1);
-    }
-    let lines: [&[u8]; 3] = [
-        b" learned 2: p0.1 p0.2",
-        b" state: a=2",
-        b" replies: p0.1=ok p0.2=ok",
-    ];
-    assert!(rt; shows(alloc, &printed.report, b"l0", &lines)?);
+    assert!(rt; answers_the_clash(&rt, rt.alloc())?);
     Ok(())
+}
+
+// Whether both learners show the checkpoint between the others, and the run is played again.
+fn learns_the_checkpoint<W: Threads + Wait + Sync>(rt: &W, alloc: Global) -> Result<bool, Fail> {
+    let printed = printed_by_run(rt, alloc, CHECKPOINT, 0, &[])?;
+    let first = shows(alloc, &printed.report, b"l0", &CHECKPOINT_LEARNED)?;
+    let second = shows(alloc, &printed.report, b"l1", &CHECKPOINT_LEARNED)?;
+    Ok(first && second && plays_again(rt, alloc, &printed)?)
 }
 
 #[test]
 fn a_checkpoint_is_learned_between_the_others(rt: HostRuntime) -> Result<(), Fail> {
-    let alloc = rt.alloc();
-    let disks = disks_with(alloc, 0, b"", &[])?;
-    let finished = served_with(&rt, alloc, &["run"], CHECKPOINT, disks)?;
-    assert!(rt; finished.ran.status == 0);
-    let printed = parts_of(alloc, finished.sink.written())?;
-    let lines: [&[u8]; 3] = [
-        b" learned 3: p0.1 p0.2 p0.3",
-        b" state: a=3",
-        b" replies: p0.1=ok p0.2=ok p0.3=ok",
-    ];
-    assert!(rt; shows(alloc, &printed.report, b"l0", &lines)?);
-    assert!(rt; shows(alloc, &printed.report, b"l1", &lines)?);
-    assert!(rt; plays_again(&rt, alloc, &printed)?);
+    assert!(rt; learns_the_checkpoint(&rt, rt.alloc())?);
     Ok(())
 }
 
-// The calls of a disk are those that make the log, a cut, a write and a sync, and then those of the first entry,
-// the first of which is the second write.
+// Whether the coordinator falls once, a single round follows, and both learners show the eight
+// commands. The calls of its disk are those that make the log, a cut, a write and a sync, and then
+// those of the first entry, the first of which is the second write.
+fn settles_a_fall<W: Threads + Wait + Sync>(rt: &W, alloc: Global) -> Result<bool, Fail> {
+    let printed = printed_by_run(rt, alloc, EIGHT, 7, &[3])?;
+    let trace = &printed.trace;
+    let fallen = count(trace, b"fall c0") == 1 && count(trace, b"begin c0 1 single") == 1;
+    Ok(fallen && show_eight(alloc, &printed.report)?)
+}
+
 #[test]
 fn a_coordinator_that_falls_is_settled(rt: HostRuntime) -> Result<(), Fail> {
-    let alloc = rt.alloc();
-    let disks = disks_with(alloc, 7, b"", &[3])?;
-    let finished = served_with(&rt, alloc, &["run"], EIGHT, disks)?;
-    assert!(rt; finished.ran.status == 0);
-    let printed = parts_of(alloc, finished.sink.written())?;
-    assert!(rt; count(&printed.trace, b"fall c0") == 1);
-    assert!(rt; count(&printed.trace, b"begin c0 1 single") == 1);
-    assert!(rt; show_eight(alloc, &printed.report)?);
+    assert!(rt; settles_a_fall(&rt, rt.alloc())?);
     Ok(())
 }
 

@@ -82,16 +82,31 @@ fn a_sink_that_takes_nothing_more_is_a_write_fault(rt: HostRuntime) -> Result<()
     Ok(())
 }
 
-#[test]
-fn a_write_fault_leaves_the_status_of_a_refusal(rt: HostRuntime) -> Result<(), Fail> {
-    let alloc = rt.alloc();
+// Whether a refusal has its own status if its second write fails.
+fn refusal_keeps_its_status(
+    rt: &(impl Threads + Wait + Sync),
+    alloc: Global,
+) -> Result<bool, Fail> {
     let mut source = CalmSource::new(alloc, b"")?;
     let mut sink = MemSink::new(alloc, 5, &[1])?;
-    assert!(rt; play_over(&rt, rt.alloc(), &mut source, &mut sink)? == 3);
-    assert!(rt; sink.written() == b"line ".as_slice());
-    let mut broken = MemSource::new(alloc, b"", 1, &[0])?;
+    let status = play_over(rt, alloc, &mut source, &mut sink)?;
+    Ok(status == 3 && sink.written() == b"line ".as_slice())
+}
+
+// Whether a read fault has its own status if each write fails too.
+fn read_fault_keeps_its_status(
+    rt: &(impl Threads + Wait + Sync),
+    alloc: Global,
+) -> Result<bool, Fail> {
+    let mut source = MemSource::new(alloc, b"", 1, &[0])?;
     let mut sink = MemSink::new(alloc, 5, &[0])?;
-    assert!(rt; play_over(&rt, rt.alloc(), &mut broken, &mut sink)? == 4);
-    assert!(rt; sink.written().is_empty());
+    let status = play_over(rt, alloc, &mut source, &mut sink)?;
+    Ok(status == 4 && sink.written().is_empty())
+}
+
+#[test]
+fn a_write_fault_leaves_the_status_of_a_refusal(rt: HostRuntime) -> Result<(), Fail> {
+    assert!(rt; refusal_keeps_its_status(&rt, rt.alloc())?);
+    assert!(rt; read_fault_keeps_its_status(&rt, rt.alloc())?);
     Ok(())
 }

@@ -255,16 +255,21 @@ fn a_coordinator_opens_at_round_zero(rt: HostRuntime) -> Result<(), Fail> {
     Ok(())
 }
 
-#[test]
-fn a_round_is_begun_once(rt: HostRuntime) -> Result<(), Fail> {
-    let alloc = rt.alloc();
+// Whether a round that is begun again sends nothing, and stays.
+fn begins_once(alloc: Global) -> Result<bool, Fail> {
     let config = three()?;
     let mut coordinator = Coordinator::new(alloc, &config, 0)?;
-    assert!(rt; config.owns(0, SINGLE_1));
+    if !config.owns(0, SINGLE_1) {
+        return Ok(false);
+    }
     coordinator.begin(SINGLE_1)?;
     let again = coordinator.begin(SINGLE_1)?;
-    assert!(rt; is_sent(alloc, &again, 0, Nothing)?);
-    assert!(rt; keeps(&coordinator, 0, SINGLE_1));
+    Ok(is_sent(alloc, &again, 0, Nothing)? && keeps(&coordinator, 0, SINGLE_1))
+}
+
+#[test]
+fn a_round_is_begun_once(rt: HostRuntime) -> Result<(), Fail> {
+    assert!(rt; begins_once(rt.alloc())?);
     Ok(())
 }
 

@@ -149,26 +149,34 @@ fn what_is_learned_is_run_in_the_canonical_order(rt: HostRuntime) -> Result<(), 
     Ok(())
 }
 
-#[test]
-fn what_was_run_is_not_run_again(rt: HostRuntime) -> Result<(), Fail> {
-    let alloc = rt.alloc();
+// Whether a replica that has run all that is learned runs nothing more.
+fn runs_once(rt: &impl Abort, alloc: Global) -> Result<bool, Fail> {
     let learned = history(alloc, &LEARNED)?;
     let mut replica = Replica::new(alloc)?;
-    assert!(rt; caught_up(&rt, &mut replica, &learned)? == 4);
-    assert!(rt; caught_up(&rt, &mut replica, &learned)? == 0);
-    assert!(rt; shows(&replica, &RAN, Some(3), Some(5))?);
+    let first = caught_up(rt, &mut replica, &learned)?;
+    let second = caught_up(rt, &mut replica, &learned)?;
+    Ok((first, second) == (4, 0) && shows(&replica, &RAN, Some(3), Some(5))?)
+}
+
+#[test]
+fn what_was_run_is_not_run_again(rt: HostRuntime) -> Result<(), Fail> {
+    assert!(rt; runs_once(&rt, rt.alloc())?);
     Ok(())
+}
+
+// Whether a command that is learned later is run after those that were run before.
+fn runs_in_turn(rt: &impl Abort, alloc: Global) -> Result<bool, Fail> {
+    let mut learned = history(alloc, &LEARNED)?;
+    let mut replica = Replica::new(alloc)?;
+    let first = caught_up(rt, &mut replica, &learned)?;
+    learn(&mut learned, alloc, LATER)?;
+    let second = caught_up(rt, &mut replica, &learned)?;
+    Ok((first, second) == (4, 1) && shows(&replica, &RAN_LATER, Some(3), Some(3))?)
 }
 
 #[test]
 fn what_is_learned_later_is_run_after_the_rest(rt: HostRuntime) -> Result<(), Fail> {
-    let alloc = rt.alloc();
-    let mut learned = history(alloc, &LEARNED)?;
-    let mut replica = Replica::new(alloc)?;
-    assert!(rt; caught_up(&rt, &mut replica, &learned)? == 4);
-    learn(&mut learned, alloc, LATER)?;
-    assert!(rt; caught_up(&rt, &mut replica, &learned)? == 1);
-    assert!(rt; shows(&replica, &RAN_LATER, Some(3), Some(3))?);
+    assert!(rt; runs_in_turn(&rt, rt.alloc())?);
     Ok(())
 }
 

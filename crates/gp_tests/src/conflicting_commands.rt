@@ -33,9 +33,8 @@ fn conflict(alloc: Global, a: u8, b: u8) -> Result<bool, Fail> {
     Ok(conflicts(&command(alloc, a)?, &command(alloc, b)?))
 }
 
-#[test]
-fn commands_with_two_touches_conflict_at_either(rt: HostRuntime) -> Result<(), Fail> {
-    let alloc = rt.alloc();
+// A command that reads one key and writes another.
+fn copy_x_to_y(alloc: Global) -> Result<Command, Fail> {
     let touches = [
         Touch {
             key: Key::new(b"x")?,
@@ -50,22 +49,39 @@ fn commands_with_two_touches_conflict_at_either(rt: HostRuntime) -> Result<(), F
         proposer: 0,
         number: 7,
     };
-    let copy_x_to_y = Command::new(id, Draft::new(alloc, &touches, b"copy x y")?);
-    assert!(rt; !conflicts(&copy_x_to_y, &command(alloc, b'R')?));
-    assert!(rt; conflicts(&copy_x_to_y, &command(alloc, b'A')?));
-    assert!(rt; conflicts(&copy_x_to_y, &command(alloc, b'Y')?));
+    Ok(Command::new(id, Draft::new(alloc, &touches, b"copy x y")?))
+}
+
+// Whether it conflicts with the command of this letter.
+fn conflicts_with(alloc: Global, letter: u8) -> Result<bool, Fail> {
+    Ok(conflicts(&copy_x_to_y(alloc)?, &command(alloc, letter)?))
+}
+
+#[test]
+fn commands_with_two_touches_conflict_at_either(rt: HostRuntime) -> Result<(), Fail> {
+    let alloc = rt.alloc();
+    assert!(rt; !conflicts_with(alloc, b'R')?);
+    assert!(rt; conflicts_with(alloc, b'A')?);
+    assert!(rt; conflicts_with(alloc, b'Y')?);
     Ok(())
+}
+
+// Whether a command and its draft equal their copies.
+fn equals_its_copy(command: &Command) -> Result<bool, Fail> {
+    Ok(*command == command.copy()? && *command.draft() == command.draft().copy()?)
+}
+
+// Whether commands of two proposers with one draft differ, and are ordered by their proposers.
+fn is_ordered_by_proposer(alloc: Global) -> Result<bool, Fail> {
+    let a = command(alloc, b'A')?;
+    let b = command(alloc, b'B')?;
+    Ok(a != b && *a.draft() == *b.draft() && a < b)
 }
 
 #[test]
 fn equal_commands_are_copies_and_are_ordered_by_proposer(rt: HostRuntime) -> Result<(), Fail> {
     let alloc = rt.alloc();
-    let a = command(alloc, b'A')?;
-    let b = command(alloc, b'B')?;
-    assert!(rt; a == a.copy()?);
-    assert!(rt; *a.draft() == a.draft().copy()?);
-    assert!(rt; a != b);
-    assert!(rt; *a.draft() == *b.draft());
-    assert!(rt; a < b);
+    assert!(rt; equals_its_copy(&command(alloc, b'A')?)?);
+    assert!(rt; is_ordered_by_proposer(alloc)?);
     Ok(())
 }

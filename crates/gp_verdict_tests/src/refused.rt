@@ -9,7 +9,7 @@ use std::test::Fail;
 // An input, the number of its first refused line, and the reason.
 type Row = (&'static [u8], u64, AuditReason);
 
-const TRACES: [Row; 18] = [
+static TRACES: [Row; 18] = [
     // no line at all
     (b"", 1, AuditReason::Script(Reason::NoNodesLine)),
     // no line except one that is passed over
@@ -88,7 +88,8 @@ const TRACES: [Row; 18] = [
 
 #[test]
 fn a_trace_is_refused_as_a_script(rt: HostRuntime) -> Result<(), Fail> {
-    for (input, line, reason) in TRACES {
+    for row in &TRACES {
+        let (input, line, reason) = *row;
         assert!(rt; refuses(rt.alloc(), input, line, reason));
     }
     Ok(())
