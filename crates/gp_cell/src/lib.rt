@@ -1,5 +1,5 @@
 //! Running nodes: each has its protocol state, its log and its pass at a wire, makes moves, and
-//! recovers after its disk failed.
+//! recovers after its disk failed. The rules of the protocol say which record it may post next.
 #![tactic(auto)]
 
 mod cell;
