@@ -1,5 +1,5 @@
 -- A message of an epoch that is not the last of its type can be taken by every node.
-use Rattle.std.proofs.Common.{◌≡◌, ℕ, ◌<◌, ◌-◌, ◌^◌, arith}
+use Rattle.std.proofs.Common.{◌<◌, ◌-◌, ◌^◌, arith}
 use Rattle.gp_msg.specs.Messages.{Stamped, Offered, InEpoch, Final, epoch_of, closed_by}
 use Rattle.gp_learner.specs.Epochs.{LearnerInEpoch, CanTake}
 

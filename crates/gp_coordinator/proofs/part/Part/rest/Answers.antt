@@ -1,4 +1,4 @@
-use Rattle.std.proofs.Common.{rules, ◌≡◌, Bool, List, Some, true, false, not, cond, ◌∷◌, [], ◌++◌, slice_get, sym, ap, subst, ◌∙◌}
+use Rattle.std.proofs.Common.{rules, ◌≡◌, Bool, List, Some, true, false, not, slice_get, sym, ap, subst, ◌∙◌}
 use Rattle.gp_command.specs.declared.command.Command.{Command}
 use Rattle.gp_history.specs.History.{has}
 use Rattle.gp_history.specs.Sequence.{history_of, no_repeat}
