@@ -1,16 +1,17 @@
 -- The least command that is ready, found by going over the commands in ascending order.
 use Rattle.std.proofs.Common.{◌≡◌, ℕ, ◌+◌, ◌<◌, ◌≤◌, Bool, true, false, not, List, [], length, get_or, Some, None, inl, inr, refl, sym, ap, ◌∙◌, arith}
-use Rattle.std.specs.Prelude.{filter}
+use Rattle.std.specs.Prelude.{filter, slice_get}
 use Rattle.std.specs.Ordering.{is_gt}
 use Rattle.std.proofs.lemmas.Bool.{cases_lt, true≢false}
 use Rattle.std.proofs.lemmas.Cmp.{tied_itself}
-use Rattle.std.proofs.lemmas.Option.{get_or_from_slice_get, slice_get_within}
+use Rattle.std.proofs.lemmas.Option.{get_or_from_slice_get, slice_get_cases, slice_get_within}
 use Rattle.gp_command.specs.declared.command.Command.{Command}
 use Rattle.gp_command.specs.Order.{command_cmp, command_cmp_total}
 use Rattle.gp_history.specs.History.{History, has}
 use Rattle.gp_history.specs.Sequence.{history_of, place}
 use Rattle.gp_history.specs.Canonical.{is_ready, least, next_least}
 use Rattle.gp_history.proofs.Tests.{In, fst_of, not_true}
+use Rattle.gp_history.proofs.Places.{at_in}
 use Rattle.gp_history.proofs.Meet.{in_filter, from_filter}
 use Rattle.gp_history.proofs.Canonical.{least_in, least_some, in_filtered}
 use Rattle.gp_history.proofs.Least.{least_min, one_least, next_least_of}
@@ -80,3 +81,16 @@ module _ (xs : List Command) (order : List ℕ) (index : IsIndex xs order) where
   nothing_is_ready t k whole none = next_least_of xs t ∙ none_passes (is_ready (history_of xs) t) xs (λ d j.
       let n = named_at d j in
       ap (is_ready (history_of xs) t) (sym (n.is d)) ∙ none n.at d (let w = n.within in omega (arith, w, whole)))
+
+  -- the same, where the place is named and not the command
+  pub first_place_is_least : (t : History) (k : ℕ) → k < length order → ((c : Command) → slice_get xs (get_or order k 0) ≡ Some c → is_ready (history_of xs) t c ≡ true) → NonePasses (is_ready (history_of xs) t) xs order k → next_least (history_of xs) t ≡ slice_get xs (get_or order k 0)
+  first_place_is_least t k l ready none = elim (slice_get_cases xs (get_or order k 0)).1 [
+    | inl there ↦ first_is_least t k there.0 (at_in xs (get_or order k 0) there.0 there.2) l (λ e. get_or_from_slice_get xs (get_or order k 0) there.0 e there.2) (ready there.0 there.2) none ∙ sym there.2
+    | inr past ↦ absurd (let lt = index.within k l in let le = past.0 in omega (arith, lt, le))
+  ]
+
+  pub none_at_place : (t : History) (k : ℕ) → k < length order → ((c : Command) → slice_get xs (get_or order k 0) ≡ Some c → is_ready (history_of xs) t c ≡ false) → NonePasses (is_ready (history_of xs) t) xs order k → NonePasses (is_ready (history_of xs) t) xs order (k + 1)
+  none_at_place t k l fails none = elim (slice_get_cases xs (get_or order k 0)).1 [
+    | inl there ↦ none_more (is_ready (history_of xs) t) xs order k there.0 none (λ e. get_or_from_slice_get xs (get_or order k 0) there.0 e there.2) (fails there.0 there.2)
+    | inr past ↦ absurd (let lt = index.within k l in let le = past.0 in omega (arith, lt, le))
+  ]

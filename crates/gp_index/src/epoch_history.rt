@@ -3,10 +3,12 @@ ghost use Rattle.std.specs.Prelude.{◌≡◌, ◌↔◌, ℕ, ◌≤◌, ◌<�
 ghost use Rattle.gp_history.specs.History.{has, IsPrefix};
 ghost use Rattle.gp_history.specs.Sequence.{history_of, no_repeat, place_in};
 ghost use Rattle.std.specs.Option.{option_copied};
-ghost use Rattle.gp_history.specs.Canonical.{next_least, is_ready};
+ghost use Rattle.gp_history.specs.Canonical.{canonical, next_least, is_ready};
 ghost use Rattle.gp_index.specs.Index.{IsIndex};
 ghost use Rattle.gp_index.specs.Epochs.{checkpoints, epoch_start, epoch, behind_epochs};
+ghost use Rattle.gp_index.specs.Ordering.{Continues, marks_in};
 
+use crate::ordering::next_place;
 use crate::parts::Parts;
 use crate::windows::{is_prefix, is_same};
 use gp_command::{Command, NoMemory};
@@ -90,6 +92,51 @@ impl EpochHistory {
         ensures none { IsNone result ↔ (history_of self.now ≡ history_of taken.now) }
     {
         least_ready(self, taken)
+    }
+
+    /// An equal history whose sequence is the canonical one. `NoMemory` if memory runs out.
+    pub fn in_order(&self) -> Result<EpochHistory, NoMemory>
+        ensures { IfOk result (λ ordered. ordered ≡ canonical (history_of self.now)) }
+    {
+        let nothing = EpochHistory {
+            alloc: self.alloc,
+            parts: None,
+        };
+        self.in_order_after(&nothing)
+    }
+
+    /// An equal history whose sequence starts with that of `taken` and goes on in canonical order:
+    /// each command is the one that `next_least` returns there. `taken` must be a prefix of this
+    /// history. `NoMemory` if memory runs out.
+    pub fn in_order_after(&self, taken: &EpochHistory) -> Result<EpochHistory, NoMemory>
+        requires { IsPrefix (history_of taken.now) (history_of self.now) }
+        ensures same { IfOk result (λ ordered. history_of ordered ≡ history_of self.now) }
+        ensures order { IfOk result (λ ordered. Continues (history_of self.now) taken.now ordered) }
+        ensures distinct { IfOk result (λ ordered. IsTrue (no_repeat ordered)) }
+    {
+        let commands = self.as_slice();
+        let mut ordered = taken.copy()?;
+        if ordered.len() == commands.len() {
+            return Ok(ordered);
+        }
+        let mut marks = self.marks_of(taken)?;
+        while let Some(place) = next_place(commands, self.order(), &marks) {
+            ordered.push(commands[place].copy()?)?;
+            marks[place] = true;
+        }
+        Ok(ordered)
+    }
+
+    // For each command, whether it was taken.
+    fn marks_of(&self, taken: &EpochHistory) -> Result<Vec<bool>, NoMemory>
+        ensures { IfOk result (λ marks. marks.items ≡ marks_in self.now taken.now) }
+    {
+        let commands = self.as_slice();
+        let mut marks = Vec::with_capacity(self.alloc, commands.len())?;
+        for c in commands {
+            marks.push(taken.has(c))?;
+        }
+        Ok(marks)
     }
 
     // The number of epochs that a checkpoint ends.

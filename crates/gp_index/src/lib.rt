@@ -4,6 +4,7 @@
 mod epoch_history;
 mod index;
 pub mod laws;
+mod ordering;
 mod parts;
 mod windows;
 

@@ -122,3 +122,50 @@ fn copies_have_their_own_index(rt: HostRuntime) -> Result<(), Fail> {
     assert!(rt; original.find(&command(alloc, b'L')?) == None);
     Ok(())
 }
+
+// A word, the letters that were taken, and all letters: first these, and then the others in
+// canonical order.
+const ORDERS: [(&str, &str, &str); 8] = [
+    ("", "", ""),
+    ("SRBA", "", "RSAB"),
+    ("SRBA", "S", "SRAB"), // what was taken stays in front
+    ("BA", "B", "BA"),
+    ("VYKBA", "YV", "YVKAB"),
+    ("KYW", "K", "KWY"),
+    ("LYKVWSRBA", "LY", "LYKVWRSAB"),
+    ("SRBA", "SRBA", "SRBA"),
+];
+
+#[test]
+fn what_was_not_taken_follows_in_canonical_order(rt: HostRuntime) -> Result<(), Fail> {
+    for (word, taken, want) in ORDERS {
+        let ordered = ordered_after(&rt, rt.alloc(), word, taken)?;
+        assert!(rt;
+            letters(rt.alloc(), &ordered)?.as_slice() == want.as_bytes(),
+            "of {word}"
+        );
+    }
+    Ok(())
+}
+
+fn ordered_after(rt: &impl Abort, alloc: Global, word: &str, taken: &str) -> Result<History, Fail> {
+    let whole: History = history(alloc, word)?;
+    let taken: History = history(alloc, taken)?;
+    assert!(rt; taken.is_prefix(&whole));
+    Ok(whole.in_order_after(&taken)?)
+}
+
+#[test]
+fn a_history_is_put_in_canonical_order(rt: HostRuntime) -> Result<(), Fail> {
+    let alloc = rt.alloc();
+    assert!(rt; is_put_in_order(alloc, "", "")?);
+    assert!(rt; is_put_in_order(alloc, "YWA", "WAY")?);
+    assert!(rt; is_put_in_order(alloc, "VYKBAKL", "VYKABL")?);
+    Ok(())
+}
+
+fn is_put_in_order(alloc: Global, word: &str, want: &str) -> Result<bool, Fail> {
+    let history: History = history(alloc, word)?;
+    let letters = letters(alloc, &history.in_order()?)?;
+    Ok(letters.as_slice() == want.as_bytes())
+}
