@@ -6,7 +6,6 @@ ghost use Rattle.gp_audit.specs.Certificates.{AreProofs};
 ghost use Rattle.gp_audit.specs.Replays.{IsReplayed};
 ghost use Rattle.gp_audit.specs.Sources.{proof_under};
 
-use crate::order::in_order;
 use crate::proof::{Proof, Proofs};
 use crate::replay::Replay;
 use gp_command::{CommandId, NoMemory};
@@ -24,7 +23,7 @@ pub fn certify(alloc: Global, world: &World, learner: u32) -> Result<Proofs, NoM
     ensures { IfOk result (λ proofs. AreProofs world.now.config (entries_of world.now) learner proofs) }
 {
     let replay = replay_of(alloc, world, learner)?;
-    let commands = in_order(alloc, world.learned(learner))?;
+    let commands = world.learned(learner).in_order()?;
     let proofs = proofs_of(alloc, &commands, &replay.proofs)?;
     Ok(Proofs::from(proofs))
 }

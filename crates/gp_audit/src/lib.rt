@@ -4,7 +4,6 @@
 mod certifying;
 mod held;
 pub mod laws;
-mod order;
 mod own;
 mod proof;
 mod quorums;

@@ -22,4 +22,3 @@ pub mod Counts
 pub mod Swaps
 pub mod Alike
 pub mod Pushing
-pub mod Fronts

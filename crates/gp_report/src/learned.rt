@@ -1,6 +1,5 @@
 //! Learned lines: the commands that a learner learned.
-ghost use Rattle.std.specs.Prelude.{◌≡◌, ◌<◌, ◌++◌, map, OnOk, OnErr, IfOk};
-ghost use Rattle.gp_history.specs.Canonical.{canonical};
+ghost use Rattle.std.specs.Prelude.{◌≡◌, ◌<◌, ◌++◌, map, OnOk, OnErr};
 ghost use Rattle.gp_history.specs.Sequence.{history_of};
 ghost use Rattle.gp_words.specs.Beginnings.{AppendsBeginning};
 ghost use Rattle.gp_words.specs.Spacing.{spaced};
@@ -26,17 +25,6 @@ pub fn push_identity(id: CommandId, to: &mut Vec<u8>) -> Result<(), NoMemory>
     push_number(u64::from(id.number), to)
 }
 
-// The same history, with its commands in canonical order.
-fn in_order<H: Hist>(alloc: Global, h: &H) -> Result<H, NoMemory>
-    ensures { IfOk result (λ ordered. H.sequence ordered ≡ canonical (history_of (H.sequence h.now))) }
-{
-    let mut ordered = H::empty(alloc)?;
-    while let Some(next) = h.next_least(&ordered) {
-        ordered.push(next.copy()?)?;
-    }
-    Ok(ordered)
-}
-
 fn push_identities(commands: &History, to: &mut Vec<u8>) -> Result<(), NoMemory>
     ensures { OnOk result (to.new.items ≡ to.old.items ++ spaced (map (λ c. identity c.id) commands.now)) }
 {
@@ -53,7 +41,7 @@ pub fn identities(alloc: Global, history: &History, to: &mut Vec<u8>) -> Result<
     ensures written { OnOk result (to.new.items ≡ to.old.items ++ identities (history_of history.now)) }
     ensures unchanged { OnErr result (to.new.items ≡ to.old.items) }
 {
-    let ordered = in_order(alloc, history)?;
+    let ordered = history.in_order()?;
     let mut text = Vec::new(alloc);
     push_identities(&ordered, &mut text)?;
     to.extend_from_slice(&text)?;
@@ -90,7 +78,7 @@ pub fn show_learned(
     ensures written { OnOk result (to.new.items ≡ to.old.items ++ learned_text world.now.config (entries_of world.now) learner) }
     ensures unchanged { OnErr result (to.new.items ≡ to.old.items) }
 {
-    let ordered = in_order(alloc, world.learned(learner))?;
+    let ordered = world.learned(learner).in_order()?;
     let mut line = Vec::new(alloc);
     push_commands(learner, &ordered, &mut line)?;
     to.extend_from_slice(&line)?;
