@@ -1,5 +1,5 @@
 -- The least command that is ready, found by going over the commands in ascending order.
-use Rattle.std.proofs.Common.{◌≡◌, ℕ, ◌+◌, ◌<◌, ◌≤◌, Bool, true, false, not, List, [], length, get_or, Some, None, inl, inr, refl, sym, ap, ◌∙◌, arith}
+use Rattle.std.proofs.Common.{◌≡◌, ℕ, ◌+◌, ◌<◌, ◌≤◌, Bool, true, false, List, [], length, get_or, Some, None, inl, inr, refl, sym, ap, ◌∙◌, arith}
 use Rattle.std.specs.Prelude.{filter, slice_get}
 use Rattle.std.specs.Ordering.{is_gt}
 use Rattle.std.proofs.lemmas.Bool.{cases_lt, true≢false}
@@ -7,10 +7,10 @@ use Rattle.std.proofs.lemmas.Cmp.{tied_itself}
 use Rattle.std.proofs.lemmas.Option.{get_or_from_slice_get, slice_get_cases, slice_get_within}
 use Rattle.gp_command.specs.declared.command.Command.{Command}
 use Rattle.gp_command.specs.Order.{command_cmp, command_cmp_total}
-use Rattle.gp_history.specs.History.{History, has}
+use Rattle.gp_history.specs.History.{History}
 use Rattle.gp_history.specs.Sequence.{history_of, place}
 use Rattle.gp_history.specs.Canonical.{is_ready, least, next_least}
-use Rattle.gp_history.proofs.Tests.{In, fst_of, not_true}
+use Rattle.gp_history.proofs.Tests.{In}
 use Rattle.gp_history.proofs.Places.{at_in}
 use Rattle.gp_history.proofs.Meet.{in_filter, from_filter}
 use Rattle.gp_history.proofs.Canonical.{least_in, least_some, in_filtered}
@@ -38,9 +38,6 @@ none_passes p xs h = elim (least (filter p xs)) as (λ o. least (filter p xs) �
   | None ↦ λ f. refl
   | Some b ↦ λ f. let there = least_in (filter p xs) b f in absurd (true≢false (sym (from_filter p xs b there) ∙ h b (in_filtered p xs b there)))
 ] refl
-
-pub taken_is_not_ready : (h taken : History) (c : Command) → has taken c ≡ true → is_ready h taken c ≡ false
-taken_is_not_ready h taken c e = not_true (is_ready h taken c) (λ r. true≢false (sym (fst_of (not (has taken c)) _ r) ∙ ap not e))
 
 -- no command that one of the first k entries names passes
 abbrev pub NonePasses : (Command → Bool) → List Command → List ℕ → ℕ → Type 0

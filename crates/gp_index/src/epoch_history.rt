@@ -1,9 +1,8 @@
 //! A history with an index.
-ghost use Rattle.std.specs.Prelude.{◌≡◌, ◌↔◌, ℕ, ◌≤◌, ◌<◌, ◌^◌, ◌+◌, ◌++◌, ◌∷◌, [], false, true, IsTrue, IsNone, IfOk, Some, length, take};
+ghost use Rattle.std.specs.Prelude.{◌≡◌, ◌↔◌, ℕ, ◌≤◌, ◌<◌, ◌^◌, ◌+◌, ◌++◌, ◌∷◌, [], false, true, IsTrue, IfOk, Some, length};
 ghost use Rattle.gp_history.specs.History.{has, IsPrefix};
 ghost use Rattle.gp_history.specs.Sequence.{history_of, no_repeat, place_in};
-ghost use Rattle.std.specs.Option.{option_copied};
-ghost use Rattle.gp_history.specs.Canonical.{canonical, next_least, is_ready};
+ghost use Rattle.gp_history.specs.Canonical.{canonical};
 ghost use Rattle.gp_index.specs.Index.{IsIndex};
 ghost use Rattle.gp_index.specs.Epochs.{checkpoints, epoch_start, epoch, behind_epochs};
 ghost use Rattle.gp_index.specs.Ordering.{Continues, marks_in};
@@ -12,7 +11,6 @@ use crate::ordering::next_place;
 use crate::parts::Parts;
 use crate::windows::{is_prefix, is_same};
 use gp_command::{Command, NoMemory};
-use gp_history::walks::{common_start, is_behind};
 use gp_history::{Hist, Unpushed};
 use std::alloc::Global;
 use std::marker::Model;
@@ -81,17 +79,6 @@ impl EpochHistory {
             return false;
         }
         has_rest(self, of, ended)
-    }
-
-    /// The least command of this history that is not in `taken` although all commands before it
-    /// are. `None` if no command is left. If `taken` starts empty and each result is pushed onto
-    /// it, the results are the canonical sequence. `taken` must be a prefix of this history.
-    pub fn next_least(&self, taken: &EpochHistory) -> Option<&Command>
-        requires { IsPrefix (history_of taken.now) (history_of self.now) }
-        ensures least { option_copied result ≡ next_least (history_of self.now) (history_of taken.now) }
-        ensures none { IsNone result ↔ (history_of self.now ≡ history_of taken.now) }
-    {
-        least_ready(self, taken)
     }
 
     /// An equal history whose sequence is the canonical one. `NoMemory` if memory runs out.
@@ -254,45 +241,6 @@ impl Hist for EpochHistory {
     fn clear(&mut self) {
         self.parts = None;
     }
-}
-
-// The least command of a history that is ready. Most commands of `taken` are found at the next
-// entry of its own index.
-fn least_ready<'a>(h: &'a EpochHistory, taken: &EpochHistory) -> Option<&'a Command>
-    ensures { option_copied result ≡ next_least (history_of h.now) (history_of taken.now) }
-{
-    let order = h.order();
-    let taken_order = taken.order();
-    let from = common_start(h, taken);
-    let mut next = 0;
-    for k in 0..order.len() {
-        let place = order[k] as usize;
-        let c = h.at(place);
-        if is_named(taken, taken_order, next, c) {
-            next += 1;
-        } else if is_ready(h, place, taken, c, from) {
-            return Some(c);
-        }
-    }
-    None
-}
-
-// Whether entry `k` of an index names a command.
-fn is_named(h: &EpochHistory, order: &[u32], k: usize, c: &Command) -> bool
-    requires { IsIndex h.now order.now }
-    ensures { result ≡ true → has (history_of h.now) c.now ≡ true }
-{
-    k < order.len() && h.at(order[k] as usize) == c
-}
-
-// Whether a command was not taken while all commands before it were.
-fn is_ready(h: &EpochHistory, place: usize, taken: &EpochHistory, c: &Command, from: usize) -> bool
-    requires there { place_in h.now c.now ≡ Some place }
-    requires within { place < length h.now }
-    requires alike { take from h.now ≡ take from taken.now }
-    ensures { result ≡ is_ready (history_of h.now) (history_of taken.now) c.now }
-{
-    !taken.has(c) && is_behind(h, place, h, place, taken, c, from)
 }
 
 // Whether the first n epochs of both are equal.

@@ -143,12 +143,15 @@ fn mixed_commands_walk_alike(rt: HostRuntime) -> Result<(), Fail> {
     walk_alike(&rt, rt.alloc(), Shape::Mixed)
 }
 
-// Both representations walk alike over both orders, over their meet and over a join.
+// Both representations walk alike over both orders, over their meet and over a join, and the calls
+// that make the whole order give the same.
 fn walk_alike(rt: &impl Abort, alloc: Global, shape: Shape) -> Result<(), Fail> {
     let listed = walk_all::<SeqHistory>(alloc, shape)?;
     let indexed = walk_all::<History>(alloc, shape)?;
+    let ordered = order_all(alloc, shape)?;
     assert!(rt; listed.len() > 768);
     assert!(rt; listed.as_slice() == indexed.as_slice(), "of {shape:?}");
+    assert!(rt; listed.as_slice() == ordered.as_slice(), "of {shape:?}");
     Ok(())
 }
 
@@ -172,6 +175,25 @@ fn walk<H: Hist>(alloc: Global, history: &H, walked: &mut Vec<CommandId>) -> Res
         };
         taken.push(next.copy()?)?;
         walked.push(next.id())?;
+    }
+    Ok(())
+}
+
+// The same as `walk_all`, where each order is made by one call.
+fn order_all(alloc: Global, shape: Shape) -> Result<Vec<CommandId>, Fail> {
+    let mut ordered = Vec::new(alloc);
+    let (a, b): (History, History) = both_orders(alloc, shape)?;
+    let front: History = pushed(alloc, shape, 1, 128)?;
+    push_ids(&a.in_order()?, &mut ordered)?;
+    push_ids(&b.in_order()?, &mut ordered)?;
+    push_ids(&meet(alloc, &a, &b)?.in_order()?, &mut ordered)?;
+    push_ids(&join(alloc, &front, &b)?.in_order()?, &mut ordered)?;
+    Ok(ordered)
+}
+
+fn push_ids(history: &History, ids: &mut Vec<CommandId>) -> Result<(), Fail> {
+    for place in 0..history.len() {
+        ids.push(history.at(place).id())?;
     }
     Ok(())
 }
