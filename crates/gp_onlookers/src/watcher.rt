@@ -57,13 +57,6 @@ impl Watcher {
         }
     }
 
-    /// The key.
-    pub fn key(&self) -> Key
-        ensures { result ≡ self.now.key }
-    {
-        self.key
-    }
-
     /// Reads the key once and keeps what it saw. The reader has then seen all that it was notified
     /// of, and no fewer commands than at any look before. Returns `NoMemory` if the look cannot be
     /// kept; `last_looks` then returns it too.
