@@ -21,9 +21,10 @@ pub type ChooseMode = Box<dyn Fn(&Scene) -> Mode>;
 /// after each collision, and after a calm if there were collisions before. A calm is a fixed number
 /// of calls in a row without a collision.
 ///
-/// It keeps a closure and two facts: the closure may be called on every scene, and it returns
-/// `Single` after two or more collisions. In a single round all values are compatible, so no
-/// collision is possible.
+/// It keeps a closure and four facts: the coordinator is one of the configuration; the closure may
+/// be called on every scene; it returns `Single` after two or more collisions; and if `by_clashes`
+/// is true, the number of collisions alone decides the mode that it returns. In a single round all
+/// values are compatible, so no collision is possible.
 #[derive(Drop)]
 pub struct Adapt {
     pub config: Config,
@@ -103,7 +104,7 @@ impl Adapt {
     /// collision in the round that was begun last.
     ///
     /// The result is `None` if this call begins no round, or if the count of `highest` is
-    /// `LAST_COUNT` or more. What is remembered changes in either case.
+    /// `LAST_COUNT` or more. What is remembered is updated in either case.
     pub fn next(&mut self, highest: Round, clashed: bool) -> Option<Round>
         ensures course { self.new.course ≡ moved self.old.course clashed }
         ensures config { self.new.config ≡ self.old.config }

@@ -14,7 +14,7 @@ use gp_command::{Draft, NoMemory};
 use gp_store::{checkpoint_draft, few_tokens, touching_draft};
 use std::alloc::Global;
 
-/// The draft of a command that does the operation.
+/// The draft of a command that does the operation. `NoMemory` if memory runs out.
 pub fn bank_draft(alloc: Global, op: BankOp) -> Result<Draft, NoMemory>
     ensures { IfOk result (λ draft. draft ≡ bank_draft_for op) }
 {

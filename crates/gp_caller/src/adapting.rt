@@ -29,7 +29,8 @@ use std::sync::Wait;
 /// watch over the round that was called last sees every message. After a collision in a fast round
 /// the multi round above it is called, and after a collision in a multi round the single round
 /// above it. If a round is not fast, and `CALM` looks have found no collision in it, the fast round
-/// above it is called (Camargos, Schmidt, Pedone, *Multicoordinated Paxos*, 2007).
+/// above it is called (Camargos, Schmidt, Pedone, *Multicoordinated Paxos*, 2007). That this fast
+/// round is called then is tested, not proved.
 ///
 /// Its invariants: the watch is over `round` of `epoch`; what `adapt` remembers fits the round that
 /// was called last for the epoch; and `adapt` is that of coordinator 0, with a closure that returns
@@ -54,7 +55,7 @@ pub struct AdaptiveCaller {
 
 impl AdaptiveCaller {
     /// A caller that has called no round and seen no message. The closure returns the mode of each
-    /// round for the number of collisions before it.
+    /// round for the number of collisions before it. `NoMemory` if memory runs out.
     pub fn new(
         alloc: Global,
         config: Config,

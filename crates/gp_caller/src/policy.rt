@@ -24,7 +24,8 @@ pub const FIRST_FAST_ROUND: Round = Round {
     lead: LEADER,
 };
 
-/// After this many looks without a collision, a run that adapts comes back to fast rounds.
+/// After this many looks without a collision, a run that adapts comes back to fast rounds. That it
+/// comes back then is tested, not proved.
 pub const CALM: u32 = 2;
 
 /// The mode of the next round of a run that adapts: fast if there was no collision, multi after

@@ -20,7 +20,7 @@ use std::alloc::Global;
 use std::marker::Model;
 use std::sync::Wait;
 
-// After this many calls the next one is refused as if memory ran out.
+// After this many calls every further look is refused as if memory ran out.
 const MOST_CALLS: usize = 4_294_967_295;
 
 /// Calls the rounds of a run for coordinator 0.
@@ -28,7 +28,8 @@ const MOST_CALLS: usize = 4_294_967_295;
 /// In each epoch that the coordinator enters, the first round is the multi round with count 1. A
 /// watch over that round sees every message. After a collision in it the single round above the
 /// coordinator's own round is called, and no further round in that epoch (Camargos, Schmidt,
-/// Pedone, *Multicoordinated Paxos*, 2007).
+/// Pedone, *Multicoordinated Paxos*, 2007). After 2^32 - 1 calls each further look is refused with
+/// `NoMemory`.
 ///
 /// A contract sees the configuration, the calls, and what the watch saw.
 #[derive(Drop)]
@@ -56,7 +57,7 @@ impl Model for RoundCaller {
 }
 
 impl RoundCaller {
-    /// A caller that has called no round and seen no message.
+    /// A caller that has called no round and seen no message. `NoMemory` if memory runs out.
     pub fn new(alloc: Global, config: Config) -> Result<RoundCaller, NoMemory>
         ensures made { IfOk result (λ c. c ≡ new_caller config) }
         ensures knows { IfOk result (λ c. (seen : List Record) → Saw c.sight seen) }

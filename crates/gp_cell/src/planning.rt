@@ -72,8 +72,8 @@ fn epoch_of(m: &Msg) -> u32
 }
 
 // A node takes a message. The last epoch that its type has cannot be left, so a message of that
-// epoch is refused as if memory ran out. A run has fewer epochs than records, so it does not get
-// there.
+// epoch is refused as if memory ran out. No epoch exceeds the number of records, and a cell stops
+// at 2^31 of these, so it does not get there.
 fn take(alloc: Global, core: &Core, m: &Msg) -> Result<(Core, Outs), NoMemory>
     ensures next { IfOk result (λ r. r.0 ≡ (took core.now (message_of m.now)).0) }
     ensures sent { IfOk result (λ r. map message_of r.1 ≡ option_to_list (took core.now (message_of m.now)).1) }

@@ -174,11 +174,12 @@ impl<D: Disk> Cell<D> {
     /// its last entry, or that of a node to which nothing has happened if there is none. The crash
     /// keeps the move exactly if only the part after it fits.
     ///
-    /// It returns `Disk` only if the number of faults of the disk has increased; `NotLog` only if
-    /// the bytes of the disk break the format of a log, with the smallest place where they do;
-    /// `Changed`, with the last entry that was found, only if neither part fits or the entries are
-    /// of version 1 of the format; and `NoMemory` if memory runs out. After each of these the node
-    /// is still down, and has posted nothing.
+    /// It returns `Disk` only if the number of faults of the disk has increased or is 2^64 - 1;
+    /// `NotLog` only if the bytes of the disk break the format of a log, with the smallest place
+    /// where they do; `Changed`, with the last entry that was found, only if neither part fits or
+    /// the entries are of version 1 of the format; and `NoMemory` if memory runs out or if the pass
+    /// has seen 2^31 records or more. After each of these the node is still down, and has posted
+    /// nothing.
     pub fn rise<W: Wait>(&mut self, rt: &W, wire: &Wire<PaxosRules>) -> Result<u64, RiseFault>
         requires own { self.old.pass.wire ≡ wire.now.id }
         requires config { self.old.config ≡ wire.now.rules.config }

@@ -30,7 +30,8 @@ use gp_wire::{Pass, Wire};
 use gp_work::{Move, StepFault};
 use std::sync::Wait;
 
-/// A cell whose pass has seen this many records or more refuses a step as if memory ran out.
+/// A cell whose pass has seen this many records or more refuses a step or a recovery as if memory
+/// ran out.
 pub const MOST_RECORDS: u64 = 2_147_483_648;
 
 impl<D: Disk> Cell<D> {
@@ -174,12 +175,14 @@ impl<D: Disk> Cell<D> {
     ///
     /// The step reads the message that the move takes, plans the move, calls the gate with `turn`,
     /// and writes the durable part to the log if the part changes. The part is appended, or becomes
-    /// the only entry if the log has no room for one more.
+    /// the only entry if the log has no room for one more. No clause says when the gate is called
+    /// or with which number; tests do.
     ///
     /// It returns `Waiting` only if the message that the move takes was not sent yet, and then only
     /// the pass has changed. It returns `Full` only if the log has no room for the part, even as
-    /// its only entry, and `Disk` only if the number of faults of the disk has increased. After
-    /// both the node is down and remembers the move. After `NoMemory` either the node is down and
+    /// its only entry, and `Disk` only if the number of faults of the disk has increased or is
+    /// 2^64 - 1. After both the node is down and remembers the move. `NoMemory` comes if memory
+    /// runs out, or if the pass has seen 2^31 records or more; then either the node is down and
     /// remembers the move, or only the pass has changed. A move that is refused posts nothing.
     ///
     /// If the pass holds all nodes, it sees no record except the one that it posts.

@@ -10,8 +10,9 @@ use std::rt::Files;
 /// The folder of the files.
 const FOLDER: &str = "mcgp-data";
 
-/// Twelve disks over the files `mcgp-data/0` to `mcgp-data/11`. A file, and the folder, are made at
-/// the first use of their disk, which is tested.
+/// Twelve disks over the files `mcgp-data/0` to `mcgp-data/11`. Which files they are, and that a
+/// file and the folder are made at the first use of their disk, is tested. `NoMemory` if memory
+/// runs out.
 pub fn file_disks<R: Files + Copy + Drop>(
     alloc: Global,
     files: R,

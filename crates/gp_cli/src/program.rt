@@ -24,8 +24,8 @@ use std::process::{ExitCode, Termination};
 use std::sync::Wait;
 use std::thread::Threads;
 
-/// How the program ended. Only `run_program` makes one, so a `main` that returns one ends with the status
-/// of that run. A contract sees the run.
+/// How the program ended. Only `run_program` makes one, so a `main` that returns one ends with the
+/// status of that run. A contract sees the run.
 #[derive(Drop)]
 pub struct Ended<D: Disk> {
     ran: Ran<D>,

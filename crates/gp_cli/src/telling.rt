@@ -22,7 +22,8 @@ pub const READ_FAULT: &[u8] = b"read fault\n";
 pub const DISK_FAULT: &[u8] = b"disk fault\n";
 
 /// What is printed if, after a fault of its disk, the log of a node has neither the durable part
-/// from before its last move nor the one from after it.
+/// from before its last move nor the one from after it, or it has entries of version 1 of the
+/// format.
 pub const LOG_CHANGED: &[u8] = b"log changed\n";
 
 fn reason_text(reason: Reason) -> &'static [u8]

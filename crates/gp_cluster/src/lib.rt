@@ -1,5 +1,5 @@
-//! Runs of all nodes of a configuration in threads of one process, from disks to disks, and the laws
-//! on when every learner holds every command that was offered.
+//! Runs of all nodes of a configuration in threads of one process, from disks to disks, and the
+//! laws on when every learner holds every command that was offered.
 #![tactic(auto)]
 
 mod adapting;

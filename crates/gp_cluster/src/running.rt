@@ -49,13 +49,15 @@ fn end_of(why: LendFault) -> RunEnd
 }
 
 /// Runs the nodes of a configuration in threads, until every learner holds every command that was
-/// offered.
+/// offered. No clause speaks of threads; a test shows that two nodes step at the same time.
 ///
 /// New logs with this limit, in bytes, are made on the disks of the acceptors and the coordinators;
 /// the other disks stay as they are. The proposers post the offers. In the work phases that follow,
 /// all other nodes work until nothing is left to do. The policy says which rounds begin, and
 /// whether there are work phases before the offers too. If a learner then lacks an offered command,
-/// the run is settled. `RunEnd` says why a run ends.
+/// the run is settled. `RunEnd` says why a run ends. There must be twelve disks, and `limit` must
+/// be from `LEAST_LIMIT` to `MOST_LIMIT`. The offers must be fewer than 2^32, each at one of the
+/// eight proposers.
 pub fn run_nodes<
     D: Disk + Send,
     A: Beside<Wire<PaxosRules>, Cell<D>> + Send,

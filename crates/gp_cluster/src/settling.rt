@@ -67,8 +67,8 @@ fn settle_and_close<D: Disk, W: Wait, G: Gate>(
 /// is settled first if some learner has fewer than `commands` commands. `room` must be empty and
 /// have room for the logs.
 ///
-/// Settling only adds to the run. If it did not end with the fault of a disk, the count of no disk
-/// has risen in it.
+/// Settling only adds to the run. If it did not end with the fault of a disk, no disk's count of
+/// faults has risen in it.
 ///
 /// If the wire could not be closed, memory ran out: no list is returned and the end is `NoMemory`.
 /// The logs are returned in every case.

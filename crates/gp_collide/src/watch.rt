@@ -138,8 +138,7 @@ fn place_of(values: &[(Node, History)], sender: Node) -> Option<usize>
 
 // Whether a value is incompatible with one of these.
 fn goes_against(value: &History, values: &[(Node, History)]) -> bool
-    ensures { MatchBool result
-        (Any (λ e. ¬ IsCompatible (history_of value.now) (history_of e.1)) values.now)
+    ensures { MatchBool result (Any (λ e. ¬ IsCompatible (history_of value.now) (history_of e.1)) values.now)
         (All (λ e. IsCompatible (history_of value.now) (history_of e.1)) values.now) }
 {
     values.iter().any(|(_, other)| !compatible(value, other))

@@ -15,10 +15,10 @@ use std::cmp::Ordering;
 use std::marker::Model;
 use std::sync::Arc;
 
-/// A command without its identity: a checkpoint mark, a footprint and a body. The mark says whether
+/// A command without its identity: a checkpoint flag, a footprint and a body. The flag says whether
 /// it is a checkpoint.
 ///
-/// A checkpoint has no touches. Drafts are ordered by checkpoint mark (a checkpoint last),
+/// A checkpoint has no touches. Drafts are ordered by checkpoint flag (a checkpoint last),
 /// footprint and body.
 #[derive(Drop, Debug)]
 pub struct Draft {
@@ -139,7 +139,8 @@ impl Draft {
         })
     }
 
-    /// An equal draft. `NoMemory` if memory runs out.
+    /// An equal draft, which shares the parts of this one. `NoMemory` only if 2^63 - 1 drafts share
+    /// them already.
     pub fn copy(&self) -> Result<Draft, NoMemory>
         ensures { IfOk result (λ copy. copy ≡ self.now) }
     {

@@ -7,6 +7,7 @@ ghost use Rattle.gp_cstructs.specs.CStructs.{Operations, Laws};
 ///
 /// The laws of this crate use nothing else of values and commands.
 pub trait CStructs {
+    /// A command.
     type Command;
     /// A command without its identity, from which a proposer makes a command.
     type Draft;

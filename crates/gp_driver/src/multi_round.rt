@@ -123,9 +123,10 @@ fn drive_each<S: Stage, W: Wait>(
     Ok(events)
 }
 
-/// Drives drafts, none of which is a checkpoint, in an empty run with three coordinators. Every
-/// learner learns each draft before the next one is offered, whether or not the drafts conflict.
-/// Returns the number of events that this took. The first fault of a step ends it.
+/// Drives drafts, none of which is a checkpoint, in an empty run with three coordinators. The
+/// driven run must have at most 2^31 events. Every learner learns each draft before the next one is
+/// offered, whether or not the drafts conflict. Returns the number of events that this took. The
+/// first fault of a step ends it.
 ///
 /// Coordinator 0 begins the multi round of count 1, and coordinators 0 and 1 lead it through phase
 /// 1 into phase 2. Then proposer 0 offers one draft after another. Both coordinators send it to the

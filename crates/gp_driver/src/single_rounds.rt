@@ -150,8 +150,10 @@ fn make_passes<S: Stage, W: Wait>(
     Ok(events)
 }
 
-/// Settles a legal run: every learner then holds every offered command. Returns the number of
-/// events that this took. The first fault of a step ends it.
+/// Settles a legal run: every learner then holds every offered command. The greatest count of a
+/// round and the number of offered checkpoints must be below `LAST_COUNT` together, and the settled
+/// run must have at most 2^31 events. Returns the number of events that this took. The first fault
+/// of a step ends it.
 ///
 /// Coordinator 0, then every acceptor and then every learner takes each Final message, and
 /// coordinator 0 takes each proposal. Then passes follow. In a pass, coordinator 0 leads a single

@@ -26,7 +26,7 @@ impl Model for CalmSource {
 }
 
 impl CalmSource {
-    /// A source with these bytes.
+    /// A source with these bytes. `NoMemory` if memory runs out.
     pub fn new(alloc: Global, bytes: &[u8]) -> Result<CalmSource, NoMemory>
         ensures { IfOk result (λ source. source ≡ bytes.now) }
     {

@@ -33,7 +33,7 @@ impl Model for CalmDisk {
 }
 
 impl CalmDisk {
-    /// A disk with these bytes, all of them synced.
+    /// A disk with these bytes, all of them synced. `NoMemory` if memory runs out.
     pub fn new(alloc: Global, bytes: &[u8]) -> Result<CalmDisk, NoMemory>
         ensures { IfOk result (λ disk. disk ≡ disk_with bytes.now) }
     {
@@ -136,7 +136,7 @@ impl Model for MemDisk {
 
 impl MemDisk {
     /// A disk with these bytes, all of them synced. The calls with the numbers in `failing` fail.
-    /// Calls of all five kinds are counted together, from 0.
+    /// Calls of all five kinds are counted together, from 0. `NoMemory` if memory runs out.
     pub fn new(alloc: Global, bytes: &[u8], failing: &[u64]) -> Result<MemDisk, NoMemory>
         ensures { IfOk result (λ disk. disk ≡ mem_disk_of bytes.now failing.now) }
     {

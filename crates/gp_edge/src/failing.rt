@@ -38,7 +38,7 @@ impl Model for MemSource {
 
 impl MemSource {
     /// A source with these bytes. A call moves at most `piece` bytes, which is at least 1. The
-    /// calls with the numbers in `failing`, counted from 0, fail.
+    /// calls with the numbers in `failing`, counted from 0, fail. `NoMemory` if memory runs out.
     pub fn new(
         alloc: Global,
         bytes: &[u8],
@@ -102,7 +102,8 @@ impl Model for MemSink {
 
 impl MemSink {
     /// A sink to which nothing was written. A call takes at most `piece` bytes, which is at least
-    /// 1. The calls with the numbers in `failing`, counted from 0, fail.
+    /// 1. The calls with the numbers in `failing`, counted from 0, fail. `NoMemory` if memory runs
+    /// out.
     pub fn new(alloc: Global, piece: usize, failing: &[u64]) -> Result<MemSink, NoMemory>
         requires { 1 ≤ piece }
         ensures { IfOk result (λ sink. sink ≡ sink_of piece failing.now) }

@@ -1,5 +1,5 @@
-//! Laws of the rounds that a run begins, of work phases that end quietly, and of how a run ends. Each
-//! function does nothing, and its contract is the law.
+//! Laws of the rounds that a run begins, of work phases that end quietly, and of how a run ends.
+//! Each function does nothing, and its contract is the law.
 ghost use Rattle.std.specs.Prelude.{◌<◌, List, ◌≡◌, ℕ, true, None, length, slice_index_or, Option, Some};
 ghost use Rattle.std.specs.List.{All};
 ghost use Rattle.gp_work.specs.Doing.{ProcessState};
@@ -81,8 +81,9 @@ pub fn phases_that_adapt_leave_an_adaptive_run<D: Disk>()
         → StaysSteady D.faults run → IsAdaptiveRun wire.rules.config list }
 {}
 
-/// The list with which a wire is closed after work phases that end quietly is such a list, if each
-/// pass is that of its cell's node.
+/// The list with which a wire is closed after work phases that end quietly is legal, and begins
+/// with what each cell has seen, followed by no more records of the cell's node, if each pass is
+/// that of its cell's node.
 pub fn a_closed_list_is_that_of_its_cells<D: Disk>()
     ensures { (wire : WireState PaxosRules) (run : EndedRun D) (list : List Record) → EndsQuietly IsCalled D.content D.faults wire run → IsClosedList wire run list → IsListOf wire run list }
 {}

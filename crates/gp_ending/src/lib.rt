@@ -1,4 +1,5 @@
-//! Runs of nodes in threads, from the first round to their end.
+//! The work phases of a run: which rounds begin, which fault decides how the run ends, and laws on
+//! phases that end quietly.
 #![tactic(auto)]
 
 mod ends;

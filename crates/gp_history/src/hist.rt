@@ -56,7 +56,8 @@ pub trait Hist: Drop {
         ensures size { result ≡ size (history_of (sequence self.now)) }
         ensures distinct { IsTrue (no_repeat (sequence self.now)) };
 
-    /// The command at a place of the sequence, counted from 0.
+    /// The command at a place of the sequence, counted from 0, which must be below the number of
+    /// commands.
     fn at(&self, place: usize) -> &Command
         requires { place < length (sequence self.now) }
         ensures { slice_get (sequence self.now) place ≡ Some result.now };

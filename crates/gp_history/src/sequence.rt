@@ -7,6 +7,7 @@ ghost use Rattle.gp_history.specs.Walks.{stands_at};
 
 use gp_command::Command;
 
+/// Whether a command is in the list.
 pub fn is_among(c: &Command, commands: &[Command]) -> bool
     ensures { result ≡ list_any (same c.now) commands.now }
 {

@@ -1,5 +1,5 @@
-//! Laws of histories divided at checkpoints, and of the canonical order. Each function does nothing,
-//! and its contract is the law.
+//! Laws of histories divided at checkpoints, and of the canonical order. Each function does
+//! nothing, and its contract is the law.
 ghost use Rattle.std.specs.Prelude.{◌≡◌, ◌↔◌, ◌≤◌, ℕ, List, [], length, IsTrue};
 ghost use Rattle.gp_command.specs.declared.command.Command.{Command};
 ghost use Rattle.gp_history.specs.History.{History, IsHistory, IsPrefix};

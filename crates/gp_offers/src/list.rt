@@ -5,8 +5,8 @@ use gp_command::Draft;
 use std::alloc::Global;
 use std::marker::Model;
 
-/// Offers, in their order: for each the number of its proposer, and the draft that is offered. A contract
-/// sees them as a list.
+/// Offers, in their order: for each the number of its proposer, and the draft that is offered. A
+/// contract sees them as a list.
 #[derive(Drop, Debug)]
 pub struct OfferList {
     items: Vec<(u32, Draft)>,

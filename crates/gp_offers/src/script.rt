@@ -45,11 +45,15 @@ impl Unread {
 ///
 /// A script is refused at the first line that breaks a rule, for the first reason in the order of
 /// the tokens of that line. After the `nodes` line, every line of the table that is not an offer is
-/// refused with `Reason::BadLine`. The 65th offer is refused with `Reason::TooManyCommands`.
+/// refused with `Reason::BadLine`. The 65th offer is refused with `Reason::TooManyCommands`. A line
+/// that holds the byte at place 1,048,576 of the input, counted from 0, is refused with
+/// `Reason::TooLong` before all else. A script without a `nodes` line is refused with
+/// `Reason::NoNodesLine`.
 pub fn read_offers(alloc: Global, bytes: &[u8]) -> Result<Offers, Unread>
     ensures reads { Reads (offers_reading bytes.now) result }
 
-    // There are at most 64 offers, each of an operation at one of the eight proposers, and the configuration is in range.
+    // There are at most 64 offers, each of an operation at one of the eight proposers, and the
+    // configuration is in range.
     ensures offered { IfOk result AreOffered }
 {
     let mut so_far = None;

@@ -24,7 +24,7 @@ use std::sync::Wait;
 /// `last_looks` or `close`.
 pub type Onlookers = Trio<Publisher, Watcher>;
 
-/// New onlookers at the key, which have not looked yet.
+/// New onlookers at the key, which have not looked yet. `NoMemory` if memory runs out.
 pub fn watch<R: Wait>(rt: &R, alloc: Global, key: Key) -> Result<Onlookers, NoMemory>
     ensures watching { IfOk result (λ o. AreWatching key (topics (λ p. p.feed) topic_of o)) }
     ensures looks { IfOk result (λ o. (o.first.looks ≡ []) × (o.second.looks ≡ [])) }

@@ -61,7 +61,8 @@ fn push_looks(reader: u64, looks: &[Look], to: &mut Vec<u8>) -> Result<(), NoMem
 /// Appends a line `--`, a line that begins with `order: ` and has the identities of the commands in
 /// the order in which they were run, or `-`, and for each read a line `rN seen S value V`, those of
 /// reader 0 before those of reader 1. S is the number of commands that reader N had seen at that
-/// time, and V is the value of the key after them, or `none`.
+/// time, and V is the value of the key after them, or `none`. If memory runs out, a part of this
+/// text may have been appended; no clause says which.
 pub fn push_sight(looks: &Looks, to: &mut Vec<u8>) -> Result<(), NoMemory>
     ensures { OnOk result (to.new.items ≡ to.old.items ++ looks_text looks.now) }
 {

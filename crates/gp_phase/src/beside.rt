@@ -10,7 +10,8 @@ use std::mem::replace;
 use std::sync::Wait;
 use std::thread::{Threads, join_mut};
 
-/// Work that is done beside each work phase, in a thread of its own.
+/// Work that is done beside each work phase, in a thread of its own; no clause says that it is
+/// done.
 pub trait Beside<N, P: Process<N>> {
     /// The type of its topic.
     ghost Topic: { Type 0 };
@@ -18,11 +19,11 @@ pub trait Beside<N, P: Process<N>> {
     /// What the work is about. It never changes.
     ghost topic: { Self → Topic };
 
-    /// Looks at the nodes before a work phase.
+    /// Looks at the nodes before a work phase; no clause says that it is called.
     fn prepare(&mut self, jobs: &[Job<P>])
         ensures { topic self.new ≡ topic self.old };
 
-    /// Does its work while the nodes do theirs.
+    /// Does its work while the nodes do theirs; no clause says that it is called.
     fn act<W: Wait>(&mut self, rt: &W)
         ensures { topic self.new ≡ topic self.old };
 }
@@ -120,7 +121,7 @@ fn work_on<N: Sync, P: Process<N> + Send + Drop, W: Threads + Wait + Sync, G: Ga
 
 /// Does the jobs of a work phase and the other work beside them, and returns the jobs in order.
 /// Each job and each piece of the other work has a thread of its own, and all threads are joined;
-/// no clause says so.
+/// no clause says so, nor that the other work is done, which a test counts.
 pub fn workers_beside<
     N: Sync,
     P: Process<N> + Send + Drop,

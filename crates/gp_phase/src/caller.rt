@@ -47,7 +47,8 @@ pub trait Caller<N, P: Process<N>> {
     ghost lasts: { (caller : Self) (seen more : List Record) → knows caller seen → knows caller (seen ++ more) };
 
     /// Looks at all that was sent, as the node sees it, and returns the round that the node is to
-    /// begin next, if there is one. The node is up and posts nothing. It may return `NoMemory`.
+    /// begin next, if there is one. The node is up and posts nothing. `NoMemory` means that memory
+    /// ran out, or that the caller refuses as if it had.
     fn next<W: Wait>(&mut self, rt: &W, net: &N, cell: &mut P) -> Result<Option<Call>, NoMemory>
         requires own { P.is_of cell.old net.now }
         requires up { (P.state cell.old).up ≡ true }

@@ -29,7 +29,7 @@ pub enum PhasesEnd {
     NoMemory,
 }
 
-/// The jobs after the last work phase.
+/// The jobs after the last work phase, and why the phases ended.
 #[derive(Drop)]
 pub struct Phases<P> {
     pub jobs: Vec<Job<P>>,
@@ -83,7 +83,8 @@ fn is_quiet<N, P: Process<N>>(before: Option<u64>, others: u64, jobs: &[Job<P>])
 }
 
 /// Asks the caller which round the node of a job is to begin next, and leaves the move for the next
-/// work phase in the job. Returns false only if there is no such round.
+/// work phase in the job. Returns `false` only if there is no such round, and `NoMemory` if memory
+/// runs out or the caller returns that.
 pub fn call_round<N, P: Process<N>, C: Caller<N, P>, W: Wait>(
     rt: &W,
     net: &N,

@@ -1,4 +1,4 @@
-//! Tests of the program's commands over sources and sinks in memory.
+//! Tests of `play`: whole and refused scripts, and its ends over sources and sinks in memory.
 #![tactic(auto)]
 
 #[cfg(test)]

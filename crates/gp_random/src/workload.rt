@@ -36,7 +36,7 @@ impl Model for Workload {
 }
 
 impl Workload {
-    /// The workload of a seed, with 1 to `MOST_COMMANDS` commands.
+    /// The workload of a seed, with 1 to `MOST_COMMANDS` commands. `NoMemory` if memory runs out.
     pub fn new(alloc: Global, seed: u64, commands: u32) -> Result<Workload, NoMemory>
         requires some { 1 ≤ commands }
         requires few { commands ≤ 256 }

@@ -44,8 +44,10 @@ fn looks_along<W: Wait>(
 
 /// What `run` prints for these records, followed by the order in which a replica ran what learner 0
 /// learned, and by what each of the onlookers saw of the key at each look, the last time at the end
-/// of that order. The records are a legal run of the configuration. The onlookers end, also after an
-/// error. Returns `NoMemory` if memory runs out, or if a publish or a look was refused before.
+/// of that order. The records are a legal run of the configuration. The onlookers end, also after
+/// an error. Returns `NoMemory` if memory runs out; if a catch-up, a publish or a look was refused
+/// before; if what learner 0 learned does not extend what the replica ran; and if there are more
+/// than 2^31 records.
 pub fn views_text<W: Wait>(
     rt: &W,
     alloc: Global,

@@ -185,8 +185,8 @@ fn may_add<V: Values>(
     false
 }
 
-// Whether some command of a value, from a place of its sequence on, is not known, and all members
-// of one set have it.
+// Whether some command of a value, from a place of its sequence on, is not known, and is in each
+// value of the members of one set that count.
 fn has_new_from<V: Values>(
     known: &History,
     values: &V,

@@ -26,10 +26,10 @@ pub struct Answer {
 /// the least size. Such a quorum counts if all its members that answered did so with that round,
 /// and some member did. If a quorum counts, the choice is the join of the meets of the votes of
 /// those that count, in order of their masks. Otherwise it is the vote of the acceptor with the
-/// lowest number that answered with that round. This follows the provably safe values of Lamport,
-/// *Generalized Consensus and Paxos*, 2005. If an acceptor answered several times, its first answer
-/// is used. Answers of acceptors that are not in the configuration are ignored. `NoMemory` if
-/// memory runs out.
+/// lowest number that answered with that round. If no acceptor of the configuration answered, it is
+/// the empty history. This follows the provably safe values of Lamport, *Generalized Consensus and
+/// Paxos*, 2005. If an acceptor answered several times, its first answer is used. Answers of
+/// acceptors that are not in the configuration are ignored. `NoMemory` if memory runs out.
 ///
 /// Suppose that the acceptors that answered are a quorum of phase 1, and that the meets of the
 /// quorums of the least size that count are compatible in pairs. Then the choice extends each value

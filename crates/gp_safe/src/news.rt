@@ -44,7 +44,7 @@ pub(crate) fn with_new(
     }
 }
 
-// Whether a command is in the values of all members of one set.
+// Whether a command is in each value of the members of one set that count.
 pub(crate) fn all_have<V: Values>(values: &V, n: u32, mask: u8, c: &Command, near: usize) -> bool
     requires { n ≤ 7 }
     ensures { result ≡ all_have (V.value values.now) (λ i. bit mask i && V.within values.now i) n c.now }

@@ -13,9 +13,11 @@ pub enum Reason {
     /// The first line that is not passed over is not a `nodes` line, or there is no such line.
     NoNodesLine,
     /// The first word is unknown or a second `nodes`, or the other words are not those of the
-    /// table.
+    /// table. In a script of `run` it is also the reason for every other line that is no offer, and
+    /// in the trace of an audit for every `show` line.
     BadLine,
-    /// A number is not spelled in decimal without leading zeros, or is 2^64 or more.
+    /// A number is not spelled in decimal without leading zeros, or is out of its range: 2^64 or
+    /// more, or 2^32 or more for an amount of an account.
     BadNumber,
     /// A number of nodes, or the count of a round, is out of range.
     BadCount,
@@ -27,7 +29,7 @@ pub enum Reason {
     BadFall,
     /// The message was not sent yet.
     NoMessage,
-    /// It is the 1,025th offer.
+    /// It is the 1,025th offer, or the 65th in a script of `run`.
     TooManyCommands,
     /// It is the 16,385th event.
     TooManyEvents,

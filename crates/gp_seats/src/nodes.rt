@@ -40,7 +40,8 @@ fn push_first(nodes: &mut Vec<Node>, role: Role, count: u32) -> Result<(), NoMem
     Ok(())
 }
 
-/// The acceptors, the coordinators, the learners and the eight proposers, each in the order of their numbers.
+/// The acceptors, the coordinators, the learners and the eight proposers, each in the order of
+/// their numbers. `NoMemory` if memory runs out.
 pub fn all_nodes(alloc: Global, config: Config) -> Result<Vec<Node>, NoMemory>
     ensures { IfOk result (λ nodes. nodes.items ≡ all_nodes config) }
 {

@@ -116,8 +116,9 @@ fn all_done<D: Disk>(jobs: &[Job<D>]) -> bool
 
 /// Posts the offers in one work phase of the proposers alone: each proposer posts its own offers,
 /// in their order. `proposers` are new jobs of the eight proposers, and they are returned in the
-/// same order. Returns `NoMemory` if memory runs out, also inside a job; a proposer has no disk
-/// that could fail. The wire may then have some of the offers.
+/// same order. The offers must be fewer than 2^32, each at one of the eight proposers. Returns
+/// `NoMemory` if memory runs out, also inside a job; a proposer has no disk that could fail. The
+/// wire may then have some of the offers.
 pub fn offer_all<D: Disk + Send, W: Threads + Wait + Sync, G: Gate + Sync>(
     rt: &W,
     alloc: Global,

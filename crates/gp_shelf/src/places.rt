@@ -4,8 +4,8 @@ ghost use Rattle.gp_shelf.specs.Places.{place_at, logged};
 
 use gp_round::Config;
 
-/// How many disks a program has: one for each acceptor, 0 to 6, and one for each coordinator, 7 to 11,
-/// of the greatest configuration.
+/// How many disks a program has: one for each acceptor, 0 to 6, and one for each coordinator, 7 to
+/// 11, of the greatest configuration.
 pub const DISKS: u32 = 12;
 
 /// The place of the disk of coordinator 0. The disks of acceptors come before it.

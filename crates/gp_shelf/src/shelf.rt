@@ -54,10 +54,11 @@ pub struct Unlent<D: Disk> {
 
 /// Makes a new log of this limit, in bytes, on the disk of each acceptor and each coordinator
 /// (`place_of`). What these disks held may be lost, even if the call is refused. The other disks
-/// are unchanged.
+/// are unchanged. There must be twelve disks, and `limit` must be from `LEAST_LIMIT` to
+/// `MOST_LIMIT`.
 ///
-/// It returns `Disk` only if the number of faults of a disk has increased, and `NoMemory` if memory
-/// runs out. After `NoMemory` no number has increased.
+/// It returns `Disk` only if the number of faults of a disk has increased or is 2^64 - 1, and
+/// `NoMemory` if memory runs out. After `NoMemory` no number has increased.
 pub fn lend<D: Disk>(
     alloc: Global,
     config: Config,

@@ -47,7 +47,7 @@ fn in_range(config: &Config)
 
 /// The world after the commands `put k 1` to `put k N` were driven, one after another, to all its
 /// learners. The configuration has three coordinators, and the last of them does nothing. N is
-/// `commands`, which is at most `MOST_DRIVEN`.
+/// `commands`, which is at most `MOST_DRIVEN`. `NoMemory` if memory runs out.
 pub fn drive<W: Wait>(
     rt: &W,
     alloc: Global,

@@ -44,7 +44,7 @@ fn draw(alloc: Global, seed: u64, commands: u32) -> Result<World, NoMemory>
 ///
 /// Three acceptors, three coordinators and two learners take part. The events of the workload are
 /// executed one after another. Then coordinator 0 leads single rounds until every offered command
-/// is learned.
+/// is learned. `NoMemory` if memory runs out.
 pub fn simulate<W: Wait>(rt: &W, alloc: Global, seed: u64, commands: u32) -> Result<World, NoMemory>
     requires some { 1 ≤ commands }
     requires few { commands ≤ 256 }

@@ -28,8 +28,8 @@ use std::sync::Wait;
 /// over all nodes.
 ///
 /// The stage is ready if all its cells are up. A step that fails may leave its cell down. A
-/// contract sees the configuration, the wire with its nodes, the cells, and how often a log was
-/// full.
+/// contract sees the configuration, the wire with its nodes, the cells, the place of the cell whose
+/// pass holds all nodes, and how often a log was full.
 #[derive(Drop)]
 pub struct CellStage<'a, D: Disk, G: Gate> {
     pub(crate) wire: Wire<PaxosRules>,

@@ -17,7 +17,7 @@ use std::alloc::Global;
 /// The greatest number of tokens in an operation's spelling.
 pub const MOST_TOKENS: usize = 4;
 
-/// The draft of a command that does the operation.
+/// The draft of a command that does the operation. `NoMemory` if memory runs out.
 pub fn draft_of(alloc: Global, op: Op) -> Result<Draft, NoMemory>
     ensures { IfOk result (λ draft. draft ≡ draft_for op) }
 {
@@ -102,8 +102,8 @@ fn spelled_op(text: &[u8]) -> Option<Op>
     op_of_form(form).ok()
 }
 
-/// The tokens of a text in the first places, and how many there are, or `None` if there are more than four, which are too
-/// many for an operation.
+/// The tokens of a text, in the first places of the array, and how many there are. `None` if there
+/// are more than four, which are too many for an operation.
 pub fn few_tokens(text: &[u8]) -> Option<([&[u8]; MOST_TOKENS], usize)>
     ensures { MatchOption result (4 < length (tokens_of text.now)) (λ found. (found.1 ≤ 4) × (texts (take found.1 found.0) ≡ tokens_of text.now)) }
 {

@@ -33,7 +33,8 @@ pub enum OpForm<'a> {
 pub enum OpFault {
     /// A token in the place of a key is not a key.
     BadKey,
-    /// A token in the place of a value is not a number below 2^64, or not in its one spelling.
+    /// A token in the place of a number is not a number in the range of the operation (below 2^64
+    /// in the key store), or not in its one spelling.
     BadNumber,
 }
 

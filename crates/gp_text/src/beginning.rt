@@ -52,9 +52,10 @@ fn is_nodes(tokens: &[&[u8]]) -> bool
     }
 }
 
-/// The configuration that the first line gives which is neither empty nor a comment. The line is
-/// refused with `NoNodesLine` if it is no `nodes` line, with `BadLine` if it lacks its three
-/// counts, and with the reason of `config_of` if a count is out of range. `NoMemory` if memory runs
+/// The configuration that a line gives, the first that is neither empty nor a comment. It is
+/// refused with `NoNodesLine` if its first word is not `nodes`, with `BadLine` if it has not
+/// exactly three more words or one is empty, and else with the reason of `config_of`: `BadNumber`
+/// if a word spells no number, `BadCount` if a number is out of range. `NoMemory` if memory runs
 /// out.
 #[tactic(auto, unfolding(crate::specs::Reading::nodes_line))]
 pub fn nodes_line(alloc: Global, text: &[u8]) -> Result<Config, LineFault>

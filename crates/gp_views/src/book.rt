@@ -87,6 +87,7 @@ impl Model for Mark {
 }
 
 impl Mark {
+    /// The same mark.
     pub fn copy(&self) -> Mark
         ensures { result ≡ self.now }
     {
@@ -262,6 +263,7 @@ impl Model for Goal {
 }
 
 impl Goal {
+    /// The feed and the list of this batch.
     pub fn of(batch: &Batch) -> Goal
         ensures { result ≡ batch.now }
     {

@@ -55,7 +55,8 @@ impl Model for Feed {
 }
 
 impl Feed {
-    /// A feed that has published nothing, and its `readers` readers, from 1 to 16.
+    /// A feed that has published nothing, and its `readers` readers, from 1 to 16. `NoMemory` if
+    /// memory runs out.
     pub fn new<R: Wait>(
         rt: &R,
         alloc: Global,
@@ -115,7 +116,9 @@ impl Feed {
         Ok(ran.len() - before)
     }
 
-    /// A note of the published list, for one reader. The feed stays as it was.
+    /// A note of the published list, for one reader. The feed stays as it was. `NoMemory` means
+    /// that the published copy has no mark. By the code of `left_right` this cannot happen, but no
+    /// clause excludes it.
     pub fn tell(&mut self) -> Result<Told, NoMemory>
         ensures told { IfOk result (λ told. told ≡ self.old) }
         ensures kept { self.new ≡ self.old }

@@ -17,7 +17,8 @@ use gp_command::Key;
 use std::marker::Model;
 use std::sync::Wait;
 
-/// No read was made.
+/// No read was made: the feed was closed. No clause says so; a test shows that a closed feed is not
+/// read.
 #[derive(Clone, Copy, Debug, PartialEq, Eq)]
 pub struct Unread;
 
@@ -92,8 +93,8 @@ impl Reader {
 
     /// The value at the key after the commands that the reader has seen then, or `None` if the key
     /// is absent. These commands extend what it had seen before, and each list that it learned from
-    /// a note. After `Unread` the reader has seen what it had seen before. No clause says when
-    /// `Unread` is returned.
+    /// a note. After `Unread` the reader has seen what it had seen before. `Unread` comes if the
+    /// feed was closed; no clause says when it is returned.
     pub fn get(&mut self, key: Key) -> Result<Option<u64>, Unread>
         ensures value { IfOk result (λ value. value ≡ value_at (state_after store_rules self.new.seen) key) }
         ensures later { OnOk result (Extends self.new.seen self.old.seen) }

@@ -53,6 +53,8 @@ impl Join<Option<Mark>> for Telling {
     ghost spent = { None };
 }
 
+/// A reader of the two copies.
 pub type ReaderEnd = reader::Reader<Image, Option<Mark>, Whole>;
 
+/// The writer of the two copies.
 pub type FeedEnd = Writer<Image, Change, Option<Mark>, Whole>;

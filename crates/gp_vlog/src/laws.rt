@@ -17,7 +17,7 @@ pub fn a_log_is_opened()
 
 /// The place in `NotLog` is the smallest at which the bytes break the format in one of six ways:
 /// the file has ended, a byte of the name is wrong, the limit is out of range, a byte after the
-/// switch is not zero, the active area has no gate, an open gate has no whole entry. Bytes that
+/// switch is not zero, the active area has no gate, or an open gate has no whole entry. Bytes that
 /// hold a log break it nowhere.
 #[tactic(auto, using(crate::proofs::FirstBreaks::first_break_of_log, crate::proofs::FirstBreaks::first_break_again))]
 pub fn a_break_is_the_first()

@@ -62,12 +62,13 @@ pub struct Unopened<D: Disk> {
 }
 
 impl<D: Disk> Log<D> {
-    /// Makes a log without entries, whose size is at most `limit` bytes. What the disk held is
-    /// lost.
+    /// Makes a log without entries, whose size is at most `limit` bytes. `limit` must be from
+    /// `LEAST_LIMIT` to `MOST_LIMIT`. What the disk held is lost.
     ///
     /// It cuts the disk to length 0, writes the header with one closed gate, and syncs. It returns
-    /// `Disk` only if the number of faults of the disk has increased, and `NoMemory` if memory runs
-    /// out. It never returns `NotLog`. No clause says what a crash inside this call leaves.
+    /// `Disk` only if the number of faults of the disk has increased or is 2^64 - 1, and `NoMemory`
+    /// if memory runs out. It never returns `NotLog`. No clause says what a crash inside this call
+    /// leaves.
     pub fn create(alloc: Global, disk: D, limit: u32) -> Result<Log<D>, Unopened<D>>
         requires low { LEAST_LIMIT ≤ limit }
         requires high { limit ≤ MOST_LIMIT }
@@ -99,8 +100,9 @@ impl<D: Disk> Log<D> {
     ///
     /// It syncs and reads, and changes no byte. It returns `NotLog` only if the bytes break the
     /// format, with the smallest place where they do; `Disk` only if the number of faults of the
-    /// disk has increased; and `NoMemory` if memory runs out. It never returns `NotLog` for a disk
-    /// on which a log was created, even after a crash inside an append or a renewal (`laws`).
+    /// disk has increased or is 2^64 - 1; and `NoMemory` if memory runs out. It never returns
+    /// `NotLog` for a disk on which a log was created, even after a crash inside an append or a
+    /// renewal (`laws`).
     pub fn open(alloc: Global, disk: D) -> Result<Log<D>, Unopened<D>>
         ensures ready { IfOk result (λ log. (log.ready ≡ true) × IsReady D.content D.image log) }
         ensures rules { IfOk result (λ log. All KeepsRules log.entries) }
@@ -128,8 +130,8 @@ impl<D: Disk> Log<D> {
     /// Reads the log again from its disk, as `open` does, and makes it ready.
     ///
     /// A limit other than that of this log counts as out of range, so the limit of a log never
-    /// changes. The errors are those of `open`. After each of them the log shows what it showed, and
-    /// is not ready.
+    /// changes. The errors are those of `open`. After each of them the log shows what it showed,
+    /// and is not ready.
     pub fn reopen(&mut self) -> Result<(), OpenFault>
         ensures ready { OnOk result ((self.new.ready ≡ true) × IsReady D.content D.image self.new) }
         ensures rules { OnOk result (All KeepsRules self.new.entries) }
@@ -167,7 +169,7 @@ impl<D: Disk> Log<D> {
         self.entries.len()
     }
 
-    /// Entry `i`, counted from 0, the oldest first.
+    /// Entry `i`, counted from 0, the oldest first. `i` must be below the number of entries.
     pub fn entry(&self, i: usize) -> &Durable
         requires { i < length self.now.entries }
         ensures { slice_get self.now.entries i ≡ Some result.now }
@@ -208,8 +210,9 @@ impl<D: Disk> Log<D> {
     ///
     /// It returns `Full` exactly if the size and the need of the entry together exceed the limit,
     /// unless memory runs out, and the log is then unchanged. It returns `Disk` only if the number
-    /// of faults of the disk has increased, and `NoMemory` if memory runs out. After these two the
-    /// log shows the entries that it showed, and is not ready, even if nothing was written.
+    /// of faults of the disk has increased or is 2^64 - 1, and `NoMemory` if memory runs out. After
+    /// these two the log shows the entries that it showed, and is not ready, even if nothing was
+    /// written.
     pub fn append(&mut self, entry: &Durable) -> Result<(), AppendFault>
         requires ready { self.old.ready ≡ true }
         requires new { self.old.is_old ≡ false }

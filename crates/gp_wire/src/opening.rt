@@ -27,7 +27,8 @@ fn one_slot(alloc: Global) -> Result<Vec<Option<IndexedRecords>>, NoMemory>
 
 impl<R: Rules> Wire<R> {
     /// A wire without records, and a pass for each node, in the order of `nodes`. Each pass holds
-    /// its node and has seen nothing. `nodes` has at least one node, and none twice.
+    /// its node and has seen nothing. `nodes` has at least one node, and none twice. `NoMemory` if
+    /// memory runs out.
     pub fn new(alloc: Global, rules: R, nodes: &[Node]) -> Result<(Wire<R>, Vec<Pass>), NoMemory>
         requires some { 0 < length nodes.now }
         requires distinct { IsDistinct nodes.now }

@@ -31,9 +31,12 @@ pub struct View {
     pub all: LinkedList<Node>,
     /// The nodes that it holds.
     pub nodes: LinkedList<Node>,
+    /// The beginning of the list that it has seen.
     pub seen: LinkedList<Post>,
+    /// Its position in the order of turns.
     pub standing: Standing,
     /// The last turn that it had.
     pub turn: Option<u64>,
+    /// What it knew before each join that it has not learned from yet.
     pub olds: LinkedList<Old>,
 }

@@ -24,6 +24,7 @@ pub trait Process<N> {
     /// What faults mean at the node as it is now.
     ghost causes: { Self → FaultCauses };
 
+    /// Which node it is.
     fn node(&self) -> Node
         ensures { result ≡ (state self.now).node };
 
@@ -48,7 +49,8 @@ pub trait Process<N> {
         ensures answer { result ≡ option_map kind_of (slice_get (messages_in (state self.new).list) k) };
 
     /// Makes a move of a node that is up: posts exactly one record. If it is refused, it posts
-    /// nothing. `turn` is for the gate.
+    /// nothing. `turn` is for the gate. Of the number that it returns no clause here speaks; of a
+    /// `Cell` it is how many messages there are then.
     fn step<W: Wait, G: Gate>(
         &mut self,
         rt: &W,
@@ -69,7 +71,8 @@ pub trait Process<N> {
         ensures cause { IfErr result (StepCause mv (state self.old) (state self.new) ((causes self.new).too_great (event_of (state self.old).node mv))) };
 
     /// Recovers a node that is down: posts exactly one record, of a crash (`Fall`). If it is
-    /// refused, it posts nothing.
+    /// refused, it posts nothing. Of the number that it returns no clause here speaks; of a `Cell`
+    /// it is how many messages there are then.
     fn rise<W: Wait>(&mut self, rt: &W, net: &N) -> Result<u64, RiseFault>
         requires own { is_of self.old net.now }
         requires down { (state self.old).up ≡ false }

@@ -343,8 +343,8 @@ fn run<N, P: Process<N>, W: Wait, G: Gate>(
 }
 
 /// Does a job. It makes the moves of `first`, and then takes the messages, from `cursor` on, that
-/// the node reads. After the first failure of its disk in a step the node recovers and goes on. Any
-/// other fault except `Waiting` ends the job.
+/// the node reads. After the first failure of its disk in a step the node recovers and goes on. The
+/// crash then replaces that move or message. Any other fault except `Waiting` ends the job.
 ///
 /// No clause says in which order messages are taken. They are taken batch by batch; a batch is what
 /// was sent when the node looks. A node with an odd number takes the proposals of a batch after the

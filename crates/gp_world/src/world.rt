@@ -46,7 +46,7 @@ impl Model for World {
 }
 
 impl World {
-    /// A world in which nothing has happened.
+    /// A world in which nothing has happened. `NoMemory` if memory runs out.
     pub fn new(alloc: Global, config: Config) -> Result<World, NoMemory>
         ensures { IfOk result (λ w. w ≡ record { config = config; records = [] }) }
     {
@@ -95,7 +95,8 @@ impl World {
         self.log.messages()
     }
 
-    /// The history that a learner shows: what it learned since its last crash, over all epochs.
+    /// The history that a learner of the configuration shows: what it learned since its last crash,
+    /// over all epochs.
     pub fn learned(&self, learner: u32) -> &History
         requires { learner < self.now.config.learners }
         ensures learned { history_of result.now ≡ learned_at self.now.config learner (entries_of self.now) }

@@ -11,10 +11,11 @@ use gp_index::History;
 use gp_replica::{Machine, Replica, Reply};
 use std::alloc::Global;
 
-/// A count that commands raise by one, reset to 0 or read.
+/// A count that commands raise by one, modulo 2^64, reset to 0 or read.
 ///
-/// A command does so if its only touch is of the key `n`: an addition raises the count, a write resets
-/// it, and a read is answered with it. Every other command changes nothing and is answered `Absent`.
+/// A command does so if its only touch is of the key `n`: an addition raises the count, a write
+/// resets it, and a read is answered with it. Every other command changes nothing and is answered
+/// `Absent`.
 #[derive(Clone, Copy)]
 pub struct Tally {
     pub count: u64,
@@ -69,6 +70,7 @@ impl Machine for Tally {
 }
 
 /// The tally after a learned history. It is the same for all sequences that represent the history.
+/// `NoMemory` if memory runs out.
 pub fn tally_of(alloc: Global, learned: &History) -> Result<Tally, NoMemory>
     requires { HasDistinctIds (history_of learned.now) }
     ensures { IfOk result (λ tally. tally ≡ state_of tally_rules (history_of learned.now)) }
