@@ -36,9 +36,6 @@ same n = omega arith
 later : (m n : ℕ) → m ≤ n → m ≤ suc n
 later m n h = omega (arith, h)
 
-next : (m n : ℕ) → m ≤ n → suc m ≤ suc n
-next m n h = omega (arith, h)
-
 none : (n : ℕ) → 0 ≤ n
 none n = omega arith
 

@@ -11,7 +11,7 @@ use Rattle.gp_round.specs.Rounds.{same_round, round_cmp}
 use Rattle.gp_safe.specs.Held.{newer}
 use Rattle.gp_msg.specs.Messages.{Voted}
 use Rattle.gp_learner.specs.State.{LearnerState, Votes}
-use Rattle.gp_learner.specs.Table.{opening, voter_cmp, vote_of, votes_held, votes_with, heard, learned_with, learner_take, learner_fall}
+use Rattle.gp_learner.specs.Table.{opening, voter_cmp, vote_of, votes_held, votes_with, heard, learned_with, learner_take}
 use Rattle.gp_learner.proofs.Lookups.{lookup-insert_entry, voter_cmp_total, same_number}
 use Rattle.gp_run.specs.Learned.{Vote, votes_heard}
 use Rattle.gp_cstructs.specs.Tables as any
@@ -121,9 +121,6 @@ module _ (config : Counts) (number : ℕ) where
   take_like s t l (P1b r a q v) = l
   take_like s t l (P2a r c v) = l
   take_like s t l (P2b r a v) = subst (λ (x : LearnerState). IsLike (learner_take x (Voted r a v.history)) (core.learner_take T t (P2b r a v))) (sym l.is) (voted_like t l.votes l.all r a v)
-
-  pub fall_like : (s : LearnerState) (t : core.Learner T) → IsLike s t → IsLike (learner_fall s) (core.learner_opening T)
-  fall_like s t l = record { votes = []; is = λ k. learner_fall (l.is k); all = refl }
 
   pub taken_same : (t : core.Learner T) (m : any.Message T) → votes_heard config (votes_taken t.taken) (told config m) ≡ votes_taken (core.learner_take T t m).taken
   taken_same t (Propose c) = refl

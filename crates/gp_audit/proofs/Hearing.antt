@@ -1,5 +1,5 @@
 -- A replay that takes a vote of its epoch, or a Final.
-use Rattle.std.proofs.Common.{◌≡◌, inl, inr, ℕ, ◌+◌, ◌<◌, Bool, true, false, ◌==◌, nat_lt, List, [], ◌++◌, length, map, Option, Some, refl, sym, ap, ◌∙◌}
+use Rattle.std.proofs.Common.{◌≡◌, inr, ℕ, ◌+◌, ◌<◌, Bool, true, false, ◌==◌, nat_lt, List, [], ◌++◌, length, map, Option, Some, refl, sym, ap, ◌∙◌}
 use Rattle.std.specs.Option.{option_to_list}
 use Rattle.std.proofs.lemmas.Bool.{lt-ltb}
 use Rattle.gp_command.specs.declared.command.Command.{Command}
@@ -123,7 +123,3 @@ passed old new at k m step l v is mid next commands shown noted config number ep
         noted = keeps.proofs ∙ noted_is ∙ ap (λ (why : Command → Option Cause). old.proofs.items ++ new_proofs old.learner.learned at why commands) (final_cause_is old.learner k l v ∙ ap (cause_in old.learner k) (sym own));
       });
     }
-
--- a message that is not for its epoch
-pub unmoved : (old : Replay) (at k : ℕ) (m : Stamped) → IsInStep old → old.learner ≡ (take old.learner m).0 → Takes old old at k m
-unmoved old at k m step next = record { step = step; number = refl; next = next; notes = inl (refl, refl) }

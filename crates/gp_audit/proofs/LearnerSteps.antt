@@ -14,7 +14,7 @@ use Rattle.gp_learner.specs.Epochs.{LearnerInEpoch}
 use Rattle.gp_audit.specs.declared.proof.Cause.{Cause}
 use Rattle.gp_audit.specs.declared.proof.Cause.TheVariants as cause
 use Rattle.gp_audit.specs.Noting.{vote_cause, quorums_then, cause_in}
-use Rattle.std.proofs.lemmas.Bool.{eq-eqb, ne_eqb}
+use Rattle.std.proofs.lemmas.Bool.{eq-eqb}
 use Rattle.std.proofs.lemmas.Bool.Decides.{nat_tests}
 
 -- a number is itself
@@ -90,18 +90,3 @@ ends_with s new l v e =
 
 pub final_cause_is : (s : LearnerInEpoch) (k l : ℕ) (v : History) → ◌≡◌ {A = Command → Option Cause} (λ c. Some (cause.Final k)) (cause_in s k (Final s.epoch l v))
 final_cause_is s k l v = λ j c. cond (sym (same_itself s.epoch) j) (Some (cause.Final k)) None
-
--- ---- messages that change nothing
-
-pub other_vote : (s : LearnerInEpoch) (e : ℕ) (r : Round) (a : ℕ) (v : History) → (e ≡ s.epoch → ⊥) → s ≡ (learner.take s (InEpoch e (Voted r a v))).0
-other_vote s e r a v n = sym (ap (λ (b : Bool). (cond (b && nat_lt a s.state.config.acceptors) (learner.hearing s (learner_take s.state (Voted r a v))) (s, None)).0) (ne_eqb e s.epoch n))
-
-pub unknown_vote : (s : LearnerInEpoch) (e : ℕ) (r : Round) (a : ℕ) (v : History) → nat_lt a s.state.config.acceptors ≡ false → s ≡ (learner.take s (InEpoch e (Voted r a v))).0
-unknown_vote s e r a v n = none (nat_eq e s.epoch) ∙ ap (λ (b : Bool). (cond (nat_eq e s.epoch && b) (learner.hearing s (learner_take s.state (Voted r a v))) (s, None)).0) (sym n)
-  where
-    none : (b : Bool) → s ≡ (cond (b && false) (learner.hearing s (learner_take s.state (Voted r a v))) (s, None)).0
-    none true = refl
-    none false = refl
-
-pub other_final : (s : LearnerInEpoch) (e l : ℕ) (v : History) → (e ≡ s.epoch → ⊥) → s ≡ (learner.take s (Final e l v)).0
-other_final s e l v n = sym (ap (λ (b : Bool). cond b (learner.passed s v) s) (ne_eqb e s.epoch n))

@@ -20,10 +20,6 @@ use Rattle.gp_bank.specs.Drafts.{bank_op}
 use Rattle.gp_bank.specs.Effects.{bank_reply, reply_if_some, bank_rules}
 use Rattle.gp_bank.specs.Commuting.{independent}
 
-neither : (a b : Bool) → not a ≡ true → (a || b) ≡ false → (a ≡ false) × (b ≡ false)
-neither true b n e = absurd cc
-neither false b n e = (refl, e)
-
 -- a command is not one of others that it stands behind
 not_after : (before after : List Command) (c d : Command) → list_any (same d) (before ++ c ∷ after) ≡ false → same d c ≡ false
 not_after [] after c d none = (or_neither (same d c) (list_any (same d) after) none).0

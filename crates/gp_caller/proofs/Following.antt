@@ -150,9 +150,6 @@ looked s w after clashed call last count clash h course some mode =
     let begun = left_true (begins s clashed) (nat_lt count LAST_COUNT) (sym some) in
     record { clashed = clashed; clash = clash; course = course; begun = begun; calm = comes_at_calm s clashed call (calm_is s last h) begun mode }
 
-pub looked_only : (s : CourseState) (w : Watched) (after : CourseState) (clashed : Bool) → IsTrue clashed ↔ HasClash w → after ≡ moved s clashed → IsOneLook s w after None
-looked_only s w after clashed clash course = record { clashed = clashed; clash = clash; course = course; begun = tt; calm = tt }
-
 -- ---- what a caller decides
 
 module _ (w : Watched) (calls : List Call) (e : ℕ) (q : Round) (is : w.round ≡ (e, q)) (over : IsOverLast w calls) where

@@ -1,11 +1,9 @@
 -- A watch that sees the messages of a list.
-use Rattle.std.proofs.Common.{◌≡◌, ◌≤◌, ℕ, zero, suc, ◌+◌, List, [], ◌∷◌, ◌++◌, length, take, Option, Some, None, refl, sym, ap, ◌∙◌, subst, arith}
+use Rattle.std.proofs.Common.{◌≡◌, ◌≤◌, ℕ, zero, suc, ◌+◌, List, [], ◌∷◌, ◌++◌, length, take, Some, None, refl, sym, ap, ◌∙◌, subst, arith}
 use Rattle.std.specs.Prelude.{slice_get}
 use Rattle.std.specs.Option.{option_map}
-use Rattle.std.proofs.lemmas.List.{append-nil}
 use Rattle.std.proofs.lemmas.List.Sums.{fold-append}
 use Rattle.std.proofs.lemmas.Option.{slice_get_within}
-use Rattle.gp_work.specs.Doing.{IsUpTo}
 use Rattle.gp_msg.specs.declared.message.Msg.{Msg}
 use Rattle.gp_msg.specs.declared.record.Record.{Record}
 use Rattle.gp_msg.specs.Messages.{message_of}
@@ -18,13 +16,6 @@ use Rattle.gp_cell.specs.Passing.{GoesOn}
 use Rattle.gp_collide.specs.Watched.{after_message, opening, watched}
 use Rattle.gp_collide.proofs.Bringing.{round-after_message}
 use Rattle.gp_caller.specs.Sights.{SightState, Saw, SawAll, saw_lasts}
-
-pub same_pass : (p : PassState) → GoesOn p p
-same_pass p = record { node = refl; wire = refl; all = refl; holds = refl; turn = same_turn p.turn; more = []; grown = sym (append-nil (records p)) }
-  where
-    same_turn : (t : Option ℕ) → IsUpTo t t
-    same_turn None = tt
-    same_turn (Some t) = omega arith
 
 pub saw_on : (s : SightState) (p q : PassState) → GoesOn p q → Saw s (records p) → Saw s (records q)
 saw_on s p q g h = subst (Saw s) (sym g.grown) (saw_lasts s (records p) g.more h)

@@ -7,15 +7,12 @@ use Rattle.gp_msg.specs.declared.event.Event.{Event}
 use Rattle.gp_msg.specs.declared.event.Event.TheVariants.{Fall}
 use Rattle.gp_wire.specs.Lists.{Has}
 use Rattle.gp_wire.specs.Known.{WireState, records}
-use Rattle.gp_wire.specs.Rule.{IsBelow}
-use Rattle.gp_wire.specs.Known.{PassState}
-use Rattle.gp_wire.specs.Passes.{HadTurn, nothing}
 use Rattle.gp_work.specs.declared.moves.Move.{Move}
 use Rattle.gp_work.specs.declared.faults.StepFault.{StepFault}
 use Rattle.gp_work.specs.declared.faults.StepFault.TheVariants.{Waiting, NoMemory, Disk, Full}
 use Rattle.gp_work.specs.declared.faults.RiseFault.{RiseFault}
 use Rattle.gp_work.specs.declared.faults.RiseFault.TheVariants as rise
-use Rattle.gp_work.specs.Doing.{Goes, Posted, HasRisen}
+use Rattle.gp_work.specs.Doing.{Goes, Posted}
 use Rattle.gp_work.specs.Causes as work
 use Rattle.gp_work.specs.Moves.{event_of}
 use Rattle.gp_wire.specs.Own.{own, own_events, event_in}
@@ -27,13 +24,6 @@ use Rattle.gp_cell.specs.Falls.{Rises}
 use Rattle.gp_cell.specs.Founds.{BreaksWhere, LogBreaksWhere, IsNotRisen}
 use Rattle.gp_cell.specs.Refusals.{CountsFaults, CountsRiseFaults, IsTooGreat, StepCause, faults_of, limit_of}
 use Rattle.gp_cell.specs.Working.{process_of, causes_of, is_up, IsAt}
-
-pub risen_to : (t : Option ℕ) (n : ℕ) → IsBelow t n → HasRisen t (Some n)
-risen_to None n b = tt
-risen_to (Some t) n b = b
-
-pub had_risen : (p q : PassState) → HadTurn p q nothing → HasRisen p.turn q.turn
-had_risen p q t = subst (HasRisen p.turn) (sym (ap (λ (x : PassState). x.turn) t.after)) (risen_to p.turn t.turn t.risen)
 
 -- a log whose disk has the same content breaks the format at the same place
 breaks_same : {D : Type 0} (content : D → Option (List ℕ)) (old new : Option (LogState D)) (at : ℕ) → HoldsSame content old new → limit_of new ≡ limit_of old

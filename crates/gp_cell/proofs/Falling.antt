@@ -1,6 +1,6 @@
 -- A fall by which a node comes up again is lawful, and leaves the part that its log has.
 use Rattle.std.proofs.Common.{◌≡◌, ℕ, true, false, cond, List, [], ◌++◌, length, map, refl, sym, ap, ◌∙◌, subst, Option, Some, None, inl, inr, Result, Ok, Err}
-use Rattle.std.specs.Prelude.{slice_get, IsSome, OnOk, IfOk}
+use Rattle.std.specs.Prelude.{slice_get, IsSome, IfOk}
 use Rattle.std.specs.Option.{option_to_list, option_map}
 use Rattle.std.proofs.lemmas.Bool.{lt-ltb}
 use Rattle.std.proofs.lemmas.List.{append-nil}
@@ -35,7 +35,7 @@ use Rattle.gp_command.proofs.Truth.{true_both}
 use Rattle.gp_cell.specs.declared.planning.Plan.{Plan}
 use Rattle.gp_cell.specs.Cores.{opening, acts, core_at, part_in}
 use Rattle.gp_cell.specs.Plans.{HasRole, planned, named, took_if, IsNamed}
-use Rattle.gp_cell.specs.Cells.{IsSound, IsPlan, Keeps, IsFitLog, HasLog, IsLogged, WentDown}
+use Rattle.gp_cell.specs.Cells.{IsSound, IsPlan, Keeps, HasLog, IsLogged}
 use Rattle.gp_cell.specs.Lawful.{IsLawful}
 use Rattle.gp_cell.specs.Falls.{fell, kept_of, KeepsMove}
 use Rattle.gp_cell.proofs.Acting.{core_role, same_number}
@@ -139,12 +139,6 @@ fell_acceptors : (s : AcceptorInEpoch) (p : EpochPart) → IsAcceptors p → acc
 unfolding IsAcceptors
 fell_acceptors s p k = subst (λ x. acceptor.durable (acceptor.fall s x) ≡ x) (sym k.4) refl
 
-fell_part : (core : Core) (ms : List Stamped) (what : Option Kept) (part : EpochPart) → left_by core ms what ≡ Some part → part_in (fell core part) ≡ Some part
-fell_part (Proposer s) ms what part e = cc
-fell_part (Learner s) ms what part e = cc
-fell_part (Coordinator s) ms what part e = let same : coordinator_kept s ms what ≡ part = cc in ap Some (fell_coordinators s part (subst IsCoordinators same (coordinator_after_crash s ms what)))
-fell_part (Acceptor s) ms what part e = let same : acceptor_kept s ms what ≡ part = cc in ap Some (fell_acceptors s part (subst IsAcceptors same (acceptor_after_crash s ms what)))
-
 may : (config : Counts) (n : Node) (ms : List Stamped) (mv : Move) → IsLogged n → Fits config n mv → IsNamed mv (named ms mv) → may_keep config (length ms) n (kept_of mv) ≡ true
 may config (node.Proposer p) ms mv l f s = absurd l
 may config (node.Learner p) ms mv l f s = absurd l
@@ -161,42 +155,15 @@ may_none config (node.Learner p) have l = absurd l
 may_none config (node.Coordinator c) have l = refl
 may_none config (node.Acceptor c) have l = refl
 
--- a node with a log has a durable part
-part_there : (n : Node) (core : Core) → IsLogged n → HasRole n core → (p : EpochPart) × (part_in core ≡ Some p)
-part_there (node.Proposer p) core l h = absurd l
-part_there (node.Learner p) core l h = absurd l
-part_there (node.Coordinator c) (Proposer s) l h = absurd h
-part_there (node.Coordinator c) (Coordinator s) l h = (coordinator.durable s, refl)
-part_there (node.Coordinator c) (Acceptor s) l h = absurd h
-part_there (node.Coordinator c) (Learner s) l h = absurd h
-part_there (node.Acceptor c) (Proposer s) l h = absurd h
-part_there (node.Acceptor c) (Coordinator s) l h = absurd h
-part_there (node.Acceptor c) (Acceptor s) l h = (acceptor.durable s, refl)
-part_there (node.Acceptor c) (Learner s) l h = absurd h
-
-keeps_fit : {D : Type 0} (f : Option EpochPart) (p : EpochPart) (log : Option (LogState D)) → Keeps f (Some p) log → IsFitLog log
-keeps_fit None p None k = k
-keeps_fit None p (Some log) k = absurd k
-keeps_fit (Some f) p None k = k
-keeps_fit (Some f) p (Some log) k = k.0
-
 first_there : (config : Counts) (n : Node) → IsLogged n → (f : EpochPart) × (part_in (opening config n) ≡ Some f)
 first_there config (node.Proposer p) l = absurd l
 first_there config (node.Learner p) l = absurd l
 first_there config (node.Coordinator c) l = (coordinator.durable (coordinator.opening config c), refl)
 first_there config (node.Acceptor c) l = (acceptor.durable (acceptor.opening config c), refl)
 
-pub if_ok : {A E : Type 0} (r : Result A E) (P Q : Type 0) → (P → Q) → OnOk r P → IfOk r (λ _. Q)
-if_ok (Ok a) P Q f h = f h
-if_ok (Err e) P Q f h = tt
-
 pub map_ok : {A E : Type 0} (r : Result A E) (P Q : A → Type 0) → ((a : A) → P a → Q a) → IfOk r P → IfOk r Q
 map_ok (Ok a) P Q f h = f a h
 map_ok (Err e) P Q f h = tt
-
-pub both_ok : {A E : Type 0} (r : Result A E) (R : Type 0) (P Q : A → Type 0) → ((a : A) → R → P a → Q a) → OnOk r R → IfOk r P → IfOk r Q
-both_ok (Ok a) R P Q f x h = f a x h
-both_ok (Err e) R P Q f x h = tt
 
 no_none : (A : Type 0) → IsSome {T = A} None → ⊥
 no_none A h = let wrong : false ≡ true = h in cc
@@ -242,10 +209,6 @@ module _ {D : Type 0} (config : Counts) (n : Node) (core : Core) (log : Option (
   role : (down : Option Move) → IsSound config n core log p posted down → HasRole n core
   role down s = subst (HasRole n) (sym s.core_is) (core_role config n (newest_first (records p)))
 
-  pub ready_log : (down : Option Move) (next : Core) (part : EpochPart) → IsSound config n core log p posted down → down ≡ None → HasRole n next → part_in next ≡ Some part → IsFitLog log
-  ready_log down next part s up h e = let here = part_there n core (logged_by n next part h e) (role down s) in
-      keeps_fit (part_in (opening config n)) here.0 log (subst (λ o. Keeps (part_in (opening config n)) o log) here.1 (s.log_is up))
-
   pub down_there : (down : Option Move) → IsSound config n core log p posted down → IsSome down → HasLog log × IsLogged n
   down_there None s h = absurd (no_none Move h)
   down_there (Some mv) s h = let f = s.down_is mv refl in (f.there, f.logged)
@@ -260,18 +223,6 @@ module _ {D : Type 0} (config : Counts) (n : Node) (core : Core) (log : Option (
     lawful = s.lawful;
     log_is = λ e. absurd (no_none Move (subst IsSome e h));
     down_is = λ mv e. let f = s.down_is mv e in record { logged = f.logged; there = there; fits = f.fits; stands = f.stands };
-  }
-
-  -- the node goes down in a move
-  pub sound_down : (down now : Option Move) (other : Option (LogState D)) (mv : Move) → IsSound config n core log p posted down → now ≡ Some mv → IsLogged n → HasLog other → Fits config n mv → IsNamed mv (named (messages (newest_first (records p))) mv) → IsSound config n core other p posted now
-  sound_down down now other mv s e logged there fits stands = record {
-    node_is = s.node_is;
-    present = s.present;
-    core_is = s.core_is;
-    posted_is = s.posted_is;
-    lawful = s.lawful;
-    log_is = λ up. absurd (let wrong : None ≡ Some mv = sym up ∙ e in cc);
-    down_is = λ m f. let same : mv ≡ m = cc in subst (λ x. WentDown config n other (messages (newest_first (records p))) x) same (record { logged = logged; there = there; fits = fits; stands = stands });
   }
 
   module _ (down : Option Move) (mv : Move) (plan : Plan) (part : EpochPart) (what : Option Kept) (s : IsSound config n core log p posted down) (logged : IsLogged n) (f : Fits config n mv)
@@ -292,12 +243,6 @@ module _ {D : Type 0} (config : Counts) (n : Node) (core : Core) (log : Option (
     pub fall_next : (more : List Stamped) → fell core part ≡ (acts n core (messages (newest_first (records p)) ++ more) (Fall n what)).0
     unfolding ms
     fall_next more = ap (λ (x : Core × Option Stamped). x.0) (sym (fall_acts n core (ms ++ more) what part logged (role down s) (left_is more)))
-
-    pub fall_part : part_in (fell core part) ≡ Some part
-    fall_part = fell_part core (ms ++ []) what part logged_left
-      where
-        logged_left : left_by core (ms ++ []) what ≡ Some part
-        logged_left = left_is []
 
     may_fall : may_keep config (length ms) n what ≡ true
     unfolding ms

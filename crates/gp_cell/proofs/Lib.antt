@@ -1,7 +1,6 @@
 pub mod Runs
 pub mod Rooms
 pub mod Owning
-pub mod Offering
 pub mod Acting
 pub mod Lasting
 pub mod Stepping

@@ -4,7 +4,7 @@ use Rattle.std.proofs.lemmas.List.{append-nil, map-append, length-map}
 use Rattle.gp_round.specs.Counts.{Counts}
 use Rattle.gp_msg.specs.declared.node.Node.{Node}
 use Rattle.gp_msg.specs.declared.record.Record.{Record}
-use Rattle.gp_msg.specs.Messages.{Stamped, EpochPart, Entry, entry_of}
+use Rattle.gp_msg.specs.Messages.{Stamped, Entry, entry_of}
 use Rattle.gp_run.specs.Messages.{messages}
 use Rattle.gp_run.specs.Runs.{newest_first}
 use Rattle.gp_msg.specs.Nodes.{is_present, same_node}
@@ -23,8 +23,8 @@ use Rattle.gp_cell.specs.declared.roles.Core.{Core}
 use Rattle.gp_cell.specs.Cores.{opening, acts, core_at, part_in}
 use Rattle.gp_cell.specs.Lawful.{IsLawful}
 use Rattle.gp_cell.specs.Still.{AreOthers, core_still, lawful_still, entries_append}
-use Rattle.gp_vlog.specs.Logs.{LogState, has_old, log_entries}
-use Rattle.gp_cell.specs.Cells.{last_or, Keeps, IsFreshLog, IsSound, OwnLawful, PostsOne}
+use Rattle.gp_vlog.specs.Logs.{LogState}
+use Rattle.gp_cell.specs.Cells.{Keeps, IsSound, OwnLawful, PostsOne}
 use Rattle.gp_cell.specs.Passing.{Later}
 use Rattle.gp_cell.proofs.Reading.{foreign_others, down_still}
 use Rattle.gp_cell.proofs.Lawfully.{none_lawful, lawful_more, lawful_one}
@@ -202,14 +202,3 @@ sound_new config n core log p here mine none kept e = record {
   log_is = λ _. subst (λ c. Keeps (part_in (opening config n)) (part_in c) log) (sym e) kept;
   down_is = λ mv went. absurd (let wrong : None ≡ Some mv = went in cc);
 }
-
--- ---- a fresh log
-
--- a log without entries is not one of version 1, and keeps the first part
-pub fresh_keeps : {D : Type 0} (first : Option EpochPart) (log : LogState D) → log.is_old ≡ has_old (log_entries log.is_old log.entries) → IsFreshLog first (Some log) → Keeps first first (Some log)
-fresh_keeps None log e h = absurd h
-fresh_keeps (Some part) log e h = ((h.0, e ∙ ap (λ ds. has_old (log_entries log.is_old ds)) h.1), ap (last_or part) h.1)
-
-pub no_log_keeps : (D : Type 0) (first : Option EpochPart) → IsFreshLog {D = D} first None → Keeps {D = D} first first None
-no_log_keeps D None h = tt
-no_log_keeps D (Some part) h = absurd h

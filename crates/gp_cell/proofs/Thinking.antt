@@ -26,13 +26,6 @@ use Rattle.gp_cell.proofs.Stepping.{plan_lawful, plan_next, plan_role}
 named_is : (rs : List Record) (k : ℕ) (m : Msg) → slice_get (messages_in rs) k ≡ Some m → slice_get (messages (newest_first rs)) k ≡ Some (message_of m)
 named_is rs k m h = message-entries rs k ∙ ap (option_map message_of) h
 
--- the message that a move takes is there
-pub named_there : (ms : List Msg) (mv : Move) (m : Option Msg) → Names ms mv m → IsNamed mv m
-named_there ms (Offer d) m h = tt
-named_there ms (Begin r) m h = tt
-named_there ms (Take k) None h = h
-named_there ms (Take k) (Some m) h = tt
-
 stands : (rs : List Record) (mv : Move) (m : Option Msg) → Names (messages_in rs) mv m → IsNamed mv (named (messages (newest_first rs)) mv)
 stands rs (Offer d) m h = tt
 stands rs (Begin r) m h = tt

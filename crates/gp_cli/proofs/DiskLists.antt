@@ -57,15 +57,6 @@ module _ {D : Type 0} where
   each_disk P xs ys k was now lt there is changed same = λ i a b at_a at_b.
       each_at P xs k i was now a b changed same there at_a (sym (ap (λ (zs : List D). slice_get zs i) (is ∙ put_back xs k now lt)) ∙ at_b)
 
-  -- disks that stayed
-  pub each_same : (P : D → D → Type 0) (xs ys : List D) → ys ≡ xs → ((d : D) → P d d) → EachDisk P xs ys
-  each_same P xs ys is same = λ i a b at_a at_b.
-      let both : Some a ≡ Some b = sym at_a ∙ ap (λ (zs : List D). slice_get zs i) (sym is) ∙ at_b in
-      subst (P a) (let e : a ≡ b = cc in e) (same a)
-
-  pub all_same : (named : Option ℕ) (xs ys : List D) → ys ≡ xs → AllBut named xs ys
-  all_same named xs ys is = record { count = ap length is; others = λ i ne. ap (λ (zs : List D). slice_get zs i) is }
-
 -- what is seen of a disk at its place
 module _ {D : Type 0} (content : D → Option (List ℕ)) (faults : D → ℕ) where
   pub device_there : (xs : List D) (k : ℕ) (d : D) → slice_get xs k ≡ Some d → device_at k (disk_states content faults xs) ≡ device (content d) (faults d)

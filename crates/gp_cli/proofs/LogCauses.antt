@@ -7,18 +7,15 @@ use Rattle.gp_msg.specs.declared.durable.Durable.{Durable}
 use Rattle.gp_msg.specs.Messages.{EpochPart, part_of}
 use Rattle.gp_vlog.specs.declared.fault.AppendFault.{AppendFault}
 use Rattle.gp_vlog.specs.declared.fault.AppendFault.TheVariants as append
-use Rattle.gp_vlog.specs.declared.fault.OpenFault.{OpenFault}
-use Rattle.gp_vlog.specs.declared.fault.OpenFault.TheVariants as opening
 use Rattle.gp_vlog.specs.Bodies.{LogEntry, need}
-use Rattle.gp_vlog.specs.Causes.{IsFullWhere, HasCause, HasOpenCause}
+use Rattle.gp_vlog.specs.Causes.{IsFullWhere, HasCause}
 use Rattle.gp_vlog.specs.Files.{Contents, is_limit, read_log}
 use Rattle.gp_vlog.specs.Logs.{LogState, Shows, IsReady, HoldsEntries, OldOrRenewed, StaysWhole, entry_for, has_old, log_entries}
-use Rattle.gp_vlog.specs.Reading.{BreaksAt}
-use Rattle.gp_vlog.proofs.Moments.{tell, told, stays, weaker, then_on}
+use Rattle.gp_vlog.proofs.Moments.{tell, told, stays, weaker}
 use Rattle.gp_cli.specs.Outside.{DeviceState, device, Told}
 use Rattle.gp_cli.specs.Endings.{Shown, Shows as shows, run_to, config_of}
 use Rattle.gp_cli.specs.Causes.{shown, IfLog, IsLogCause, IsUpgradeCause, last_alone, IsTakenOn, FitsAlone, HasRoomForLast, HasNoRoom}
-use Rattle.gp_cli.specs.Logs.{TellsEnding, LogEnds, open_ending, append_ending, HoldsLast, KeepsLast, TakesOn}
+use Rattle.gp_cli.specs.Logs.{TellsEnding, LogEnds, append_ending, HoldsLast, KeepsLast, TakesOn}
 
 -- ---- what is shown
 
@@ -58,26 +55,6 @@ pub same_seen : (before now : DeviceState) → now.bytes ≡ before.bytes → no
 same_seen before now e f = device_alike now.bytes before.bytes now.faults before.faults e f
 
 -- ---- a log that was not opened
-
-pub unopened_cause : (k : ℕ) (before now : DeviceState) (why : OpenFault) → BreaksAt is_limit before.bytes why → HasOpenCause {T = Unit {0}} before.faults now.faults (Err why) → now.bytes ≡ before.bytes → IsLogCause k before now (open_ending why)
-unopened_cause k before now (opening.NotLog at) broken cause same = (same_seen before now same (cause.steady (λ x. x)), broken)
-unopened_cause k before now opening.Disk broken cause same = (cause.failed tt, same)
-unopened_cause k before now opening.NoMemory broken cause same = same_seen before now same (cause.steady (λ x. x))
-
-pub unopened_upgrade : (k : ℕ) (before now : DeviceState) (why : OpenFault) → BreaksAt is_limit before.bytes why → HasOpenCause {T = Unit {0}} before.faults now.faults (Err why) → now.bytes ≡ before.bytes → IsUpgradeCause k before now (open_ending why)
-unopened_upgrade k before now (opening.NotLog at) broken cause same = (same_seen before now same (cause.steady (λ x. x)), broken)
-unopened_upgrade k before now opening.Disk broken cause same = cause.failed tt
-unopened_upgrade k before now opening.NoMemory broken cause same = cause.steady (λ x. x)
-
-pub open_without_run : (why : OpenFault) → run_to (open_ending why) ≡ []
-open_without_run (opening.NotLog at) = refl
-open_without_run opening.Disk = refl
-open_without_run opening.NoMemory = refl
-
-pub open_without_config : (why : OpenFault) → config_of (open_ending why) ≡ None
-open_without_config (opening.NotLog at) = refl
-open_without_config opening.Disk = refl
-open_without_config opening.NoMemory = refl
 
 pub append_without_run : (why : AppendFault) → run_to (append_ending why) ≡ []
 append_without_run (append.Full size need) = refl
@@ -186,20 +163,6 @@ module _ {D : Type 0} (content : D → Option (List ℕ)) (image : D → List �
         | inr one ↦ inr (holds_last log s c last h alone one)
       ]))
 
-  -- opening a log, and then what was done to it
-  pub opened_leaves : (disk : D) (log : LogState D) (new : D) → content log.disk ≡ content disk → IsReady content image log → LeavesOnly moment since disk log.disk (image disk)
-      → KeepsLast content image moment since log.disk new → KeepsLast content image moment since disk new
-  opened_leaves disk log new same ready opening later = tell (content disk) _ (λ s is.
-      let r = told (content log.disk) _ s (same ∙ is) ready in
-      let h = r.0 in
-      let P : List ℕ → Type 0 = λ c. image disk c ⊎ HoldsLast s c in
-      then_on moment since disk log.disk new P
-      (weaker moment since disk log.disk (image disk) P opening (λ c i. inl i))
-      (weaker moment since log.disk new _ P (told (content log.disk) _ s (same ∙ is) later) (λ c p. elim p [
-        | inl now ↦ inr (holds_all log s c h (log.size, subst (λ (b : List ℕ). Shows log.limit (log_entries log.is_old log.entries) log.size b) (sym (r.1 c now)) h))
-        | inr kept ↦ inr kept
-      ])))
-
 -- ---- how runs end
 
 module _ {D : Type 0} (content : D → Option (List ℕ)) (image : D → List ℕ → Type 0) (faults : D → ℕ) where
@@ -211,26 +174,6 @@ module _ {D : Type 0} (content : D → Option (List ℕ)) (image : D → List �
         (device_alike (content out) (content disk) (faults out) (faults disk) (ap content is ∙ same) (ap faults is ∙ steady)) (sym same) ready;
     no_run = refl;
     no_config = refl;
-    told = told;
-  }
-
-  pub unopened_ends : (k : ℕ) (disk out : D) (why : OpenFault) (before now : DeviceState) (status : ℕ) → BreaksAt is_limit (content disk) why → HasOpenCause {T = Unit {0}} (faults disk) (faults out) (Err why) → content out ≡ content disk
-      → TellsEnding (open_ending why) before now status → LogEnds (IsLogCause k (device (content disk) (faults disk)) (device (content out) (faults out))) before now status
-  unopened_ends k disk out why before now status broken cause same told = record {
-    ending = open_ending why;
-    cause = unopened_cause k (device (content disk) (faults disk)) (device (content out) (faults out)) why broken cause same;
-    no_run = open_without_run why;
-    no_config = open_without_config why;
-    told = told;
-  }
-
-  pub not_upgraded_ends : (k : ℕ) (disk out : D) (why : OpenFault) (before now : DeviceState) (status : ℕ) → BreaksAt is_limit (content disk) why → HasOpenCause {T = Unit {0}} (faults disk) (faults out) (Err why) → content out ≡ content disk
-      → TellsEnding (open_ending why) before now status → LogEnds (IsUpgradeCause k (device (content disk) (faults disk)) (device (content out) (faults out))) before now status
-  not_upgraded_ends k disk out why before now status broken cause same told = record {
-    ending = open_ending why;
-    cause = unopened_upgrade k (device (content disk) (faults disk)) (device (content out) (faults out)) why broken cause same;
-    no_run = open_without_run why;
-    no_config = open_without_config why;
     told = told;
   }
 

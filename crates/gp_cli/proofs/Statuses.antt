@@ -580,10 +580,6 @@ module _ (words : List (List ℕ)) (before now : Outside) (status : ℕ) (trail 
   pub refuse : (operations : Operations) → named words ≡ Some (Play operations) → HoldsBadLine operations before.source → ¬ Rose before.source.faults now.source.faults → (status ≡ 3) ⊎ (status ≡ 1)
   refuse operations is holds read_well = refuses before now status trail operations ends.ending (by_name (Some (Play operations)) is) ends.told holds read_well
 
-  -- the configuration of a run that was made as it should be
-  config_is : (config : Counts) (ending : Ending) → IsConfig (Some config) ends.config → ends.config ≡ config
-  config_is config ending own = own
-
   pub drives : (a l n : ℕ) → named words ≡ Some (Drive a l n) → status ≡ 0 → PrintsDriven (driven_config a l) n before now trail
   drives a l n is none_failed =
       let config = driven_config a l in

@@ -62,16 +62,6 @@ counted p (e ∷ es) =
     let more = counted p es in
     omega arith
 
-number_stays : (p : ℕ) (s : ProposerState) (event : Event) → (proposer_acts p s event).0.number ≡ s.number
-number_stays p s (Offer q d) = by (nat_eq p q)
-  where
-    by : (b : Bool) → (cond {A = ProposerState × Option Stamped} b ((proposer_offer s d).0, Some (Offered (numbered s d))) (s, None)).0.number ≡ s.number
-    by true = refl
-    by false = refl
-number_stays p s (Begin c r) = refl
-number_stays p s (Take node k) = refl
-number_stays p s (Fall node what) = refl
-
 -- ---- one event
 
 pub given_itself : (p : ℕ) (d : DraftView) → given p (Offer p d) ≡ d ∷ []

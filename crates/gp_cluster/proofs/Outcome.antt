@@ -18,7 +18,7 @@ use Rattle.gp_cell.specs.Working.{IsAt}
 use Rattle.gp_driver.specs.Settled.{AllLearned}
 use Rattle.gp_ending.specs.Ended.{cells_of}
 use Rattle.gp_ending.proofs.Indexing.{each_of, each_at, each_got, get_each}
-use Rattle.gp_seats.specs.Nodes.{all_nodes, working_nodes, proposer_nodes}
+use Rattle.gp_seats.specs.Nodes.{all_nodes, proposer_nodes}
 use Rattle.gp_seats.specs.Seats.{IsNewAt, IsNewJob}
 use Rattle.gp_seats.specs.Offering.{HasOffered, IsKnown}
 use Rattle.gp_seats.proofs.Listing.{present_all, all_present}
@@ -106,9 +106,6 @@ module _ {D : Type 0} (content : D → Option (List ℕ)) (faults : D → ℕ) (
 
   pub new_proposing : (i : ℕ) (d : Job (CellState D)) → i < length proposing → IsNewAt faults wire (get_or proposing i d)
   new_proposing i d l = (each_at (IsNewJob faults wire config) proposing (subst (λ js. Each (IsNewJob faults wire config) js) (sym s.proposers_are) (new_jobs faults wire config proposer_nodes [] s.rules)) i d l).0
-
-  pub new_working : (i : ℕ) (d : Job (CellState D)) → i < length jobs → IsNewAt faults wire (get_or jobs i d)
-  new_working i d l = (each_at (IsNewJob faults wire config) jobs (subst (λ js. Each (IsNewJob faults wire config) js) (sym s.jobs_are) (new_jobs faults wire config (working_nodes config) (logs_in jobs) s.rules)) i d l).0
 
   pub configs : (i : ℕ) (c : CellState D) → slice_get cells i ≡ Some c → c.config ≡ config
   configs i c e = (get_each (λ x. IsAt x wire) cells (each_at_wire content faults config wire offers jobs proposing worked offered (logs_in jobs) s size carried as_many has) i c e).config ∙ s.rules

@@ -1,5 +1,5 @@
 -- Logs that are taken one after another.
-use Rattle.std.proofs.Common.{◌≡◌, ◌≤◌, ◌+◌, ℕ, List, [], ◌∷◌, ◌++◌, map, length, reverse, sym, ap, ◌∙◌, arith, append_assoc, length-append, Option, Some}
+use Rattle.std.proofs.Common.{◌≡◌, List, [], ◌∷◌, ◌++◌, map, reverse, sym, ap, ◌∙◌, append_assoc, Option}
 use Rattle.std.proofs.lemmas.List.{reverse-append}
 use Rattle.std.specs.Option.{option_to_list}
 use Rattle.gp_vlog.specs.Logs.{LogState}
@@ -15,11 +15,6 @@ module _ {D : Type 0} (rest more : List (Option (LogState D))) (o : Option (LogS
   pub found_more : (found after all : List (LogState D)) → after ≡ found ++ option_to_list o → found ++ present rest ≡ all → after ++ present more ≡ all
   found_more found after all grown whole =
       ap (λ l. l ++ present more) grown ∙ append_assoc found (option_to_list o) (present more) ∙ ap (λ l. found ++ l) (sym (ap present split)) ∙ whole
-
-  -- there is room for the log that is next
-  pub found_room : (found all : List (LogState D)) (x : LogState D) (room : ℕ) → o ≡ Some x → found ++ present rest ≡ all → length all ≤ room → length found + 1 ≤ room
-  found_room found all x room is whole fits =
-      let n = ap length whole in let m = length-append found (present rest) in let k = ap length (ap present split ∙ ap (λ y. option_to_list y ++ present more) is) in omega (arith, n, m, k, fits)
 
 -- the logs of cells in their order
 pub turned_logs : {D : Type 0} (left more : List (CellState D)) (c : CellState D) → left ≡ more ++ c ∷ [] → map log_of (reverse left) ≡ log_of c ∷ map log_of (reverse more)

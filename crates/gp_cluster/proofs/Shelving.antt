@@ -17,10 +17,9 @@ use Rattle.gp_wire.specs.Lists.{Each}
 use Rattle.gp_cell.specs.Cores.{opening, core_at, part_in}
 use Rattle.gp_seats.specs.Nodes.{logged_nodes}
 use Rattle.gp_seats.specs.Seats.{IsBlank}
-use Rattle.gp_shelf.specs.declared.making.LendFault.{LendFault}
 use Rattle.gp_shelf.specs.declared.making.LendFault.TheVariants as lending
 use Rattle.gp_shelf.specs.Lists.{disk_in, lent_of, unlent_of, shelved, KeepsOthers}
-use Rattle.gp_shelf.specs.Making.{IsMade, SomeRose, NoneFell, HasCause}
+use Rattle.gp_shelf.specs.Making.{IsMade, SomeRose, NoneFell}
 use Rattle.gp_shelf.specs.Places.{logged}
 use Rattle.gp_shelf.proofs.Segments.{length-lent, length-unlent, shelved_at, others_stay}
 use Rattle.gp_shelf.proofs.Zips.{zip_all, fell_there}
@@ -30,7 +29,7 @@ use Rattle.gp_cluster.specs.Cells.{LogGoes}
 use Rattle.gp_seats.proofs.Sitting.{all_of_each}
 use Rattle.gp_cluster.specs.Runs.{EndCause, SomeBroke, EndsWith, HoldParts, IsQuietOrSettled}
 use Rattle.gp_cluster.specs.declared.policy.RoundPolicy.{RoundPolicy}
-use Rattle.gp_cluster.specs.Seated.{RunsFrom, HaveLimit, HoldLogs, lent_end}
+use Rattle.gp_cluster.specs.Seated.{RunsFrom, HaveLimit, HoldLogs}
 use Rattle.gp_cluster.proofs.Breaking.{broke_there}
 
 -- ---- new logs
@@ -120,15 +119,6 @@ module _ {D : Type 0} (content : D → Option (List ℕ)) (faults : D → ℕ) (
   cause_on old new old' new' posted f b (Full size needed) c = c
   cause_on old new old' new' posted f b (NotLog at) c = b at c
   cause_on old new old' new' posted f b Changed c = f c
-
-  -- no logs were made
-  pub cause_lent : (old new : List D) (posted : Option (List Record)) (why : LendFault) → HasCause faults old new why → EndCause content faults config limit old new posted (lent_end why)
-  cause_lent old new posted lending.Disk h = h
-  cause_lent old new posted lending.NoMemory h = tt
-
-pub none_posted : {P : Type 0} (why : LendFault) → lent_end why ≡ Learned → P
-none_posted lending.Disk e = absurd (let wrong : Disk ≡ Learned = e in cc)
-none_posted lending.NoMemory e = absurd (let wrong : NoMemory ≡ Learned = e in cc)
 
 -- ---- the run of the disks
 

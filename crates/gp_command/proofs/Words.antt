@@ -1,6 +1,6 @@
 -- Lists of at most 32 bytes with equal heads are equal.
 use Rattle.std.proofs.Common.{◌≡◌, ◌<◌, ◌+◌, ℕ, zero, suc, Bool, true, false, nat_lt, ◌≤◌, ◌-◌, List, [], ◌∷◌, length, get_or, refl, sym, ap, ◌∙◌, arith}
-use Rattle.std.specs.Int.{w64, to_le_bytes, from_le_bytes}
+use Rattle.std.specs.Int.{w64, to_le_bytes}
 use Rattle.std.proofs.lemmas.Bool.{ltb-true, ltb-false}
 use Rattle.gp_command.specs.declared.code.Head.{Head}
 use Rattle.gp_command.specs.Words.{eight, IsWord, IsHead}
@@ -33,9 +33,6 @@ in_eight xs ys i (suc (suc (suc (suc (suc (suc (suc (suc r)))))))) small e = abs
 same_word : (v w : ℕ) (xs ys : List ℕ) (i : ℕ) → IsWord v xs i → IsWord w ys i → v ≡ w → eight xs i ≡ eight ys i
 same_word v w xs ys i a b e = sym a.written ∙ ap (to_le_bytes w64) e ∙ b.written
 
-word_of_same : (v w : ℕ) (xs ys : List ℕ) (i : ℕ) → IsWord v xs i → IsWord w ys i → xs ≡ ys → v ≡ w
-word_of_same v w xs ys i a b e = a.read ∙ ap (λ zs. from_le_bytes w64 (eight zs i)) e ∙ sym b.read
-
 -- ---- whole lists
 
 -- one of four words
@@ -66,11 +63,3 @@ same_heads xs ys h k a b e l short =
     (same_word h.third k.third xs ys 16 a.third b.third e.2)
     (same_word h.fourth k.fourth xs ys 24 a.fourth b.fourth e.3)
     i (omega (arith, within, short)))
-
-pub heads_of_same : (xs ys : List ℕ) (h k : Head) → IsHead h xs → IsHead k ys → xs ≡ ys → (h.first ≡ k.first) × (h.second ≡ k.second) × (h.third ≡ k.third) × (h.fourth ≡ k.fourth)
-heads_of_same xs ys h k a b e = (
-  word_of_same h.first k.first xs ys 0 a.first b.first e,
-  word_of_same h.second k.second xs ys 8 a.second b.second e,
-  word_of_same h.third k.third xs ys 16 a.third b.third e,
-  word_of_same h.fourth k.fourth xs ys 24 a.fourth b.fourth e,
-)

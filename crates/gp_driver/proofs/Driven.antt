@@ -98,9 +98,6 @@ module _ (acceptors learners : ℕ) (some : 0 < acceptors) (n : ℕ) (cs : List 
 
   -- ---- the offer
 
-  abbrev es1 : List Entry
-  es1 = entry_after config es (Offer 0 draft) ∷ es
-
   sent1 : messages (entry_after config es (Offer 0 draft) ∷ es) ≡ messages es ++ Offered (command n draft) ∷ []
   sent1 = ap (λ (s : ProposerState). messages es ++ option_to_list (proposer_acts 0 s (Offer 0 draft)).1) was.proposer
 
@@ -124,9 +121,6 @@ module _ (acceptors learners : ℕ) (some : 0 < acceptors) (n : ℕ) (cs : List 
 
   leaders2 : (i : ℕ) → i < 2 → Leads config i (history_of more) (coordinator_at config i es2)
   leaders2 i l = record { answers = (was.leaders i l).answers; pending = pending_with (was.leaders i l).pending (command n draft); is = took2.coordinators i l ∙ ap (λ (u : CoordinatorInEpoch × List Stamped). u.0) (proposes i l) }
-
-  abbrev new2 : List Stamped
-  new2 = Offered (command n draft) ∷ two_sent (history_of more)
 
   sent2 : messages es2 ≡ messages es ++ (Offered (command n draft) ∷ two_sent (history_of more))
   sent2 =

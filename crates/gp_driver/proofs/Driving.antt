@@ -1,5 +1,5 @@
 -- What drivers do to stages, one call after another.
-use Rattle.std.proofs.Common.{◌≡◌, ℕ, zero, suc, ◌+◌, ◌<◌, ◌≤◌, Bool, true, false, cond, ◌&&◌, List, [], ◌∷◌, ◌++◌, length, Some, None, inl, inr, refl, sym, ap, ◌∙◌, subst, arith, append_assoc}
+use Rattle.std.proofs.Common.{◌≡◌, ℕ, zero, suc, ◌+◌, ◌<◌, ◌≤◌, Bool, true, false, cond, ◌&&◌, List, [], ◌∷◌, ◌++◌, length, Some, inl, inr, refl, sym, ap, ◌∙◌, subst, arith, append_assoc}
 use Rattle.std.specs.Prelude.{take, drop, slice_get, nat_lt}
 use Rattle.std.proofs.lemmas.List.{append-nil, length-append}
 use Rattle.std.proofs.lemmas.Bool.{cases_eq, lt-ltb}
@@ -117,12 +117,3 @@ module _ (config config_now : Counts) (es now : List Entry) (f0 f1 : ℕ) (ready
         is_ready = λ h. r (s.is_ready h);
         left = (λ i. first_place (places_from kind (add-one k i) (drop (add-one k i) (messages es)))) ∙ sym (search_at kind k (messages es) m.0 m.1 false (sym (ap (is_there kind) m.1) ∙ ap (λ zs. is_there kind (slice_get (messages zs) k)) (sym s.same_run) ∙ t)) ∙ s.left;
       }
-
-  pub nothing_found : length (messages es) ≤ k → None ≡ first_place (places kind start (messages es))
-  nothing_found l = (λ i. first_place (places_from kind k (sym (drop_past k (messages es) l) i))) ∙ s.left
-    where
-      drop_past : {X : Type 0} (n : ℕ) (xs : List X) → length xs ≤ n → drop n xs ≡ []
-      drop_past zero [] h = refl
-      drop_past zero (x ∷ xs) h = absurd (omega (arith, h))
-      drop_past (suc n) [] h = refl
-      drop_past (suc n) (x ∷ xs) h = drop_past n xs (omega (arith, h))

@@ -69,9 +69,6 @@ module _ (config : Counts) where
   pub opened_room3 : length opened3 ≤ length (opened config)
   opened_room3 = let a = longer config Coordinator 2 Kind.P1b 0 opened3 in let b = opened_room4 in omega (arith, a, b)
 
-  pub opened_room2 : length opened2 ≤ length (opened config)
-  opened_room2 = let a = longer config Acceptor config.acceptors Kind.P1a 0 opened2 in let b = opened_room3 in omega (arith, a, b)
-
 -- what begins on no entries
 pub first_begun : (c d : Counts) (es : List Entry) → c ≡ d → es ≡ [] → entry_after c es (Begin 0 first_round) ∷ es ≡ opened1 d
 first_begun c d es p q = λ i. entry_after (p i) (q i) (Begin 0 first_round) ∷ q i

@@ -14,7 +14,7 @@ use Rattle.gp_round.specs.Counts.{Counts}
 use Rattle.gp_msg.specs.declared.node.Node.TheVariants.{Coordinator, Acceptor}
 use Rattle.gp_epoch.proofs.Checkpoints.{found_is_first}
 use Rattle.gp_epoch.proofs.Cuts.{has-cut}
-use Rattle.gp_msg.specs.Messages.{Stamped, Final, Entry}
+use Rattle.gp_msg.specs.Messages.{Final, Entry}
 use Rattle.gp_run.specs.Messages.{messages}
 use Rattle.gp_run.specs.Legal.{Legal}
 use Rattle.gp_run.specs.TopCount.{top_count}
@@ -103,9 +103,6 @@ module _ (config : Counts) (some : 0 < config.acceptors) (lead : 0 < config.coor
 
     abbrev value : History
     value = c.finals 0
-
-    abbrev final : Stamped
-    final = Final e 0 (c.finals 0)
 
     abbrev zs1 : List Entry
     zs1 = swept config Coordinator 1 (c.first.first ∷ []) (pass config es)

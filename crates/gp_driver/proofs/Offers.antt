@@ -87,11 +87,6 @@ contained [] k m h = cc
 contained (x ∷ ms) zero m h = (0, omega arith, let is : x ≡ m = cc in is)
 contained (x ∷ ms) (suc k) m h = let r = contained ms k m h in (suc r.0, omega (arith, r.1), r.2)
 
-pub contained_at : {X : Type 0} (ms : List X) (m : X) → Contains ms m → (k : ℕ) × (slice_get ms k ≡ Some m)
-contained_at [] m (k, l, e) = absurd (omega (arith, l))
-contained_at (x ∷ ms) m (zero, l, e) = (0, ap Some e)
-contained_at (x ∷ ms) m (suc k, l, e) = let r = contained_at ms m (k, omega (arith, l), e) in (suc r.0, r.1)
-
 -- ---- a Final message of each learner, all with one value
 
 pub finals_offer_nothing : (e : ℕ) (v : ℕ → History) (n : ℕ) (c : Command) → is_offered (outs (λ l. Final e l (v l)) n) c ≡ false

@@ -44,12 +44,6 @@ module _ (acceptors learners : ℕ) (some : 0 < acceptors) where
   abbrev config : Counts
   config = record { acceptors = acceptors; coordinators = 3; learners = learners }
 
-  abbrev asking : Stamped
-  asking = InEpoch 0 (Asked first_round)
-
-  abbrev es1 : List Entry
-  es1 = entry_after config [] (Begin 0 first_round) ∷ []
-
   legal1 : Legal config (entry_after config [] (Begin 0 first_round) ∷ [])
   legal1 = (tt, record { own_node = refl; event_fits = refl; own_messages = refl })
 
@@ -118,9 +112,6 @@ module _ (acceptors learners : ℕ) (some : 0 < acceptors) where
       ap (λ (s : CoordinatorInEpoch). run coordinator.take s (outs answers_of acceptors)) (took3.coordinators i ∙ waiting i l)
       ∙ (collected i).is
       ∙ (λ j. (leading config i (collected i).answers [] (is_empty i j), InEpoch 0 (Sent first_round i (is_empty i j)) ∷ []))
-
-  abbrev new4 : List Stamped
-  new4 = (InEpoch 0 (Asked first_round) ∷ outs answers_of acceptors) ++ two_sent empty
 
   sent4 : messages es4 ≡ (InEpoch 0 (Asked first_round) ∷ outs answers_of acceptors) ++ two_sent empty
   sent4 = took4.sent ∙ (λ i. sent3 i ++ (([] ++ (ran4 0 (omega arith) i).1) ++ (ran4 1 (omega arith) i).1))

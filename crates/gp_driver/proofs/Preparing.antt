@@ -93,9 +93,6 @@ module _ (config : Counts) (lead : 0 < config.coordinators) (t : ℕ) (ms : List
   -- ---- one Final message
 
   module _ (xs : List Stamped) (es : List Entry) (k e l : ℕ) (v : History) (here : slice_get ms k ≡ Some (Final e l v)) (order : e ≤ closed_by xs) (was : HaveTaken config t ms xs es) where
-    es1 : List Entry
-    es1 = swept config Coordinator 1 (k ∷ []) es
-
     took1 : CoordinatorsTook config 1 (Final e l v ∷ []) es (swept config Coordinator 1 (k ∷ []) es)
     took1 = coordinators_take config 1 (k ∷ []) (Final e l v ∷ []) es (ap (λ zs. slice_get zs k) was.same_messages ∙ here, tt)
 
@@ -329,9 +326,6 @@ module _ (config : Counts) (lead : 0 < config.coordinators) (es : List Entry) (l
 
   kept_mid : RunKept config mid
   kept_mid = run_kept config mid taken.legal
-
-  abbrev proposals : List Stamped
-  proposals = filter (is_of Kind.Propose) (messages es)
 
   picked : Picked (messages mid) (places Kind.Propose 0 (messages mid)) (filter (is_of Kind.Propose) (messages es))
   picked = subst (λ ms. Picked ms (places_from Kind.Propose 0 ms) (filter (is_of Kind.Propose) (messages es))) (sym taken.same_messages) (picks (messages es) Kind.Propose 0 (messages es) (stand_behind [] (messages es)))

@@ -123,14 +123,6 @@ module _ (config config_now : Counts) (es now target : List Entry) (f0 f1 : ℕ)
         entries = let a = t.entries in let b = ap length n1 in omega (arith, a, b);
       }
 
-pub finals_done : (config : Counts) (es now target : List Entry) (k : ℕ) → length (messages es) ≤ k → closings config (places_from Kind.Final k (drop k (messages es))) now ≡ target → now ≡ target
-finals_done config es now target k h r = (λ i. closings config (places_from Kind.Final k (sym (drop_past k (messages es) h) i)) now) ∙ r where
-  drop_past : {X : Type 0} (n : ℕ) (xs : List X) → length xs ≤ n → drop n xs ≡ []
-  drop_past zero [] h = refl
-  drop_past zero (x ∷ xs) h = absurd (omega (arith, h))
-  drop_past (suc n) [] h = refl
-  drop_past (suc n) (x ∷ xs) h = drop_past n xs (omega (arith, h))
-
 pub same_closings : (c d : Counts) (k : ℕ) (es fs : List Entry) → c ≡ d → es ≡ fs → closings c (k ∷ []) es ≡ closings d (k ∷ []) fs
 same_closings c d k es fs p q = λ i. closings (p i) (k ∷ []) (q i)
 

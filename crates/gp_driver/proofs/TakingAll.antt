@@ -46,11 +46,6 @@ there_is k [] h = absurd (omega (arith, h))
 there_is zero (x ∷ xs) h = (x, refl)
 there_is (suc k) (x ∷ xs) h = there_is k xs (omega (arith, h))
 
-nothing_left : {X : Type 0} (n : ℕ) (xs : List X) → drop n (take n xs) ≡ []
-nothing_left zero xs = refl
-nothing_left (suc n) [] = refl
-nothing_left (suc n) (x ∷ xs) = nothing_left n xs
-
 -- ---- the loop
 
 -- what is left to take from place k on leads to the target
@@ -83,9 +78,6 @@ module _ (config : Counts) (node : Node) (kind : MsgKind) (end : ℕ) where
       (λ i. run_onto config now (takes node (cond (sym is i) (k ∷ places_from kind (suc k) (drop (suc k) (take end (messages es)))) (places_from kind (suc k) (drop (suc k) (take end (messages es)))))))
       ∙ (λ i. run_onto config now (takes node (places_from kind k (sym (left k (messages es) m h e) i))))
       ∙ r
-
-  pub all_taken : (es now target : List Entry) → run_onto config now (takes node (places_from kind end (drop end (take end (messages es))))) ≡ target → now ≡ target
-  all_taken es now target r = (λ i. run_onto config now (takes node (places_from kind end (sym (nothing_left end (messages es)) i)))) ∙ r
 
   -- where one is taken the run is shorter than the target
   pub shorter : (k : ℕ) (es now target : List Entry) (m : Stamped) → k < end → slice_get (messages es) k ≡ Some m → is_of kind m ≡ true → run_onto config now (takes node (places_from kind k (drop k (take end (messages es))))) ≡ target → length now < length target

@@ -20,7 +20,6 @@ use Rattle.gp_round.specs.Rounds.{earlier, is_fast, is_multi}
 use Rattle.gp_msg.specs.Messages.{Message, Proposed, Asked, Answered, Sent, Voted, Stamped, Offered, InEpoch, Final, Entry, maybe_stamped}
 use Rattle.gp_msg.specs.declared.node.Node.{Node}
 use Rattle.gp_msg.specs.declared.node.Node.TheVariants.{Proposer, Coordinator, Acceptor, Learner}
-use Rattle.gp_msg.specs.declared.event.Event.{Event}
 use Rattle.gp_msg.specs.declared.event.Event.TheVariants.{Begin, Take}
 use Rattle.gp_msg.specs.Nodes.{is_present}
 use Rattle.gp_run.proofs.Counting.{AreUpTo, none_up_to, cons_up_to, head_up_to, tail_up_to, append_up_to, left_up_to, right_up_to, each_up_to, below_up_to, up_to_below, up_to_each}
@@ -224,9 +223,6 @@ sent_up_to t ms o all h k m e = elim (in_either ms (option_to_list o) k m e) [
 ]
 
 module _ (t : ℕ) (config : Counts) (es : List Entry) (was : RunUpTo t config es) where
-  abbrev Coordinated : Event → ℕ → Type 0
-  Coordinated event c = CoordinatorOk t (coordinator_acts c (coordinator_at config c es) (messages es) event)
-
   one_take : (node : Node) (k : ℕ) → is_present config node ≡ true → RunUpTo t config (entry_after config es (Take node k) ∷ es)
   one_take (Proposer p) k there = record { sent = sent_up_to t (messages es) None was.sent (nothing_up_to t); coordinators = was.coordinators; acceptors = was.acceptors; learners = was.learners }
   one_take (Coordinator c) k there =

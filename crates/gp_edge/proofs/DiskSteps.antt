@@ -2,16 +2,11 @@
 use Rattle.std.proofs.Common.{◌≡◌, ◌⊎◌, ℕ, zero, suc, ◌+◌, ◌≤◌, List, [], ◌∷◌, length, take, drop, refl, sym, ap, subst, inl, inr, arith}
 use Rattle.gp_edge.specs.declared.call.Call.{Call}
 use Rattle.gp_edge.specs.declared.call.Call.TheVariants as call
-use Rattle.gp_edge.specs.Disks.{Torn, Shortened, Elapses, Follows, NoMore, Only}
-use Rattle.gp_edge.specs.Puts.{torn_none}
+use Rattle.gp_edge.specs.Disks.{Shortened, Elapses, Follows, NoMore}
 use Rattle.gp_edge.specs.Records.{DiskRecord, content_of, IsImage, LeftSince, Images, GoesOn, noted}
 use Rattle.gp_edge.specs.DiskLaws.{shows_content}
 
 module _ (start : List ℕ) (calls : List Call) where
-  -- no call
-  pub none_more : Elapses (length calls) (length calls) (LeftSince start calls) (LeftSince start calls) (IsImage start calls)
-  none_more = record { later = omega arith; nothing_else = λ t c le left. inl left; keeps = λ t c le left. left }
-
   one_more : (x : Call) → Elapses (length calls) (length (x ∷ calls)) (LeftSince start calls) (LeftSince start (x ∷ calls)) (IsImage start (x ∷ calls))
   one_more x = record {
     later = omega arith;
@@ -23,17 +18,8 @@ module _ (start : List ℕ) (calls : List Call) where
       before t c zero le image = inr image
       before t c (suc k) le image = inl (k, omega arith, image)
 
-pub stays : (old new : DiskRecord) → new ≡ old → GoesOn old new
-stays old new same = subst (GoesOn old) (sym same) (none_more old.opening old.calls)
-
 pub passes : (old new : DiskRecord) (x : Call) → new ≡ noted x old → GoesOn old new
 passes old new x same = subst (GoesOn old) (sym same) (one_more old.opening old.calls x)
-
-pub written : (old new : DiskRecord) (at : ℕ) (bytes : List ℕ) → new ≡ noted (call.Write at bytes) old → Follows (Torn at (length bytes)) (Images old) (Images new)
-written old new at bytes same c image = subst (λ d. Images d c) same image
-
-pub unwritten : (old new : DiskRecord) (at n : ℕ) → new ≡ old → Follows (Torn at n) (Images old) (Images new)
-unwritten old new at n same c image = (c, subst (λ d. Images d c) same image, torn_none at n c)
 
 pub cut : (old new : DiskRecord) (n : ℕ) → new ≡ noted (call.Cut n) old → Follows (Shortened n) (Images old) (Images new)
 cut old new n same c image = subst (λ d. Images d c) same image
@@ -45,14 +31,5 @@ all_taken (x ∷ xs) = ap (λ l. x ∷ l) (all_taken xs)
 pub shortened_none : (n : ℕ) (c : List ℕ) → Shortened n c c
 shortened_none n c = record { no_shorter = omega arith; front = all_taken c }
 
-pub uncut : (old new : DiskRecord) (n : ℕ) → new ≡ old → Follows (Shortened n) (Images old) (Images new)
-uncut old new n same c image = (c, subst (λ d. Images d c) same image, shortened_none n c)
-
 pub synced : (old new : DiskRecord) → new ≡ noted call.Sync old → NoMore (Images old) (Images new)
 synced old new same c image = let now : c ≡ content_of old = subst (λ d. Images d c) same image in subst (Images old) (sym now) (shows_content old.opening old.calls)
-
-pub only_content : (old new : DiskRecord) → new ≡ noted call.Sync old → Only (content_of old) (Images new)
-only_content old new same c image = subst (λ d. Images d c) same image
-
-pub no_more : (old new : DiskRecord) → new ≡ old → NoMore (Images old) (Images new)
-no_more old new same c image = subst (λ d. Images d c) same image

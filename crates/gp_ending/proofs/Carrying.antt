@@ -9,7 +9,7 @@ use Rattle.gp_work.specs.Causes.{FaultCauses}
 use Rattle.gp_work.specs.Doing.{ProcessState}
 use Rattle.gp_work.proofs.Stretches.{goes_same, goes_on, rose_on}
 use Rattle.gp_round.specs.declared.round.Round.{Round}
-use Rattle.gp_phase.specs.Phases.{IsNew, Going, FaultCause, Carried}
+use Rattle.gp_phase.specs.Phases.{Going, FaultCause, Carried}
 use Rattle.gp_ending.specs.declared.ends.RunEnd.{RunEnd}
 use Rattle.gp_ending.specs.Ends.{deciding, fault_in}
 use Rattle.gp_ending.specs.Working.{IsDecided}
@@ -18,14 +18,6 @@ use Rattle.gp_ending.proofs.Deciding.{nothing_decides}
 module _ {N P : Type 0} (state : P → ProcessState) (is_of : P → N → Type 0) (causes : P → FaultCauses) (net : N) where
   no_fault : (P : JobFault → Type 0) (o : Option JobFault) → o ≡ None → IfSome o P
   no_fault P o e = subst (λ x. IfSome x P) (sym e) tt
-
-  -- a new job to which nothing happened
-  pub carried_new : (j : Job P) → IsNew state is_of net j → Carried state is_of causes net j j
-  carried_new j n = record {
-    own = n.own;
-    goes = goes_same (state j.cell);
-    cause = no_fault (FaultCause (state j.cell).faults (state j.cell).faults (causes j.cell)) j.fault n.fault;
-  }
 
   -- a job that goes on from where it stands
   pub carried_still : (rs : List Round) (j : Job P) → Going state is_of net rs j j → Carried state is_of causes net j j

@@ -37,9 +37,6 @@ module _ (xs ts : List Command) where
   taken : History
   taken = history_of ts
 
-  abbrev behind_all : Command → List Command → Bool
-  behind_all d ys = list_all (behind (history_of xs) (history_of xs) taken d) ys
-
   -- the walk over what stands before a command
   pub walk_start : (marks : List Bool) (n p : ℕ) (d : Command) → no_repeat xs ≡ true → slice_get xs p ≡ Some d → list_all (λ mark. mark) (take n marks) ≡ true → marks ≡ marks_in xs ts → list_all (behind (history_of xs) (history_of xs) (history_of ts) d) (take n xs) ≡ true
   unfolding taken
@@ -55,9 +52,6 @@ module _ (xs ts : List Command) where
   -- what is ready has no mark, and all before it have
   pub ready_if : (c : Command) → has (history_of ts) c ≡ false → (b : Bool) → list_all (behind (history_of xs) (history_of xs) (history_of ts) c) xs ≡ b → b ≡ is_ready (history_of xs) (history_of ts) c
   ready_if c fresh b all = sym (ready_is xs ts c ∙ ap (λ t. not t && list_all (behind (history_of xs) (history_of xs) (history_of ts) c) xs) fresh ∙ all)
-
-  pub taken_not_ready : (c : Command) → has (history_of ts) c ≡ true → false ≡ is_ready (history_of xs) (history_of ts) c
-  taken_not_ready c there = sym (ready_is xs ts c ∙ ap (λ t. not t && list_all (behind (history_of xs) (history_of xs) (history_of ts) c) xs) there)
 
 -- ---- one more mark
 

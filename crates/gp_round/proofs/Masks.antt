@@ -5,9 +5,6 @@ use Rattle.std.specs.List.Sorted.{IsStrictlyIncreasing}
 use Rattle.std.proofs.lemmas.Bool.{eqb-true, eqb-false}
 use Rattle.gp_round.specs.Sets.{members, bit, masks, masks_among}
 
-one_more : (n size many first : ℕ) → masks_among n size (many + 1) first ≡ masks_among n size (suc many) first
-one_more n size many first = let e : many + 1 ≡ suc many = omega arith in ap (λ k. masks_among n size k first) e
-
 step : (n size limit first : ℕ) → first < limit → masks_among n size (limit - first) first ≡ masks_among n size (suc (limit - (first + 1))) first
 step n size limit first h =
     let e : limit - first ≡ suc (limit - (first + 1)) = omega arith in

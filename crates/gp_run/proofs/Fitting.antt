@@ -25,10 +25,6 @@ and_true : (b : Bool) → (b && true) ≡ b
 and_true true = refl
 and_true false = refl
 
-and_false : (b : Bool) → (b && false) ≡ false
-and_false true = refl
-and_false false = refl
-
 owned : (b : Bool) (r : Round) → is_none (bad_round_or (cond b None (Some r)) None) ≡ b
 owned true r = refl
 owned false r = refl

@@ -8,7 +8,7 @@ use Rattle.gp_round.specs.declared.round.Round.{Round}
 use Rattle.gp_msg.specs.Messages.{Message, Proposed, Asked, Answered, Sent, Voted}
 use Rattle.gp_coordinator.specs.Replies.{reply_at}
 use Rattle.gp_coordinator.specs.State.{CoordinatorState}
-use Rattle.gp_coordinator.specs.Table.{coordinator_begin, coordinator_take, expects, extended, answered, is_enough, pending_with}
+use Rattle.gp_coordinator.specs.Table.{coordinator_take, expects, extended, answered, is_enough, pending_with}
 use Rattle.gp_run.proofs.Choices.{chosen}
 
 -- of the states
@@ -24,9 +24,6 @@ pub record SameCoordinator (s t : CoordinatorState) : Type 0 where
 
 itself : (s : CoordinatorState) → SameCoordinator s s
 itself s = record { config_is = refl; number_is = refl }
-
-begins_same : (s : CoordinatorState) (r : Round) → SameCoordinator s (coordinator_begin s r).0
-begins_same s r = chosen_state (SameCoordinator s) (earlier s.round r) _ _ (record { config_is = refl; number_is = refl }) (itself s)
 
 extended_same : (s t : CoordinatorState) (o : Option History) (c : Command) → SameCoordinator s t → SameCoordinator s (extended t o c).0
 extended_same s t None c h = h

@@ -1,5 +1,5 @@
 -- A meet has no command that not each member has, and where all of its commands are known it adds nothing.
-use Rattle.std.proofs.Common.{subst, ◌≡◌, ℕ, zero, suc, ◌+◌, ◌<◌, Bool, true, false, not, ◌&&◌, ◌||◌, cond, List, [], ◌∷◌, ◌++◌, length, Some, None, inl, inr, refl, sym, ap, ◌∙◌, arith}
+use Rattle.std.proofs.Common.{subst, ◌≡◌, ℕ, zero, suc, ◌<◌, Bool, true, false, not, ◌&&◌, ◌||◌, cond, List, [], ◌∷◌, ◌++◌, length, Some, None, inl, inr, refl, sym, ap, ◌∙◌, arith}
 use Rattle.std.specs.Prelude.{Option, filter, slice_get, unwrap_or, OnSome}
 use Rattle.std.specs.List.{list_any, list_all}
 use Rattle.std.specs.Option.{is_some, option_map}
@@ -21,7 +21,7 @@ use Rattle.gp_history.proofs.Meet.{in_items, any_one}
 use Rattle.gp_history.proofs.Places.{at_in}
 use Rattle.gp_history.proofs.Pushing.{pushes_there}
 use Rattle.gp_round.specs.Sets.{bit}
-use Rattle.gp_safe.specs.Meets.{with_one, gathered, if_whole, quorum_meet, add_meet, quorum_meets}
+use Rattle.gp_safe.specs.Meets.{with_one, gathered, quorum_meet, add_meet, quorum_meets}
 use Rattle.gp_safe.specs.News.{is_in, all_have, is_new, Addition, AdditionAmong}
 use Rattle.gp_safe.proofs.Gathering.{quorum_meets_last}
 
@@ -96,12 +96,6 @@ join_known h u r = pushes_there h (canonical u) (λ c i. r c (walked_in u (lengt
 
 -- ---- sets that add nothing
 
-pub not_whole_adds_nothing : (known : History) (f : ℕ → Option History) (p : ℕ → Bool) (n : ℕ) → is_some (gathered f p n) ≡ false → joined known (add_meet (if_whole (gathered f p n)) []) ≡ known
-not_whole_adds_nothing known f p n e = by (gathered f p n) e where
-  by : (g : Option (Option History)) → is_some g ≡ false → joined known (add_meet (if_whole g) []) ≡ known
-  by None e = refl
-  by (Some m) e = absurd (true≢false e)
-
 any_gives : (q : Command → Bool) (xs : List Command) (c : Command) → In xs c → q c ≡ true → list_any q xs ≡ true
 any_gives q [] c i e = absurd (true≢false (sym i))
 any_gives q (x ∷ xs) c i e = one_of (same c x) (list_any (same c) xs) i
@@ -115,9 +109,6 @@ any_stop q xs i d e at = any_gives q xs d (at_in xs i d at) e
 
 pub all_have_stops : (f : ℕ → Option History) (p : ℕ → Bool) (n : ℕ) (c : Command) (i : ℕ) → i < n → p i ≡ true → is_in (f i) c ≡ false → all_have f p n c ≡ false
 all_have_stops f p n c i h e lacks = not_true (all_have f p n c) (λ t. true≢false (sym (member_has f p n c i t h e) ∙ lacks))
-
-pub all_have_step : (f : ℕ → Option History) (p : ℕ → Bool) (c : Command) (i : ℕ) → all_have f p i c ≡ true → (not (p i) || is_in (f i) c) ≡ true → all_have f p (i + 1) c ≡ true
-all_have_step f p c i t e = let s : i + 1 ≡ suc i = omega arith in ap (λ n. all_have f p n c) s ∙ both t e
 
 joined-append : (u : History) (hs ks : List History) → joined u (hs ++ ks) ≡ joined (joined u hs) ks
 joined-append u [] ks = refl

@@ -165,9 +165,6 @@ from_start ys xs o from e alike whole c i =
       there = has_history_of ys c ∙ ap (λ l. list_any (same c) l) all ∙ i;
     }
 
-pub from_nothing : (o : Option History) (xs : List Command) → IsFromOld o xs 0
-from_nothing o xs c i = absurd (true≢false (sym i))
-
 -- ---- the loop over senders
 
 pub any_history : (o : Option (List Command)) (v : Option History) → option_map history_of o ≡ v → IsAnyHistory v
@@ -201,9 +198,6 @@ too_few known f w n size c l = not_true (may_add known f w n size c) (λ t.
       there false None e = refl
 
 -- ---- a loop over a sequence from a place on
-
-pub none_at_start : (q : Command → Bool) (xs : List Command) (from : ℕ) (k : ℕ) (d : Command) → from ≤ k → k < from → slice_get xs k ≡ Some d → q d ≡ false
-none_at_start q xs from k d a b e = absurd (omega (arith, a, b))
 
 pub none_step : (q : Command → Bool) (xs : List Command) (from i : ℕ) (c : Command) → ((k : ℕ) (d : Command) → from ≤ k → k < i → slice_get xs k ≡ Some d → q d ≡ false) → slice_get xs i ≡ Some c → q c ≡ false
     → (k : ℕ) (d : Command) → from ≤ k → k < i + 1 → slice_get xs k ≡ Some d → q d ≡ false

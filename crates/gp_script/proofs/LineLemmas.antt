@@ -209,10 +209,6 @@ only_words (Fall node what) words same = same
 only_words (Show learner) words same = same
 
 module _ (language : Language) (spelled : IsLanguage language) where
-  -- the tokens of an admitted item's line are its words
-  pub line_tokens : (c : Counts) (item : Item) → AreInRange c.acceptors c.coordinators c.learners → IsAdmitted language c item → tokens_of (item_line item) ≡ item_words item
-  line_tokens c item range a = tokens_of_fitting item (item_fits language spelled c item range a)
-
   -- the line of an admitted item says the item
   pub line_says : (c : Counts) (item : Item) → AreInRange c.acceptors c.coordinators c.learners → IsAdmitted language c item → SaysItem language c (tokens_of (item_line item)) item
   line_says c item range a =

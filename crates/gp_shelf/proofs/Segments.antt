@@ -1,7 +1,7 @@
 -- Lists of disks in segments.
 use Rattle.std.proofs.Common.{◌≡◌, ℕ, zero, suc, ◌+◌, ◌-◌, ◌<◌, ◌≤◌, List, [], ◌∷◌, ◌++◌, get_or, length, take, drop, refl, sym, ap, ◌∙◌, ⊎_elim, arith, append_assoc, length-append, length-drop, take-append-drop}
 use Rattle.std.specs.Prelude.{slice_get}
-use Rattle.std.proofs.lemmas.List.{length-take-le, take_all, take_at, drop_at, drop-drop}
+use Rattle.std.proofs.lemmas.List.{length-take-le, take_at, drop_at, drop-drop}
 use Rattle.std.proofs.lemmas.Bool.{cases_lt}
 use Rattle.std.proofs.lemmas.Bool.Decides.{nat_tests}
 use Rattle.gp_round.specs.Counts.{Counts}
@@ -46,24 +46,6 @@ module _ {D : Type 0} where
   drop_to : (a : ℕ) (xs : List D) → a ≤ 7 → drop (7 - a) (drop a xs) ≡ drop 7 xs
   drop_to a xs le = drop-drop (7 - a) a xs ∙ ap (λ (m : ℕ). drop m xs) (let e : a + (7 - a) ≡ 7 = omega arith in e)
 
-  -- what was moved in four steps
-  pub divided_lent : (n : Counts) (before disks : List D) → before ≡ [] → n.acceptors ≤ 7
-      → (before ++ take n.acceptors disks) ++ take n.coordinators (drop (7 - n.acceptors) (drop n.acceptors disks)) ≡ lent_of n disks
-  divided_lent n before disks none le =
-      ap (λ (b : List D). (b ++ take n.acceptors disks) ++ take n.coordinators (drop (7 - n.acceptors) (drop n.acceptors disks))) none
-      ∙ ap (λ (r : List D). take n.acceptors disks ++ take n.coordinators r) (drop_to n.acceptors disks le)
-
-  pub divided_unlent : (n : Counts) (before disks : List D) (rest : ℕ) → before ≡ [] → n.acceptors ≤ 7 → length disks ≤ 7 + n.coordinators + rest
-      → (before ++ take (7 - n.acceptors) (drop n.acceptors disks)) ++ take rest (drop n.coordinators (drop (7 - n.acceptors) (drop n.acceptors disks))) ≡ unlent_of n disks
-  divided_unlent n before disks rest none le most =
-      let there : drop n.coordinators (drop (7 - n.acceptors) (drop n.acceptors disks)) ≡ drop (7 + n.coordinators) disks
-      = ap (drop n.coordinators) (drop_to n.acceptors disks le) ∙ drop-drop n.coordinators 7 disks in
-      let all : take rest (drop (7 + n.coordinators) disks) ≡ drop (7 + n.coordinators) disks
-      = take_all rest (drop (7 + n.coordinators) disks) (omega (arith, length-drop (7 + n.coordinators) disks)) in
-      ap (λ (b : List D). (b ++ take (7 - n.acceptors) (drop n.acceptors disks)) ++ take rest (drop n.coordinators (drop (7 - n.acceptors) (drop n.acceptors disks)))) none
-      ∙ ap (λ (r : List D). take (7 - n.acceptors) (drop n.acceptors disks) ++ take rest r) there
-      ∙ ap (λ (r : List D). take (7 - n.acceptors) (drop n.acceptors disks) ++ r) all
-
   pub length-lent : (n : Counts) (disks : List D) → length disks ≡ 12 → n.acceptors ≤ 7 → n.coordinators ≤ 5 → length (lent_of n disks) ≡ logged n
   length-lent n disks twelve a c =
       length-append (take n.acceptors disks) (take n.coordinators (drop 7 disks))
@@ -97,27 +79,6 @@ module _ {D : Type 0} where
       let last : r ++ s ≡ drop 7 disks = ap (λ (z : List D). r ++ z) (sym (drop-drop n.coordinators 7 disks)) ∙ take-append-drop n.coordinators (drop 7 disks) in
       let middle : q ++ drop 7 disks ≡ drop n.acceptors disks = ap (λ (z : List D). q ++ z) (sym (drop_to n.acceptors disks a)) ∙ take-append-drop (7 - n.acceptors) (drop n.acceptors disks) in
       parts ∙ append_assoc (p ++ q) r s ∙ ap (λ (z : List D). (p ++ q) ++ z) last ∙ append_assoc p q (drop 7 disks) ∙ ap (λ (z : List D). p ++ z) middle ∙ take-append-drop n.acceptors disks
-
-  -- what was put back in four steps
-  pub put_together : (n : Counts) (before unlent lent : List D) (x y : ℕ) → before ≡ [] → length lent ≤ n.acceptors + x → length unlent ≤ (7 - n.acceptors) + y
-      → (((before ++ take n.acceptors lent) ++ take (7 - n.acceptors) unlent) ++ take x (drop n.acceptors lent)) ++ take y (drop (7 - n.acceptors) unlent) ≡ shelved n unlent lent
-  put_together n before unlent lent x y none lx ly =
-      ap (λ (b : List D). (((b ++ take n.acceptors lent) ++ take (7 - n.acceptors) unlent) ++ take x (drop n.acceptors lent)) ++ take y (drop (7 - n.acceptors) unlent)) none
-      ∙ ap (λ (r : List D). ((take n.acceptors lent ++ take (7 - n.acceptors) unlent) ++ r) ++ take y (drop (7 - n.acceptors) unlent)) (take_all x (drop n.acceptors lent) (omega (arith, length-drop n.acceptors lent)))
-      ∙ ap (λ (r : List D). ((take n.acceptors lent ++ take (7 - n.acceptors) unlent) ++ drop n.acceptors lent) ++ r) (take_all y (drop (7 - n.acceptors) unlent) (omega (arith, length-drop (7 - n.acceptors) unlent)))
-
-  pub length-shelved : (n : Counts) (unlent lent : List D) → length unlent + logged n ≡ 12 → length lent ≡ logged n → length (shelved n unlent lent) ≡ 12
-  length-shelved n unlent lent whole many =
-      let p = take n.acceptors lent in
-      let q = take (7 - n.acceptors) unlent in
-      let r = drop n.acceptors lent in
-      let s = drop (7 - n.acceptors) unlent in
-      let first = length-append (p ++ q ++ r) s in
-      let second = length-append (p ++ q) r in
-      let third = length-append p q in
-      let one : length p + length r ≡ length lent = sym (length-append p r) ∙ ap length (take-append-drop n.acceptors lent) in
-      let two : length q + length s ≡ length unlent = sym (length-append q s) ∙ ap length (take-append-drop (7 - n.acceptors) unlent) in
-      omega (arith, first, second, third, one, two)
 
   -- ---- by their places
 

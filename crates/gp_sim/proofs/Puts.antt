@@ -5,14 +5,13 @@ use Rattle.std.proofs.lemmas.List.FromFn.{map-range_with_len_more, length-map-ra
 use Rattle.gp_command.specs.declared.draft.Draft.{Draft}
 use Rattle.gp_round.specs.Counts.{Counts}
 use Rattle.gp_round.specs.Ranges.{AreInRange}
-use Rattle.gp_msg.specs.Messages.{Entry}
 use Rattle.gp_store.specs.declared.op.Op.TheVariants.{Put}
 use Rattle.gp_store.specs.Operations.{draft_for}
 use Rattle.gp_driver.specs.Driving.{drive_multi}
-use Rattle.gp_driver.specs.Driven.{AreNoCheckpoints, DrivesMulti}
+use Rattle.gp_driver.specs.Driven.{AreNoCheckpoints}
 use Rattle.gp_driver.proofs.DrivingCode.{drives}
 use Rattle.gp_driver.proofs.Lengths.{driven_length}
-use Rattle.gp_sim.specs.Driven.{puts, driven}
+use Rattle.gp_sim.specs.Driven.{puts}
 
 abbrev pub put : ℕ → Draft
 put before = draft_for (Put (codes "k") (before + 1))
@@ -37,9 +36,3 @@ module _ (config own : Counts) (drafts : List Draft) (n : ℕ) where
       let all = puts_length n in
       let P : Counts → List Draft → Type 0 = λ c ds. length (drive_multi c ds) ≤ 2147483648 in
       subst (λ (c : Counts). P c drafts) (sym same) (subst (P config) (sym are) (omega (arith, l, all, few)))
-
-  pub driven_is : (run : List Entry) → own ≡ config → drafts ≡ puts n → run ≡ drive_multi own drafts → run ≡ driven config n
-  driven_is run same are is = is ∙ ap (λ (c : Counts). drive_multi c drafts) same ∙ ap (drive_multi config) are
-
-  pub brings_it : own ≡ config → drafts ≡ puts n → DrivesMulti own drafts → DrivesMulti config (puts n)
-  brings_it same are brings = subst (DrivesMulti config) are (subst (λ (c : Counts). DrivesMulti c drafts) same brings)

@@ -7,7 +7,6 @@ use Rattle.gp_round.specs.Counts.{Counts}
 use Rattle.gp_round.specs.declared.round.Round.{Round}
 use Rattle.gp_msg.specs.declared.node.Node.{Node}
 use Rattle.gp_msg.specs.declared.node.Node.TheVariants as node
-use Rattle.gp_msg.specs.Messages.{Entry}
 use Rattle.gp_msg.specs.Nodes.{is_present}
 use Rattle.gp_run.specs.Runs.{newest_first}
 use Rattle.gp_run.specs.States.{coordinator_at}
@@ -54,9 +53,6 @@ module _ {D : Type 0} where
 
 module _ {D : Type 0} (wire : WireState PaxosRules) (config : Counts) (cells : List (CellState D)) (holder : ℕ) (h : AreHeld wire config cells holder)
     (cores : (i : ℕ) (c : CellState D) → slice_get cells i ≡ Some c → c.core ≡ core_at c.config c.node (newest_first (records c.pass))) where
-  run : List Entry
-  run = newest_first (records h.lead.pass)
-
   -- the core of a cell is that of the whole run
   core_here : (i : ℕ) (c : CellState D) → slice_get cells i ≡ Some c → c.core ≡ core_at config c.node (newest_first (records h.lead.pass))
   core_here i c e = let b = h.behind i c e in

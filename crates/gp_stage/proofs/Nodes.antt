@@ -1,5 +1,5 @@
 -- What a step of a stage does to its nodes: the cell that made the move posts a record or none, and no disk's count falls.
-use Rattle.std.proofs.Common.{◌≡◌, ◌≢◌, ℕ, zero, suc, true, false, Bool, inl, inr, List, [], ◌∷◌, ◌++◌, length, map, slice_get, refl, sym, ap, ◌∙◌, subst, arith, Some, Result, Ok, Err}
+use Rattle.std.proofs.Common.{◌≡◌, ◌≢◌, ℕ, suc, true, false, Bool, inl, inr, List, [], ◌∷◌, ◌++◌, length, map, slice_get, refl, sym, ap, ◌∙◌, subst, arith, Some, Result, Ok, Err}
 use Rattle.std.specs.Prelude.{nat_lt}
 use Rattle.std.specs.List.{AllZip}
 use Rattle.std.proofs.lemmas.Bool.{ltb-true, ltb-false}
@@ -176,26 +176,3 @@ fails_than {D} faults now old before nodes n e = record { by_node = tt; steady =
 
 pub fails_kept : {D : Type 0} (faults : D → ℕ) (now old : HeldCells D) → old ≡ now → FailsByNode (nodes_of faults now) (nodes_of faults old) (Err stage.NoMemory)
 fails_kept {D} faults now old before = record { by_node = tt; steady = ap (λ (h : HeldCells D). fault_counts (nodes_of faults h)) before }
-
--- ---- what became of one cell
-
-each_at : {D : Type 0} (idle : Node → Type 0) (f g : CellState D → StageNode) (old new : List (CellState D)) → AllZip (NodeGoes idle) (map f old) (map g new) → (i : ℕ) (x : CellState D) → slice_get old i ≡ Some x
-    → (y : CellState D) × (slice_get new i ≡ Some y) × NodeGoes idle (f x) (g y)
-each_at idle f g [] new a i x e = absurd cc
-each_at idle f g (o ∷ old) [] a i x e = absurd a
-each_at idle f g (o ∷ old) (n ∷ new) a zero x e = (n, refl, subst (λ (y : _). NodeGoes idle (f y) (g n)) (same_value o x e) a.0)
-each_at idle f g (o ∷ old) (n ∷ new) a (suc i) x e = each_at idle f g old new a.1 i x e
-
-as_many : {D : Type 0} (idle : Node → Type 0) (f g : CellState D → StageNode) (old new : List (CellState D)) → AllZip (NodeGoes idle) (map f old) (map g new) → length new ≡ length old
-as_many idle f g [] [] a = refl
-as_many idle f g [] (n ∷ new) a = absurd a
-as_many idle f g (o ∷ old) [] a = absurd a
-as_many idle f g (o ∷ old) (n ∷ new) a = ap suc (as_many idle f g old new a.1)
-
-module _ {D : Type 0} (faults : D → ℕ) (idle : Node → Type 0) (old new : HeldCells D) (h : NodesGo idle (nodes_of faults old) (nodes_of faults new)) where
-  -- at its place there is a cell of the same node, whose disk's count has not fallen, with the same events if it is idle
-  pub cell_goes : (i : ℕ) (x : CellState D) → slice_get old.cells i ≡ Some x → (y : CellState D) × (slice_get new.cells i ≡ Some y) × NodeGoes idle (stage_node faults (whole_list old) x) (stage_node faults (whole_list new) y)
-  cell_goes i x e = each_at idle (stage_node faults (whole_list old)) (stage_node faults (whole_list new)) old.cells new.cells h.each i x e
-
-  pub as_many_cells : length new.cells ≡ length old.cells
-  as_many_cells = as_many idle (stage_node faults (whole_list old)) (stage_node faults (whole_list new)) old.cells new.cells h.each

@@ -51,9 +51,6 @@ move_fits config have (node.Learner l) (Offer d) e f = absurd cc
 move_fits config have (node.Learner l) (Begin r) e f = absurd cc
 move_fits config have (node.Learner l) (Take k) e f = tt
 
-pub held_there : {D : Type 0} (wire : WireState PaxosRules) (config : Counts) (cells : List (CellState D)) (holder : ℕ) → AreHeld wire config cells holder → AreHeld wire wire.rules.config cells holder
-held_there wire config cells holder h = subst (λ k. AreHeld wire k cells holder) h.config_is h
-
 module _ {D : Type 0} (wire : WireState PaxosRules) (config : Counts) (cells : List (CellState D)) (holder : ℕ) (h : AreHeld wire config cells holder) (event : Event) (fits_now : fits config (newest_first (seen_by (slice_get cells holder))) event ≡ true) where
   there : is_present config (node_of event) ≡ true
   there = node_there config (length (messages (newest_first (seen_by (slice_get cells holder))))) event fits_now

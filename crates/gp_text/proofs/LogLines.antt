@@ -1,9 +1,8 @@
 -- The lines of a log, one behind another.
-use Rattle.std.proofs.Common.{◌≡◌, ℕ, ◌+◌, List, [], ◌∷◌, ◌++◌, length, map, take, Some, sym, ap, ◌∙◌, append_assoc}
+use Rattle.std.proofs.Common.{◌≡◌, ℕ, ◌+◌, List, [], ◌∷◌, ◌++◌, map, take, Some, sym, ap, ◌∙◌, append_assoc}
 use Rattle.std.specs.Prelude.{slice_get}
 use Rattle.std.specs.List.{flat_map}
 use Rattle.std.proofs.lemmas.List.{map-append, flat_map_more}
-use Rattle.std.proofs.Math.Seq.{take-length}
 use Rattle.gp_msg.specs.declared.durable.Durable.{Durable}
 use Rattle.gp_msg.specs.Messages.{EpochPart, part_of}
 use Rattle.gp_report.proofs.WrittenWords.{take_one_more}
@@ -24,7 +23,3 @@ pub lines_more : (head : List ℕ) (ds : List Durable) (i : ℕ) (d : Durable) �
 lines_more head ds i d at =
     append_assoc head (lines (take i ds)) (part_line (part_of d))
     ∙ ap (λ (t : List ℕ). head ++ t) (lines_push (take i ds) d ∙ ap lines (sym (take_one_more ds i d at)))
-
--- all lines
-pub lines_ended : (head : List ℕ) (ds : List Durable) (i : ℕ) → i ≡ length ds → head ++ lines (take i ds) ≡ head ++ lines ds
-lines_ended head ds i all = ap (λ (t : List ℕ). head ++ t) (ap (λ n. lines (take n ds)) all ∙ ap lines (take-length ds))

@@ -3,12 +3,11 @@ use Rattle.std.proofs.Common.{◌≡◌, ℕ, ◌+◌, true, false, List, [], �
 use Rattle.std.specs.Prelude.{nat_le}
 use Rattle.gp_round.specs.Counts.{Counts}
 use Rattle.gp_msg.specs.declared.event.Event.{Event}
-use Rattle.gp_msg.specs.declared.record.Record.{Record}
 use Rattle.gp_run.specs.Runs.{run_of}
 use Rattle.gp_words.specs.Lines.{lines_of, text_of}
 use Rattle.gp_world.specs.State.{WorldState, entries_of}
 use Rattle.gp_service.specs.Stores.{store_language}
-use Rattle.gp_script.specs.declared.reason.Reason.TheVariants.{TooLong, BadLine}
+use Rattle.gp_script.specs.declared.reason.Reason.TheVariants.{BadLine}
 use Rattle.gp_report.specs.Texts.{report}
 use Rattle.gp_text.specs.declared.played.Played.{Played}
 use Rattle.gp_text.specs.declared.played.Unplayed.{Unplayed}
@@ -18,13 +17,12 @@ use Rattle.gp_text.specs.Reading.{Reading, Whole, reading}
 use Rattle.gp_text.specs.Texts.{shown_text}
 use Rattle.gp_text.specs.Playing.{Stops, IsPlayed}
 use Rattle.gp_text.proofs.LineSteps.{no_lines, reading_opens}
-use Rattle.gp_verdict.specs.declared.reason.AuditReason.{AuditReason}
 use Rattle.gp_verdict.specs.declared.reason.AuditReason.TheVariants as reason
 use Rattle.gp_verdict.specs.declared.answer.Unaudited.{Unaudited}
 use Rattle.gp_verdict.specs.declared.answer.Unaudited.TheVariants as unaudited
 use Rattle.gp_verdict.specs.Parts.{texts_of, is_divider, trace_lines, after_trace, short_lines, first_difference}
-use Rattle.gp_verdict.specs.Verdicts.{Verdict, Rejected, said, script_of, on_difference, report_verdict, ending_verdict, on_script, lines_verdict, too_long_after, verdict}
-use Rattle.gp_verdict.specs.Answers.{unaudited_of, IsRejected, IsUpheld, Refuses, Judges}
+use Rattle.gp_verdict.specs.Verdicts.{Rejected, said, script_of, on_difference, report_verdict, ending_verdict, on_script, lines_verdict, too_long_after, verdict}
+use Rattle.gp_verdict.specs.Answers.{unaudited_of, IsUpheld, Refuses, Judges}
 use Rattle.gp_verdict.proofs.Shown.{shows_nothing}
 
 -- ---- the lines after a trace
@@ -117,15 +115,6 @@ trace_played bytes head rest count played result is left counted p judged =
     subst (λ v. Judges v result) (sym same) judged
 
 -- ---- a line that is too long
-
-pub too_long_upheld : (lines : ℕ) (ruling : Verdict) (world : WorldState) → IsUpheld ruling world → Refuses (too_long_after lines ruling) (unaudited.Bad (lines + 1) (reason.Script TooLong) world.records)
-too_long_upheld lines ruling world u = record { before = said world.config u.events; ruled = ap (too_long_after lines) u.ruled; run = u.run }
-
-pub refusal_stands : (lines : ℕ) (ruling : Verdict) (line : ℕ) (why : AuditReason) (records : List Record) → nat_le line lines ≡ true → IsRejected ruling line why records → Refuses (too_long_after lines ruling) (unaudited.Bad line why records)
-refusal_stands lines ruling line why records le r = record { before = r.before; ruled = ap (too_long_after lines) r.ruled ∙ rw le refl; run = r.run }
-
-pub too_long_first : (lines : ℕ) (ruling : Verdict) (line : ℕ) (why : AuditReason) (records : List Record) → nat_le line lines ≡ false → IsRejected ruling line why records → Refuses (too_long_after lines ruling) (unaudited.Bad (lines + 1) (reason.Script TooLong) records)
-too_long_first lines ruling line why records gt r = record { before = r.before; ruled = ap (too_long_after lines) r.ruled ∙ rw gt refl; run = r.run }
 
 pub verdict_short : (bytes : List ℕ) → nat_le (length bytes) MOST_BYTES ≡ true → verdict bytes ≡ lines_verdict (lines_of bytes)
 unfolding verdict

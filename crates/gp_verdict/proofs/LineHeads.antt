@@ -51,11 +51,6 @@ heads_lines [] [] ys e = refl
 heads_lines [] (x ∷ xs) ys e = absurd cc
 heads_lines (b ∷ bs) xs ys e = heads_at b bs (is_line_feed b) refl (heads_lines bs) xs ys e
 
--- ---- the lines of two texts
-
-onto_append : (b : ℕ) (x : List ℕ) (xs ys : List (List ℕ)) → onto_first b ((x ∷ xs) ++ ys) ≡ onto_first b (x ∷ xs) ++ ys
-onto_append b x xs ys = refl
-
 -- ---- going from line to line
 
 -- the first bytes of an input are these lines, and the rest is left

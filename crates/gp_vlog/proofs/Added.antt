@@ -67,15 +67,6 @@ are_same-refl : (cs : List Command) → are_same cs cs ≡ true
 are_same-refl [] = refl
 are_same-refl (c ∷ cs) = both (same_itself c) (are_same-refl cs)
 
-pub are_same-true : (cs ds : List Command) → are_same cs ds ≡ true → cs ≡ ds
-are_same-true [] [] e = refl
-are_same-true [] (d ∷ ds) e = absurd cc
-are_same-true (c ∷ cs) [] e = absurd cc
-are_same-true (c ∷ cs) (d ∷ ds) e =
-    let first = same-true c d (fst_of (same c d) (are_same cs ds) e) in
-    let rest = are_same-true cs ds (snd_of (same c d) (are_same cs ds) e) in
-    λ i. first i ∷ rest i
-
 -- what is written keeps the rule
 pub adds_additions : (base v : History) → IsHistory base → IsHistory v → IsPrefix base v → adds base (additions base v) ≡ true
 adds_additions base v hb hv p = ap (λ u. are_same (additions base u) (additions base v)) (add_up base v hb hv p) ∙ are_same-refl (additions base v)

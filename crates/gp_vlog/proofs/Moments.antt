@@ -20,10 +20,3 @@ module _ {D : Type 0} (moment : D → ℕ) (since : D → ℕ → List ℕ → T
 
   pub weaker : (old new : D) (P Q : List ℕ → Type 0) → LeavesOnly moment since old new P → ((c : List ℕ) → P c → Q c) → LeavesOnly moment since old new Q
   weaker old new P Q k f = record { later = k.later; each = λ c left. f c (k.each c left); before = λ t c le left. ⊎_elim inl (λ p. inr (f c p)) (k.before t c le left) }
-
-  pub then_on : (old mid new : D) (P : List ℕ → Type 0) → LeavesOnly moment since old mid P → LeavesOnly moment since mid new P → LeavesOnly moment since old new P
-  then_on old mid new P a b = record {
-    later = let x = a.later in let y = b.later in omega arith;
-    each = λ c left. ⊎_elim (a.each c) (λ p. p) (b.before (moment old) c a.later left);
-    before = λ t c le left. ⊎_elim (a.before t c le) inr (b.before t c (let x = a.later in omega arith) left);
-  }

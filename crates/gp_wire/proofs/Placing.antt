@@ -1,5 +1,5 @@
 -- The places of messages: message k is found by its place, and a new record moves none.
-use Rattle.std.proofs.Common.{◌≡◌, ℕ, zero, suc, ◌+◌, add-one, ◌<◌, ◌≤◌, List, [], ◌∷◌, ◌++◌, length, map, take, refl, sym, ap, ◌∙◌, arith, Some, None, Option}
+use Rattle.std.proofs.Common.{◌≡◌, ℕ, zero, suc, ◌<◌, ◌≤◌, List, [], ◌∷◌, ◌++◌, length, map, take, refl, sym, ap, ◌∙◌, arith, Some, None, Option}
 use Rattle.std.specs.Prelude.{slice_get}
 use Rattle.std.proofs.lemmas.List.{append-nil, map-append}
 use Rattle.std.proofs.lemmas.Grind.{flat_map-append}
@@ -85,7 +85,3 @@ placed records r places n k is size e =
     ∙ ap all_there (sym (messages-push records r)) where
       new : (n k : ℕ) → n ≡ length records → k ≡ length r.out → map (at_place (records ++ r ∷ [])) (places_to n k) ≡ all_there r.out
       new n k is size = (λ i. map (at_place (records ++ r ∷ [])) (places_to (is i) (size i))) ∙ new_places records r (length r.out) (omega arith) ∙ ap all_there (take_whole r.out)
-
--- one more place
-pub places_more : (r n : ℕ) → places_to r (n + 1) ≡ places_to r n ++ place r n ∷ []
-places_more r n = ap (places_to r) (add-one n)

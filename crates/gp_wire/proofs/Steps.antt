@@ -1,5 +1,5 @@
 -- The steps of one turn, put together.
-use Rattle.std.proofs.Common.{◌≡◌, ℕ, ◌+◌, ◌%◌, ◌^◌, ◌<◌, length, arith, length-append, List, [], ◌∷◌, ◌++◌, sym, ap, ◌∙◌, subst, Some, None}
+use Rattle.std.proofs.Common.{◌≡◌, ℕ, ◌+◌, ◌%◌, ◌^◌, ◌<◌, length, arith, length-append, List, [], ◌∷◌, ◌++◌, sym, ap, ◌∙◌, subst, Some}
 use Rattle.std.proofs.lemmas.List.{length-map, append-nil}
 use Rattle.atomic_table.specs.Table.{Allows, step}
 use Rattle.gp_msg.specs.declared.node.Node.{Node}
@@ -21,27 +21,6 @@ use Rattle.gp_wire.proofs.Words.{items_append}
 pub filled : (m d w : SeatState) (t : ℕ) → m.1 ≡ [] → d ≡ (at_standing m.0 (Waiting t), m.1) → HasTurn t d w → (x : Slot) × (w.1 ≡ (0, x) ∷ [])
 filled m d w t none drawn turn = let e = ap (λ (p : SeatState). p.1) turn.after in let f = ap (λ (p : SeatState). p.1) drawn in
     (Some (items (d.0.seen ++ turn.more)), e ∙ ap (λ l. (0, Some (items (d.0.seen ++ turn.more))) ∷ l) (f ∙ none))
-
-abbrev same_slot : List (ℕ × Slot) → Slot
-same_slot [] = None
-same_slot (x ∷ xs) = x.1
-
-pub taken_is : (d w : SeatState) (t : ℕ) (taken : Slot) (turn : HasTurn t d w) → w.1 ≡ (0, taken) ∷ [] → taken ≡ Some (items (d.0.seen ++ turn.more))
-taken_is d w t taken turn e = ap same_slot (sym e ∙ ap (λ (p : SeatState). p.1) turn.after)
-
-pub entered : (m d w e : SeatState) (t : ℕ) (taken : Slot) (out : List Record) → d ≡ (at_standing m.0 (Waiting t), m.1) → HasTurn t d w → w.1 ≡ (0, taken) ∷ [] → e ≡ (w.0, (0, None) ∷ []) → taken ≡ Some out → Enters m e t out
-entered m d w e t taken out drawn turn slot empty is =
-    let turn' : HasTurn t (at_standing m.0 (Waiting t), m.1) w = subst (λ p. HasTurn t p w) drawn turn in
-    let same = taken_is (at_standing m.0 (Waiting t), m.1) w t taken turn' slot in
-    let whole : items (m.0.seen ++ turn'.more) ≡ out = cc in
-    let after : e ≡ (view m.0.all m.0.nodes (m.0.seen ++ turn'.more) (Serving t) m.0.turn m.0.olds, (0, None) ∷ []) = empty ∙ ap (λ (p : SeatState). (p.0, (0, None) ∷ [])) turn'.after in record {
-      risen = turn'.risen;
-      more = turn'.more;
-      foreign = turn'.foreign;
-      inside = turn'.inside;
-      after = after;
-      whole = sym whole ∙ ap (λ (p : SeatState). items p.0.seen) (sym after);
-    }
 
 -- a turn in which nothing is posted
 pub looked_on : (m e n : SeatState) (t : ℕ) (out : List Record) → m.1 ≡ [] → Enters m e t out → n ≡ (rested e.0 t, []) → Turned m n nothing

@@ -9,10 +9,6 @@ use Rattle.gp_words.specs.Beginnings.{AppendsBeginning}
 pub none_begun : (old new text : List ℕ) → new ≡ old → AppendsBeginning old new text
 none_begun old new text same = (0, same ∙ sym (append-nil old))
 
--- all was appended
-pub all_begun : (old new text : List ℕ) → new ≡ old ++ text → AppendsBeginning old new text
-all_begun old new text is = (length text, is ∙ ap (λ (t : List ℕ). old ++ t) (sym (take_all (length text) text (omega arith))))
-
 -- the first piece was appended, and the beginning of the others
 pub more_begun : (old mid new piece text : List ℕ) → mid ≡ old ++ piece → AppendsBeginning mid new text → AppendsBeginning old new (piece ++ text)
 more_begun old mid new piece text is b = (

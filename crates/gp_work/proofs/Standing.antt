@@ -9,10 +9,10 @@ use Rattle.gp_msg.specs.Records.{messages_in}
 use Rattle.gp_work.specs.Doing.{ProcessState, have, Goes, Posted}
 use Rattle.gp_work.specs.Moves.{Takes}
 use Rattle.gp_work.specs.Batches.{IsBatch, order, AreRead}
-use Rattle.gp_work.specs.Jobs.{Stretch, CountsSteps, MovesOn, turn_after, MadeAll, MadeSome, TookAll, TookSome, TookStanding, Looked, Done, Broken}
+use Rattle.gp_work.specs.Jobs.{Stretch, CountsSteps, MovesOn, turn_after, MadeAll, MadeSome, TookAll, TookSome, TookStanding, Done, Broken}
 use Rattle.gp_work.proofs.Stretches.{messages_grown, have_grown, posted_on, posted_none, posted_same, risen_on, stretch_same, stretch_on}
 use Rattle.gp_work.proofs.Counting.{turn_append}
-use Rattle.gp_work.proofs.Making.{TookSoFar, takes_on, took_some, took_some_more}
+use Rattle.gp_work.proofs.Making.{TookSoFar, takes_on, took_some_more}
 use Rattle.gp_work.proofs.Batching.{batch_read, read_none, read_on, read_stays, stands}
 
 -- what was taken so far, from a on up to b, and the count of steps before and now
@@ -79,27 +79,8 @@ taken_more p f a q g b before now kinds r h later t batch some s all counted = r
     read_now = subst (λ ms. AreRead p.node ms b (b + length kinds) (order p.node b kinds)) (sym (messages_grown q r s.goes))
         (read_stays p.node (messages_in q.list) (messages_in s.goes.more) b (b + length kinds) (order p.node b kinds) (inr last) (batch_read p.node (messages_in q.list) b kinds batch))
 
--- nothing more stands
-pub taken_all : (p : ProcessState) (f : Bool) (a : ℕ) (q : ProcessState) (g : Bool) (b before now : ℕ) (kinds : List MsgKind) (r : ProcessState)
-    → Taken p f a q g b before now → Goes q r → Posted q r [] → Looked q b r kinds → length kinds ≡ 0 → r.up ≡ true → TookStanding p f a r g b
-taken_all p f a q g b before now kinds r t go post look none up = let u = taken_looked p f a q g b before now r t go post in let e = look.end in record {
-  ks = u.ks;
-  es = u.es;
-  posts = u.posts;
-  all = u.all;
-  read = u.read;
-  risen = risen_on p.turn q.turn r.turn t.stretch.goes.turn look.risen;
-  forth = u.forth;
-  none = omega arith;
-  within = u.within;
-  up = up;
-}
-
 pub taken_far : (p : ProcessState) (f : Bool) (a : ℕ) (q : ProcessState) (g : Bool) (b before now : ℕ) (t : Taken p f a q g b before now) → TookSoFar p f t.ks q g
 taken_far p f a q g b before now t = record { stretch = t.stretch; es = t.es; posts = t.posts; all = t.all }
-
-pub taken_some : (p : ProcessState) (f : Bool) (a : ℕ) (q : ProcessState) (g : Bool) (b before now : ℕ) (r : ProcessState) → Taken p f a q g b before now → Posted q r [] → TookSome p f r
-taken_some p f a q g b before now r t post = took_some p f t.ks q g r (taken_far p f a q g b before now t) post
 
 pub taken_some_more : (p : ProcessState) (f : Bool) (a : ℕ) (q : ProcessState) (g : Bool) (b before now : ℕ) (r : ProcessState) → Taken p f a q g b before now → TookSome q g r → TookSome p f r
 taken_some_more p f a q g b before now r t more = took_some_more p f t.ks q g r (taken_far p f a q g b before now t) more

@@ -11,7 +11,7 @@ use Rattle.gp_wire.specs.Own.{own, own_events, event_in}
 use Rattle.gp_edge.specs.Faults.{Rose}
 use Rattle.gp_work.specs.Doing.{ProcessState, posted, have, IsUpTo, HasRisen, RoseTwice, Goes, Posted}
 use Rattle.gp_work.specs.Causes.{FaultCauses}
-use Rattle.gp_work.specs.Jobs.{Stretch, Caused, NotRisen}
+use Rattle.gp_work.specs.Jobs.{Stretch, Caused}
 
 pub up_same : (t : Option ℕ) → IsUpTo t t
 up_same None = tt
@@ -95,16 +95,6 @@ caused_on p f q g h now causes (Full size need) s c = c
 caused_on p f q g h now causes (NotLog at) s c = (c.0, rose_on p.faults q.faults now s.goes.faults c.1, c.2)
 caused_on p f q g h now causes (Changed found) s c = (c.0, rose_on p.faults q.faults now s.goes.faults c.1, c.2)
 
--- why a node did not recover after its disk failed is why its work ended
-pub caused_down : (f h : Bool) (before between now : ℕ) (causes : FaultCauses) (fault : JobFault) → h ≡ true → Rose before between → between ≤ now → NotRisen f between now causes fault
-    → Caused f h before now causes fault
-caused_down f h before between now causes NoMemory up r l c = tt
-caused_down f h before between now causes Disk up r l (inl c) = (up, inr (c, rose_then before between now r l))
-caused_down f h before between now causes Disk up r l (inr c) = (up, inl (rose_rose before between now r c))
-caused_down f h before between now causes (Full size need) up r l c = absurd c
-caused_down f h before between now causes (NotLog at) up r l c = (up, rose_then before between now r l, c.1)
-caused_down f h before between now causes (Changed found) up r l c = (up, rose_then before between now r l, c.1)
-
 pub posted_none : (p : ProcessState) → Posted p p []
 posted_none p = sym (append-nil (own_events p.node p.list))
 
@@ -113,9 +103,6 @@ posted_on p q r es fs a b = b ∙ ap (λ l. l ++ fs) a ∙ append_assoc (own_eve
 
 pub posted_same : (p q r : ProcessState) (es : List Event) → Posted p q es → Posted q r [] → Posted p r es
 posted_same p q r es a b = b ∙ append-nil (own_events q.node q.list) ∙ a
-
-pub posted_after : (p q r : ProcessState) (es : List Event) → Posted p q [] → Posted q r es → Posted p r es
-posted_after p q r es a b = b ∙ ap (λ l. l ++ es) (a ∙ append-nil (own_events p.node p.list))
 
 pub posted_more : (p q : ProcessState) (es : List Event) → Posted p q es → posted q ≡ posted p + length es
 posted_more p q es e =

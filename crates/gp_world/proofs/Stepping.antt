@@ -50,10 +50,6 @@ same_first : {X Y : Type 0} (b : Bool) (u v : X × Y) (x : X) → u.0 ≡ x → 
 same_first true u v x h k = sym h
 same_first false u v x h k = sym k
 
-same_way : {X : Type 0} (b : Bool) (u v : X) → u ≡ v → v ≡ cond b u v
-same_way true u v h = sym h
-same_way false u v h = refl
-
 second_of : {X Y : Type 0} (i : ℕ) (u v : X × Y) → u.1 ≡ (cond (nat_eq i i) u v).1
 second_of i u v = ap (λ b. (cond b u v).1) (sym (eq-eqb i i refl))
 
