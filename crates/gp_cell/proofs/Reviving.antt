@@ -1,5 +1,5 @@
 -- A node that comes up again.
-use Rattle.std.proofs.Common.{◌≡◌, ℕ, List, [], ◌++◌, sym, ap, ◌∙◌, subst, Option, Some}
+use Rattle.std.proofs.Common.{◌≡◌, List, [], ◌++◌, sym, ap, ◌∙◌, subst, Option, Some}
 use Rattle.gp_round.specs.Counts.{Counts}
 use Rattle.gp_msg.specs.declared.node.Node.{Node}
 use Rattle.gp_msg.specs.declared.event.Event.TheVariants.{Fall}
@@ -12,13 +12,13 @@ use Rattle.gp_run.proofs.Telling.{messages-append}
 use Rattle.gp_vlog.specs.Logs.{LogState}
 use Rattle.gp_wire.specs.Known.{PassState, records}
 use Rattle.gp_work.specs.declared.moves.Move.{Move}
-use Rattle.gp_work.specs.Moves.{event_of, Fits}
+use Rattle.gp_work.specs.Moves.{event_of}
 use Rattle.gp_wire.specs.Own.{own}
 use Rattle.gp_cell.specs.declared.roles.Core.{Core}
 use Rattle.gp_cell.specs.Cores.{opening, acts, part_in}
 use Rattle.gp_cell.specs.Still.{entries_append}
 use Rattle.gp_cell.specs.declared.planning.Plan.{Plan}
-use Rattle.gp_cell.specs.Cells.{CellState, cell_of, IsSound, IsThoughtAt, IsLogged, Keeps, PostsOne}
+use Rattle.gp_cell.specs.Cells.{CellState, cell_of, IsThoughtAt, Keeps, PostsOne}
 use Rattle.gp_cell.specs.Passing.{Later}
 use Rattle.gp_cell.specs.Falls.{fell, KeepsMove, IsFallAt, IsRevival, Rises}
 use Rattle.gp_cell.proofs.Going.{posts_after}
@@ -26,9 +26,6 @@ use Rattle.gp_cell.proofs.Going.{posts_after}
 -- the next core is what the event of the move makes of the core
 pub next_core : (config : Counts) (n : Node) (core : Core) (seen : List Record) (mv : Move) (plan : Plan) → IsThoughtAt config n core seen mv plan → (more : List Stamped) → plan.next ≡ (acts n core (messages (newest_first seen) ++ more) (event_of n mv)).0
 next_core config n core seen mv plan t more = t.next more ∙ ap (λ e. (acts n core (messages (newest_first seen) ++ more) e).0) t.plan.event_is
-
-module _ {D : Type 0} (config : Counts) (n : Node) (core : Core) (log : Option (LogState D)) (p : PassState) (posted : ℕ) (down : Option Move) (mv : Move) (plan : Plan) (part : EpochPart)
-    (s : IsSound config n core log p posted down) (logged : IsLogged n) (f : Fits config n mv) (t : IsThoughtAt config n core (records p) mv plan) where
 
 -- the record of a fall, and the core that it leaves
 pub revives : {D : Type 0} (c : CellState D) (mv : Move) (x : Record) (next : Core) (part : EpochPart) (what : Option Kept) → IsFallAt c.config c.node c.core (records c.pass) mv part what
