@@ -1,5 +1,5 @@
-//! Tests of running nodes: cells that step and restart, work phases in threads, and the end of a
-//! wire.
+//! Tests of running nodes: the wire, cells that step and restart, work phases in threads, the script of a run,
+//! its start and its end.
 #![tactic(auto)]
 
 mod alone;
@@ -10,6 +10,19 @@ mod counter;
 #[cfg(test)]
 mod falls;
 #[cfg(test)]
+mod offer_limits;
+#[cfg(test)]
+mod offer_lists;
+#[cfg(test)]
+mod one_list;
+#[cfg(test)]
 mod phases;
+mod posters;
+#[cfg(test)]
+mod refused_offers;
 #[cfg(test)]
 mod rounds;
+#[cfg(test)]
+mod seating;
+#[cfg(test)]
+mod whole_offers;

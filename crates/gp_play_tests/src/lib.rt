@@ -1,14 +1,20 @@
-//! Tests of `play`: whole and refused scripts, and its ends over sources and sinks in memory.
+//! Tests of `play`: whole and refused scripts, its ends over sources and sinks in memory, and operations on
+//! accounts, the bank, its replicas and scripts that are played with it.
 #![tactic(auto)]
 
+#[cfg(test)]
+mod banks;
 #[cfg(test)]
 mod crashes;
 #[cfg(test)]
 mod epochs;
 #[cfg(test)]
 mod faulty_ends;
+pub mod greatest;
 #[cfg(test)]
 mod growing_values;
+#[cfg(test)]
+mod histories;
 #[cfg(test)]
 mod limits;
 #[cfg(test)]
@@ -16,7 +22,15 @@ mod operations;
 #[cfg(test)]
 mod refused_scripts;
 #[cfg(test)]
+mod replicas;
+#[cfg(test)]
+mod scripts;
+#[cfg(test)]
+mod spellings;
+#[cfg(test)]
 mod stage;
+#[cfg(test)]
+mod steps;
 #[cfg(test)]
 mod traces;
 #[cfg(test)]

@@ -1,10 +1,14 @@
-//! Tests of messages, the safe choice and the roles, as tables: each step that a role can make in an
-//! epoch and from one to another, steps that change nothing, and each call that takes memory, with
-//! ample memory.
+//! Tests of messages, the safe choice, the roles, the watch over the values of a round and round policies, as
+//! tables: each step that a role can make in an epoch and from one to another, steps that change nothing, and
+//! each call that takes memory, with ample memory.
 #![tactic(auto)]
 
 #[cfg(test)]
 mod acceptors;
+#[cfg(test)]
+mod adapted_rounds;
+#[cfg(test)]
+mod collision_scene;
 #[cfg(test)]
 mod coordinators;
 #[cfg(test)]
@@ -12,8 +16,12 @@ mod learners;
 #[cfg(test)]
 mod messages;
 #[cfg(test)]
+mod policies;
+#[cfg(test)]
 mod proposers;
 #[cfg(test)]
 mod safe_choices;
 #[cfg(test)]
 mod scene;
+#[cfg(test)]
+mod watches;

@@ -1,4 +1,4 @@
-//! Tests of local reads.
+//! Tests of local reads and of the onlookers of a run.
 #![tactic(auto)]
 
 #[cfg(test)]
@@ -6,8 +6,12 @@ mod held;
 #[cfg(test)]
 mod histories;
 #[cfg(test)]
+mod looking;
+#[cfg(test)]
 mod refused;
 #[cfg(test)]
 mod seen;
+#[cfg(test)]
+mod steps;
 #[cfg(test)]
 mod watchers;

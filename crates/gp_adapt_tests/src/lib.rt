@@ -1,5 +1,0 @@
-//! Tests of rounds that adapt.
-#![tactic(auto)]
-
-#[cfg(test)]
-mod rounds;

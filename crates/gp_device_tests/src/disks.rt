@@ -1,0 +1,94 @@
+//! Disks, call by call.
+use gp_edge::{CalmDisk, Disk, FileDisk, Gate, Idle, MemDisk, Refused};
+use gp_msg::Node;
+use std::fs;
+use std::test::Fail;
+
+// Whether a read from this place on gives this many bytes, and the piece then has these.
+fn reads<D: Disk>(disk: &mut D, at: u64, count: usize, bytes: &[u8; 4]) -> bool {
+    let mut piece = *b"----";
+    disk.read_at(at, &mut piece) == Ok(count) && piece == *bytes
+}
+
+// Whether a disk without bytes writes, reads, cuts and syncs as a disk does.
+fn is_a_disk<D: Disk>(disk: &mut D) -> bool {
+    disk.len() == Ok(0)
+        && reads(disk, 0, 0, b"----")
+        && disk.write_at(2, b"abc").is_ok()
+        && disk.sync().is_ok()
+        && disk.len() == Ok(5)
+        && reads(disk, 0, 4, b"\0\0ab")
+        && reads(disk, 3, 2, b"bc--")
+        && disk.write_at(3, b"X").is_ok()
+        && reads(disk, 1, 4, b"\0aXc")
+        && disk.cut(9).is_ok()
+        && disk.len() == Ok(5)
+        && disk.cut(3).is_ok()
+        && disk.sync().is_ok()
+        && reads(disk, 0, 3, b"\0\0a-")
+        && reads(disk, 7, 0, b"----")
+}
+
+#[test]
+fn disks_in_memory_are_disks(rt: HostRuntime) -> Result<(), Fail> {
+    let mut calm = CalmDisk::new(rt.alloc(), b"")?;
+    assert!(rt; is_a_disk(&mut calm));
+    assert!(rt; calm.content() == b"\0\0a".as_slice());
+    let mut scheduled = MemDisk::new(rt.alloc(), b"", &[])?;
+    assert!(rt; is_a_disk(&mut scheduled));
+    assert!(rt; scheduled.content() == b"\0\0a".as_slice());
+    Ok(())
+}
+
+#[test]
+fn a_disk_fails_at_the_chosen_calls_and_at_no_other(rt: HostRuntime) -> Result<(), Fail> {
+    let mut disk = MemDisk::new(rt.alloc(), b"abc", &[0, 2, 4, 6, 8])?;
+    assert!(rt; disk.len() == Err(Refused::Failed));
+    assert!(rt; disk.len() == Ok(3));
+    assert!(rt; disk.read_at(0, &mut [0]) == Err(Refused::Failed));
+    assert!(rt; reads(&mut disk, 0, 3, b"abc-"));
+    assert!(rt; disk.write_at(0, b"X") == Err(Refused::Failed));
+    assert!(rt; disk.write_at(1, b"Y") == Ok(()));
+    assert!(rt; disk.cut(1) == Err(Refused::Failed));
+    assert!(rt; disk.cut(2) == Ok(()));
+    assert!(rt; disk.sync() == Err(Refused::Failed));
+    assert!(rt; disk.sync() == Ok(()));
+    assert!(rt; disk.content() == b"aY".as_slice());
+    Ok(())
+}
+
+const FOLDER: &str = "gp_device_tests_disks/disks";
+
+const PATH: &str = "gp_device_tests_disks/disks/0";
+
+fn file_disk(rt: HostRuntime, path: &str) -> Result<FileDisk<HostRuntime>, Fail> {
+    let folder = String::from_str(rt.alloc(), FOLDER)?;
+    let path = String::from_str(rt.alloc(), path)?;
+    Ok(FileDisk::new(rt, folder, path))
+}
+
+#[test]
+fn a_file_is_made_at_the_first_call_and_is_a_disk(rt: HostRuntime) -> Result<(), Fail> {
+    let _ = fs::remove_dir_all(&rt, "gp_device_tests_disks");
+    let mut disk = file_disk(rt, PATH)?;
+    assert!(rt; fs::metadata(&rt, PATH).is_err());
+    assert!(rt; is_a_disk(&mut disk));
+    assert!(rt; disk.faults() == 0);
+    assert!(rt; fs::metadata(&rt, PATH)?.len() == 3);
+    // another disk over the file reads what was written
+    assert!(rt; reads(&mut file_disk(rt, PATH)?, 0, 3, b"\0\0a-"));
+    // a folder is not a file
+    let mut folder = file_disk(rt, FOLDER)?;
+    assert!(rt; folder.len() == Err(Refused::Failed));
+    assert!(rt; folder.sync() == Err(Refused::Failed));
+    assert!(rt; folder.faults() == 2);
+    fs::remove_dir_all(&rt, "gp_device_tests_disks")?;
+    Ok(())
+}
+
+#[test]
+fn an_idle_gate_returns(rt: HostRuntime) -> Result<(), Fail> {
+    let _ = rt;
+    Idle.at(Node::Acceptor(0), 7);
+    Ok(())
+}

@@ -1,0 +1,129 @@
+//! Disks that are lent and given back.
+use crate::lent_disks::{Holds, disks_with, hold, remade};
+use Holds::{Log as L, Own};
+use gp_edge::MemDisk;
+use gp_round::Config;
+use gp_shelf::{LendFault, Lent, give_back, lend, place_of};
+use gp_vlog::Log;
+use std::alloc::Global;
+use std::test::Fail;
+
+// Whether all logs are ready and have no entries.
+fn are_new(logs: &[Log<MemDisk>]) -> bool {
+    logs.iter().all(|log| log.is_ready() && log.count() == 0 && log.size() == 17)
+}
+
+// The disks after they were lent, made to logs of ascending limits, and given back.
+fn lent_and_back(alloc: Global, config: Config) -> Result<Vec<MemDisk>, Fail> {
+    let disks = disks_with(alloc, 0, &[])?;
+    let Ok(Lent { logs, shelf }) = lend(alloc, config, 64, disks) else {
+        return Err(Fail::from("not lent"));
+    };
+    if !are_new(&logs) {
+        return Err(Fail::from("not new"));
+    }
+    let logs = remade(alloc, logs)?;
+    if logs.len() != (config.acceptors() + config.coordinators()) as usize {
+        return Err(Fail::from("another number of logs"));
+    }
+    Ok(give_back(shelf, logs))
+}
+
+#[test]
+fn disks_come_back_in_order(rt: HostRuntime) -> Result<(), Fail> {
+    let disks = lent_and_back(rt.alloc(), Config::new(3, 2, 1)?)?;
+    assert!(rt;
+        hold(
+            &disks,
+            &[
+                L(64),
+                L(65),
+                L(66),
+                Own,
+                Own,
+                Own,
+                Own,
+                L(67),
+                L(68),
+                Own,
+                Own,
+                Own
+            ]
+        )
+    );
+    Ok(())
+}
+
+#[test]
+fn the_greatest_configuration_is_lent_all_disks(rt: HostRuntime) -> Result<(), Fail> {
+    let disks = lent_and_back(rt.alloc(), Config::new(7, 5, 1)?)?;
+    assert!(rt;
+        hold(
+            &disks,
+            &[
+                L(64),
+                L(65),
+                L(66),
+                L(67),
+                L(68),
+                L(69),
+                L(70),
+                L(71),
+                L(72),
+                L(73),
+                L(74),
+                L(75)
+            ]
+        )
+    );
+    Ok(())
+}
+
+#[test]
+fn all_disks_come_back_in_order_if_one_fails(rt: HostRuntime) -> Result<(), Fail> {
+    let disks = disks_with(rt.alloc(), 7, &[0])?;
+    let Err(unlent) = lend(rt.alloc(), Config::new(3, 2, 1)?, 80, disks) else {
+        return Err(Fail::from("lent"));
+    };
+    assert!(rt; unlent.why == LendFault::Disk);
+    assert!(rt;
+        hold(
+            &unlent.disks,
+            &[
+                L(80),
+                L(80),
+                L(80),
+                Own,
+                Own,
+                Own,
+                Own,
+                Own,
+                Own,
+                Own,
+                Own,
+                Own
+            ]
+        )
+    );
+    Ok(())
+}
+
+#[test]
+fn a_disk_of_no_node_is_not_used(rt: HostRuntime) -> Result<(), Fail> {
+    let disks = disks_with(rt.alloc(), 6, &[0])?;
+    assert!(rt; lend(rt.alloc(), Config::new(6, 5, 1)?, 64, disks).is_ok());
+    let disks = disks_with(rt.alloc(), 6, &[0])?;
+    assert!(rt; lend(rt.alloc(), Config::new(7, 5, 1)?, 64, disks).is_err());
+    Ok(())
+}
+
+#[test]
+fn coordinators_have_the_disks_from_the_seventh_on(rt: HostRuntime) -> Result<(), Fail> {
+    let config = Config::new(4, 3, 1)?;
+    let mut places = Vec::new(rt.alloc());
+    for node in 0..config.acceptors() + config.coordinators() {
+        places.push(place_of(&config, node))?;
+    }
+    assert!(rt; places.as_slice() == [0, 1, 2, 3, 7, 8, 9].as_slice());
+    Ok(())
+}

@@ -1,0 +1,29 @@
+-- Passes in the hands of nodes that post.
+use Rattle.std.specs.Prelude.{◌≡◌, List, [], ◌∷◌}
+use Rattle.atomic_table.specs.Seated.{TableId}
+use Rattle.gp_msg.specs.declared.node.Node.{Node}
+use Rattle.gp_wire.specs.Lists.{Has}
+use Rattle.gp_wire.specs.Known.{PassState}
+use Rattle.gp_node_tests.specs.declared.posters.Poster.{Poster}
+
+-- the pass of a poster
+abbrev pub pass_of : Poster → PassState
+pass_of p = p.pass
+
+-- it may post to this wire
+abbrev pub IsReady : TableId → PassState → Type 0
+IsReady id p = (p.wire ≡ id) × Has p.node p.holds
+
+-- it is of the same wire and node, and holds the same nodes
+abbrev pub IsStill : PassState → PassState → Type 0
+IsStill p q = (q.wire ≡ p.wire) × (q.node ≡ p.node) × (q.holds ≡ p.holds)
+
+-- each is of this wire and of its node, which it holds alone
+abbrev pub AreOfNodes : TableId → List Node → List PassState → Type 0
+AreOfNodes id [] [] = Unit {0}
+AreOfNodes id (n ∷ ns) (p ∷ ps) = (p.wire ≡ id) × (p.node ≡ n) × (p.holds ≡ n ∷ []) × AreOfNodes id ns ps
+AreOfNodes id _ _ = ⊥
+
+-- it holds all these nodes
+abbrev pub HasAll : List Node → PassState → Type 0
+HasAll nodes p = (n : Node) → Has n nodes → Has n p.holds

@@ -1,7 +1,0 @@
-//! Tests of onlookers.
-#![tactic(auto)]
-
-#[cfg(test)]
-mod looking;
-#[cfg(test)]
-mod steps;
