@@ -1,4 +1,5 @@
-//! Tests of the subcommands other than `play`, and of the words that name a subcommand.
+//! Tests of the subcommands other than `play`, of the words that name a subcommand, and of local
+//! reads beside a run and by themselves.
 #![tactic(auto)]
 
 #[cfg(test)]
@@ -18,11 +19,23 @@ mod failing_disks;
 #[cfg(test)]
 mod files;
 #[cfg(test)]
+mod held_readers;
+#[cfg(test)]
 mod logs;
+#[cfg(test)]
+mod looking;
 #[cfg(test)]
 mod many_runs;
 #[cfg(test)]
 mod nodes;
+#[cfg(test)]
+mod puts;
+#[cfg(test)]
+mod reads_in_one_thread;
+#[cfg(test)]
+mod refused_publishes;
+#[cfg(test)]
+mod replicas_of_puts;
 #[cfg(test)]
 mod simulated_runs;
 #[cfg(test)]
@@ -33,5 +46,7 @@ mod steps_at_once;
 mod upgrades;
 #[cfg(test)]
 mod viewed_runs;
+#[cfg(test)]
+mod watchers;
 #[cfg(test)]
 mod words;

@@ -1,5 +1,5 @@
-//! Tests of sources, sinks and disks, of logs, as tables of bytes, and of disks that are lent as logs and given
-//! back.
+//! Tests of sources, sinks and disks, of logs, as tables of bytes, and of disks that are lent as
+//! logs and given back.
 #![tactic(auto)]
 
 #[cfg(test)]

@@ -1,2 +1,4 @@
 pub mod Working
 pub mod Passing
+pub mod Small
+pub mod Making

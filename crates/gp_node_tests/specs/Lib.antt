@@ -1,3 +1,4 @@
 pub mod Alone
 pub mod Phases
 pub mod Posters
+pub mod Scenes

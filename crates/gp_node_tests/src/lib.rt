@@ -1,5 +1,6 @@
-//! Tests of running nodes: the wire, cells that step and restart, work phases in threads, the script of a run,
-//! its start and its end.
+//! Tests of running nodes: the wire, cells that step and restart, work phases in threads, the
+//! script of a run, its start and its end; and of the drivers, over worlds and over the cells of
+//! running nodes.
 #![tactic(auto)]
 
 mod alone;
@@ -9,6 +10,10 @@ mod calls;
 mod counter;
 #[cfg(test)]
 mod falls;
+#[cfg(test)]
+mod learned_in_worlds;
+#[cfg(test)]
+mod multi_rounds;
 #[cfg(test)]
 mod offer_limits;
 #[cfg(test)]
@@ -24,5 +29,12 @@ mod refused_offers;
 mod rounds;
 #[cfg(test)]
 mod seating;
+#[cfg(test)]
+mod settled_cells;
+#[cfg(test)]
+mod settled_worlds;
+#[cfg(test)]
+mod steps_of_worlds;
+mod whole_configuration;
 #[cfg(test)]
 mod whole_offers;

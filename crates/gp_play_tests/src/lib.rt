@@ -1,9 +1,18 @@
-//! Tests of `play`: whole and refused scripts, its ends over sources and sinks in memory, and operations on
-//! accounts, the bank, its replicas and scripts that are played with it.
+//! Tests of `play`: whole and refused scripts, its ends over sources and sinks in memory, and
+//! operations on accounts, the bank, its replicas and scripts that are played with it; and tests of
+//! certificates and of the audit of what a run printed.
 #![tactic(auto)]
 
 #[cfg(test)]
+mod audited_inputs;
+#[cfg(test)]
 mod banks;
+#[cfg(test)]
+mod certificates;
+#[cfg(test)]
+mod certified_worlds;
+#[cfg(test)]
+mod counted_votes;
 #[cfg(test)]
 mod crashes;
 #[cfg(test)]
@@ -18,7 +27,11 @@ mod histories;
 #[cfg(test)]
 mod limits;
 #[cfg(test)]
+mod long_audits;
+#[cfg(test)]
 mod operations;
+#[cfg(test)]
+mod refused_audits;
 #[cfg(test)]
 mod refused_scripts;
 #[cfg(test)]
@@ -26,13 +39,19 @@ mod replicas;
 #[cfg(test)]
 mod scripts;
 #[cfg(test)]
+mod simulated_audits;
+#[cfg(test)]
 mod spellings;
 #[cfg(test)]
 mod stage;
 #[cfg(test)]
 mod steps;
 #[cfg(test)]
+mod summaries;
+#[cfg(test)]
 mod traces;
+#[cfg(test)]
+mod upheld_audits;
 #[cfg(test)]
 mod watches;
 #[cfg(test)]

@@ -1,6 +1,6 @@
-//! Tests of messages, the safe choice, the roles, the watch over the values of a round and round policies, as
-//! tables: each step that a role can make in an epoch and from one to another, steps that change nothing, and
-//! each call that takes memory, with ample memory.
+//! Tests of messages, the safe choice, the roles, the watch over the values of a round and round
+//! policies, as tables: each step that a role can make in an epoch and from one to another, steps
+//! that change nothing, and each call that takes memory, with ample memory.
 #![tactic(auto)]
 
 #[cfg(test)]

@@ -1,0 +1,98 @@
+//! What readers see, one call after another in one thread.
+ghost use Rattle.std.specs.Prelude.{◌≡◌, []};
+
+use crate::replicas_of_puts::replica_of;
+use gp_command::{Key, NoMemory};
+use gp_replica::Replica;
+use gp_store::{KeyStore, Op};
+use gp_views::{Feed, Reader, Unread};
+use std::sync::Wait;
+use std::test::Fail;
+
+// What two readers of one feed find; only the second is notified.
+#[derive(Drop, Debug, PartialEq, Eq)]
+struct Findings {
+    before: bool,
+    values: (Option<u64>, Option<u64>),
+    absent: Option<u64>,
+    after: bool,
+    in_order: bool,
+    in_order_alone: bool,
+    counts: (u64, u64),
+}
+
+fn find<R: Wait>(
+    rt: &R,
+    feed: &mut Feed,
+    first: &mut Reader,
+    second: &mut Reader,
+    replica: &Replica<KeyStore>,
+    keys: (Key, Key),
+) -> Option<Findings>
+    requires { (feed.old.list ≡ []) × (first.old.feed ≡ feed.old.feed)
+        × (second.old.feed ≡ feed.old.feed) }
+{
+    let (key, other) = keys;
+    let earlier = first.get(key).ok()?;
+    feed.publish(rt, replica).ok()?;
+    let told = feed.tell().ok()?;
+    let before = second.has_seen(&told);
+    let again = feed.tell().ok()?;
+    second.learn(told);
+    let later = second.get(key).ok()?;
+    let absent = second.get(other).ok()?;
+    Some(Findings {
+        before,
+        values: (earlier, later),
+        absent,
+        after: second.has_seen(&again),
+        in_order: first.is_no_later(second),
+        in_order_alone: second.is_no_later(second),
+        counts: (first.seen(), second.seen()),
+    })
+}
+
+#[test]
+fn a_reader_sees_what_it_was_told_of(rt: HostRuntime) -> Result<(), Fail> {
+    let alloc = rt.alloc();
+    let keys = (Key::new(b"a")?, Key::new(b"b")?);
+    let commands = [
+        (1, Op::Put(keys.0, 5)),
+        (2, Op::Put(keys.1, 6)),
+        (3, Op::Del(keys.1)),
+        (4, Op::Add(keys.0, 2)),
+    ];
+    let replica = replica_of(&rt, alloc, &commands)?;
+    let (mut feed, mut readers) = Feed::new(&rt, alloc, 2)?;
+    let found = match (readers.pop(), readers.pop()) {
+        (Some(mut first), Some(mut second)) => {
+            find(&rt, &mut feed, &mut first, &mut second, &replica, keys)
+        }
+        _ => None,
+    };
+    feed.close(&rt);
+    let want = Findings {
+        before: false,
+        values: (None, Some(7)),
+        absent: None,
+        after: true,
+        in_order: true,
+        in_order_alone: true,
+        counts: (0, 4),
+    };
+    assert!(rt; found == Some(want));
+    Ok(())
+}
+
+#[test]
+fn a_reader_of_a_closed_feed_reads_nothing(rt: HostRuntime) -> Result<(), Fail> {
+    let alloc = rt.alloc();
+    let key = Key::new(b"a")?;
+    let (feed, mut readers) = Feed::new(&rt, alloc, 16)?;
+    assert!(rt; readers.len() == 16);
+    feed.close(&rt);
+    let mut reader = readers.pop().ok_or(NoMemory)?;
+    assert!(rt; reader.get(key) == Err(Unread));
+    assert!(rt; reader.seen() == 0);
+    Ok(())
+}

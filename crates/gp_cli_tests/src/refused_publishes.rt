@@ -1,0 +1,85 @@
+//! A publish that is refused, and then one of another sequence. Run it also with each allocation
+//! failing in turn.
+ghost use Rattle.std.specs.Prelude.{◌≡◌, []};
+
+use crate::replicas_of_puts::replica_of;
+use gp_command::{Key, NoMemory};
+use gp_replica::Replica;
+use gp_store::{KeyStore, Op};
+use gp_views::{Feed, Reader};
+use std::sync::Wait;
+use std::test::Fail;
+
+// Whether the first publish succeeded, and how many commands were published.
+type Published = (bool, usize);
+
+// Publishes what the first has run, and if that is refused, what the second has run.
+fn publish_one<R: Wait>(
+    rt: &R,
+    feed: &mut Feed,
+    first: &Replica<KeyStore>,
+    second: &Replica<KeyStore>,
+) -> Option<Published>
+    requires { feed.old.list ≡ [] }
+    ensures { feed.new.feed ≡ feed.old.feed }
+{
+    match feed.publish(rt, first) {
+        Ok(count) => Some((true, count)),
+        Err(_) => {
+            let count = feed.publish(rt, second).ok()?;
+            Some((false, count))
+        }
+    }
+}
+
+// What a reader sees after it was notified.
+fn read_told(feed: &mut Feed, reader: &mut Reader, key: Key) -> Option<(u64, Option<u64>)>
+    requires { reader.old.feed ≡ feed.old.feed }
+{
+    reader.learn(feed.tell().ok()?);
+    let value = reader.get(key).ok()?;
+    Some((reader.seen(), value))
+}
+
+fn publish_and_read<R: Wait>(
+    rt: &R,
+    feed: &mut Feed,
+    reader: &mut Reader,
+    replicas: (&Replica<KeyStore>, &Replica<KeyStore>),
+    key: Key,
+) -> Option<(Published, (u64, Option<u64>))>
+    requires { (feed.old.list ≡ []) × (reader.old.feed ≡ feed.old.feed) }
+{
+    let (first, second) = replicas;
+    let published = publish_one(rt, feed, first, second)?;
+    let read = read_told(feed, reader, key)?;
+    Some((published, read))
+}
+
+// Additions to one key: a command that is run twice, or one of the other sequence, changes the sum.
+#[test]
+fn a_refused_publish_leaves_nothing_behind(rt: HostRuntime) -> Result<(), Fail> {
+    let alloc = rt.alloc();
+    let key = Key::new(b"a")?;
+    let adds = [
+        (1, Op::Add(key, 1)),
+        (2, Op::Add(key, 2)),
+        (3, Op::Add(key, 4)),
+    ];
+    let others = [(4, Op::Add(key, 8)), (5, Op::Add(key, 16))];
+    let first = replica_of(&rt, alloc, &adds)?;
+    let second = replica_of(&rt, alloc, &others)?;
+    let (mut feed, mut readers) = Feed::new(&rt, alloc, 2)?;
+    let seen = match readers.pop() {
+        Some(mut reader) => publish_and_read(&rt, &mut feed, &mut reader, (&first, &second), key),
+        None => None,
+    };
+    feed.close(&rt);
+    let (published, read) = seen.ok_or(NoMemory)?;
+    if published.0 {
+        assert!(rt; (published.1, read) == (3, (3, Some(7))));
+    } else {
+        assert!(rt; (published.1, read) == (2, (2, Some(24))));
+    }
+    Ok(())
+}

@@ -1,0 +1,138 @@
+//! Worlds that are settled after some steps.
+ghost use Rattle.std.specs.Prelude.{◌≤◌, OnOk};
+
+use crate::learned_in_worlds::{all_hold, in_range};
+use crate::steps_of_worlds::Step::{Begin, Checkpoint, Fall, Put, Take};
+use crate::steps_of_worlds::{A0, A1, A2, C0, C1, L0, Step, all_happen};
+use gp_driver::settle;
+use gp_round::Config;
+use gp_world::World;
+use std::alloc::Global;
+use std::sync::Wait;
+use std::test::Fail;
+
+// Acceptors, coordinators and learners; then the events of settling, and the commands that each learner then holds.
+type Row = (u32, u32, u32, u64, usize);
+
+// More records, messages or rounds than the worlds here have.
+#[derive(Debug, Drop)]
+struct Large;
+
+// One pass: four proposals, and 1 + 3 * 3 + 3 * 2 events of a round.
+const FOUR_OFFERS: [Step; 4] = [Put(0, 1), Put(0, 2), Put(1, 3), Put(7, 4)];
+
+const FOUR_OFFERS_SETTLED: Row = (3, 1, 2, 20, 4);
+
+// A pass is made even if nothing was offered.
+const NOTHING_SETTLED: Row = (3, 1, 1, 13, 0);
+
+// Two passes, and coordinator 0 and three acceptors take a Final between them.
+const CHECKPOINT_BETWEEN_PUTS: [Step; 3] = [Put(0, 1), Checkpoint(0), Put(0, 2)];
+
+const CHECKPOINT_BETWEEN_PUTS_SETTLED: Row = (3, 1, 2, 39, 3);
+
+// One learner learned all, sent a Final, and forgot in a crash what it had learned. First every node takes that Final.
+const LEARNED_AND_LOST: [Step; 14] = [
+    Put(0, 1),
+    Checkpoint(0),
+    Take(C0, 0),
+    Take(C0, 1),
+    Begin(0, 1),
+    Take(A0, 2),
+    Take(A1, 2),
+    Take(C0, 3),
+    Take(C0, 4),
+    Take(A0, 5),
+    Take(A1, 5),
+    Take(L0, 6),
+    Take(L0, 7),
+    Fall(L0),
+];
+
+const LEARNED_AND_LOST_SETTLED: Row = (3, 1, 2, 24, 2);
+
+// Coordinator 1 forgets in a crash what is done, and brings the checkpoint of the closed epoch to a vote in the next one.
+// So the first pass closes that epoch with it once more, the second pass closes the next epoch with the new checkpoint, and
+// the third one is the last.
+const OLD_CHECKPOINT: [Step; 25] = [
+    Checkpoint(0),
+    Take(C0, 0),
+    Begin(0, 1),
+    Take(A0, 1),
+    Take(A1, 1),
+    Take(C0, 2),
+    Take(C0, 3),
+    Take(A0, 4),
+    Take(A1, 4),
+    Take(L0, 5),
+    Take(L0, 6),
+    Take(A0, 7),
+    Take(A1, 7),
+    Take(A2, 7),
+    Take(C1, 7),
+    Fall(C1),
+    Take(C1, 0),
+    Begin(1, 2),
+    Take(A0, 8),
+    Take(A1, 8),
+    Take(C1, 9),
+    Take(C1, 10),
+    Take(A0, 11),
+    Take(A1, 11),
+    Checkpoint(0),
+];
+
+const OLD_CHECKPOINT_SETTLED: Row = (3, 2, 1, 54, 2);
+
+// The number, unless it is large.
+fn few(number: u64) -> Result<u64, Large>
+    ensures { OnOk result (number ≤ 100000) }
+{
+    if number > 100_000 {
+        Err(Large)
+    } else {
+        Ok(number)
+    }
+}
+
+// Whether settling after these steps takes this many events, after which every learner holds this
+// many commands.
+#[tactic(auto, using(crate::proofs::Small::few_rounds, crate::proofs::Small::few_settled))]
+fn settles(rt: &impl Wait, alloc: Global, steps: &[Step], row: Row) -> Result<bool, Fail> {
+    let (acceptors, coordinators, learners, events, commands) = row;
+    let config = Config::new(acceptors, coordinators, learners)?;
+    let mut world = World::new(alloc, config)?;
+    if !all_happen(&mut world, alloc, steps)? {
+        return Ok(false);
+    }
+    let _records = few(world.records().len() as u64)?;
+    let _messages = few(world.messages())?;
+    let _rounds = few(world.top_count() as u64)?;
+    in_range(world.config());
+    let made = settle(rt, &mut world)?;
+    Ok(made == events && all_hold(&world, commands))
+}
+
+#[test]
+fn one_pass_brings_all_without_checkpoints(rt: HostRuntime) -> Result<(), Fail> {
+    let alloc = rt.alloc();
+    assert!(rt; settles(&rt, alloc, &FOUR_OFFERS, FOUR_OFFERS_SETTLED)?);
+    assert!(rt; settles(&rt, alloc, &[], NOTHING_SETTLED)?);
+    Ok(())
+}
+
+#[test]
+fn a_pass_follows_each_that_closed_an_epoch(rt: HostRuntime) -> Result<(), Fail> {
+    let alloc = rt.alloc();
+    assert!(rt;
+        settles(
+            &rt,
+            alloc,
+            &CHECKPOINT_BETWEEN_PUTS,
+            CHECKPOINT_BETWEEN_PUTS_SETTLED
+        )?
+    );
+    assert!(rt; settles(&rt, alloc, &LEARNED_AND_LOST, LEARNED_AND_LOST_SETTLED)?);
+    assert!(rt; settles(&rt, alloc, &OLD_CHECKPOINT, OLD_CHECKPOINT_SETTLED)?);
+    Ok(())
+}
