@@ -8,8 +8,7 @@ use Rattle.gp_wire.specs.Known.{PassState}
 use Rattle.gp_wire.specs.Fresh.{AreFresh}
 use Rattle.gp_wire.specs.Ends.{AreOf, IsHeld}
 use Rattle.gp_wire.proofs.Words.{has_left, has_right}
-use Rattle.gp_node_tests.specs.declared.posters.Poster.{Poster}
-use Rattle.gp_node_tests.specs.Posters.{pass_of, IsReady, IsStill, AreOfNodes}
+use Rattle.gp_node_tests.specs.Posters.{IsReady, IsStill, AreOfNodes}
 
 -- the passes of a new wire
 pub fresh_of : (id : TableId) (all ns : List Node) (ps : List PassState) → AreFresh id all ns ps → AreOfNodes id ns ps
@@ -20,23 +19,23 @@ fresh_of id all (n ∷ ns) (p ∷ ps) f =
     (ap (λ (q : PassState). q.wire) f.0, ap (λ (q : PassState). q.node) f.0, ap (λ (q : PassState). q.holds) f.0, fresh_of id all ns ps f.1)
 
 -- where each poster kept its pass
-pub still_of : (id : TableId) (ns : List Node) (xs ys : List Poster) → length ys ≡ length xs
-    → ((i : ℕ) (d : Poster) → i < length xs → IsStill (pass_of (slice_index_or xs i d)) (pass_of (slice_index_or ys i d)))
+pub still_of : (A : Type 0) (pass_of : A → PassState) (id : TableId) (ns : List Node) (xs ys : List A) → length ys ≡ length xs
+    → ((i : ℕ) (d : A) → i < length xs → IsStill (pass_of (slice_index_or xs i d)) (pass_of (slice_index_or ys i d)))
     → AreOfNodes id ns (map pass_of xs) → AreOfNodes id ns (map pass_of ys)
-still_of id ns [] [] same each of = of
-still_of id ns [] (y ∷ ys) same each of = absurd (omega (arith, same))
-still_of id ns (x ∷ xs) [] same each of = absurd (omega (arith, same))
-still_of id [] (x ∷ xs) (y ∷ ys) same each of = absurd of
-still_of id (n ∷ ns) (x ∷ xs) (y ∷ ys) same each of =
+still_of A pass_of id ns [] [] same each of = of
+still_of A pass_of id ns [] (y ∷ ys) same each of = absurd (omega (arith, same))
+still_of A pass_of id ns (x ∷ xs) [] same each of = absurd (omega (arith, same))
+still_of A pass_of id [] (x ∷ xs) (y ∷ ys) same each of = absurd of
+still_of A pass_of id (n ∷ ns) (x ∷ xs) (y ∷ ys) same each of =
     let s = each 0 x (omega arith) in
-    (s.0 ∙ of.0, s.1 ∙ of.1, s.2 ∙ of.2, still_of id ns xs ys (omega (arith, same)) (λ i d l. each (suc i) d (omega (arith, l))) of.3)
+    (s.0 ∙ of.0, s.1 ∙ of.1, s.2 ∙ of.2, still_of A pass_of id ns xs ys (omega (arith, same)) (λ i d l. each (suc i) d (omega (arith, l))) of.3)
 
 -- each may post
-pub ready_of : (id : TableId) (ns : List Node) (xs : List Poster) → AreOfNodes id ns (map pass_of xs) → All (λ p. IsReady id (pass_of p)) xs
-ready_of id ns [] of k d l = absurd (omega (arith, l))
-ready_of id [] (x ∷ xs) of k d l = absurd of
-ready_of id (n ∷ ns) (x ∷ xs) of zero d l = (of.0, rw (of.1, of.2) (inl refl))
-ready_of id (n ∷ ns) (x ∷ xs) of (suc k) d l = ready_of id ns xs of.3 k d (omega (arith, l))
+pub ready_of : (A : Type 0) (pass_of : A → PassState) (id : TableId) (ns : List Node) (xs : List A) → AreOfNodes id ns (map pass_of xs) → All (λ p. IsReady id (pass_of p)) xs
+ready_of A pass_of id ns [] of k d l = absurd (omega (arith, l))
+ready_of A pass_of id [] (x ∷ xs) of k d l = absurd of
+ready_of A pass_of id (n ∷ ns) (x ∷ xs) of zero d l = (of.0, rw (of.1, of.2) (inl refl))
+ready_of A pass_of id (n ∷ ns) (x ∷ xs) of (suc k) d l = ready_of A pass_of id ns xs of.3 k d (omega (arith, l))
 
 -- they close the wire
 pub all_of_wire : (id : TableId) (ns : List Node) (ps : List PassState) → AreOfNodes id ns ps → AreOf id ps
@@ -77,11 +76,11 @@ end_ready id (n ∷ ns) [] p of = (of.0, rw (of.1, of.2) (inl refl))
 end_ready id (n ∷ ns) (q ∷ ps) p of = end_ready id ns ps p of.3
 
 -- the posters of a new wire
-pub opened : (id : TableId) (ns ms : List Node) (ps : List PassState) (xs : List Poster) → AreFresh id ns ns ps → ms ≡ ns → map pass_of xs ≡ ps → AreOfNodes id ms (map pass_of xs)
-opened id ns ms ps xs f e is = subst (λ l. AreOfNodes id l (map pass_of xs)) (sym e) (subst (AreOfNodes id ns) (sym is) (fresh_of id ns ns ps f))
+pub opened : (A : Type 0) (pass_of : A → PassState) (id : TableId) (ns ms : List Node) (ps : List PassState) (xs : List A) → AreFresh id ns ns ps → ms ≡ ns → map pass_of xs ≡ ps → AreOfNodes id ms (map pass_of xs)
+opened A pass_of id ns ms ps xs f e is = subst (λ l. AreOfNodes id l (map pass_of xs)) (sym e) (subst (AreOfNodes id ns) (sym is) (fresh_of id ns ns ps f))
 
 -- there is a poster
-pub some_of : (id : TableId) (ns : List Node) (xs : List Poster) → 0 < length ns → AreOfNodes id ns (map pass_of xs) → 0 < length xs
-some_of id [] xs l of = absurd (omega (arith, l))
-some_of id (n ∷ ns) [] l of = absurd of
-some_of id (n ∷ ns) (x ∷ xs) l of = omega arith
+pub some_of : (A : Type 0) (pass_of : A → PassState) (id : TableId) (ns : List Node) (xs : List A) → 0 < length ns → AreOfNodes id ns (map pass_of xs) → 0 < length xs
+some_of A pass_of id [] xs l of = absurd (omega (arith, l))
+some_of A pass_of id (n ∷ ns) [] l of = absurd of
+some_of A pass_of id (n ∷ ns) (x ∷ xs) l of = omega arith

@@ -4,11 +4,6 @@ use Rattle.atomic_table.specs.Seated.{TableId}
 use Rattle.gp_msg.specs.declared.node.Node.{Node}
 use Rattle.gp_wire.specs.Lists.{Has}
 use Rattle.gp_wire.specs.Known.{PassState}
-use Rattle.gp_node_tests.specs.declared.posters.Poster.{Poster}
-
--- the pass of a poster
-abbrev pub pass_of : Poster → PassState
-pass_of p = p.pass
 
 -- it may post to this wire
 abbrev pub IsReady : TableId → PassState → Type 0

@@ -1,5 +1,6 @@
 -- The cells of a whole configuration.
-use Rattle.std.specs.Prelude.{◌≡◌, [], None}
+use Rattle.std.specs.Prelude.{◌≡◌, List, [], None}
+use Rattle.gp_round.specs.Counts.{Counts}
 use Rattle.gp_edge.specs.Records.{MemDiskState}
 use Rattle.gp_msg.specs.declared.node.Node.{Node}
 use Rattle.gp_msg.specs.declared.node.Node.TheVariants.{Proposer, Coordinator, Acceptor, Learner}
@@ -9,7 +10,6 @@ use Rattle.gp_cell.specs.declared.rules.PaxosRules.{PaxosRules}
 use Rattle.gp_cell.specs.Cells.{CellState}
 use Rattle.gp_cell.specs.Working.{IsAt}
 use Rattle.gp_stage.specs.Held.{AreAllNodes, AreCellsOf, AreReady}
-use Rattle.gp_node_tests.specs.declared.whole_configuration.Scene.{Scene}
 
 -- the pass is one of this wire, knows its nodes, holds its own node, and has seen nothing
 pub record IsFresh (wire : WireState PaxosRules) (p : PassState) : Type 0 where
@@ -34,8 +34,8 @@ pub record IsReadyCell (wire : WireState PaxosRules) (n : Node) (c : CellState M
   pub node : c.node ≡ n
 
 -- the cells are those of all nodes of the configuration and of the wire, and are up
-pub record IsScene (s : Scene) : Type 0 where
-  pub config_is : s.config ≡ s.wire.rules.config
-  pub nodes : AreAllNodes s.config s.wire.nodes
-  pub ready : AreReady s.wire s.cells.items
-  pub cells : AreCellsOf s.wire.nodes s.cells.items
+pub record IsScene (config : Counts) (wire : WireState PaxosRules) (cells : List (CellState MemDiskState)) : Type 0 where
+  pub config_is : config ≡ wire.rules.config
+  pub nodes : AreAllNodes config wire.nodes
+  pub ready : AreReady wire cells
+  pub are_all : AreCellsOf wire.nodes cells

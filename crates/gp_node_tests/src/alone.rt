@@ -74,7 +74,7 @@ pub fn make_alone(
     failing: &[u64],
 ) -> Result<Alone, NoMemory>
     requires { is_present config node ≡ true }
-    ensures { IfOk result (IsAlone config node) }
+    ensures { IfOk result (λ a. IsAlone config node a.wire a.cell) }
 {
     let (wire, pass) = wire_of(alloc, config, node)?;
     let log = log_for(alloc, config, node, failing)?;

@@ -3,6 +3,7 @@
 //! running nodes.
 #![tactic(auto)]
 
+#[cfg(test)]
 mod alone;
 #[cfg(test)]
 mod calls;
@@ -22,6 +23,7 @@ mod offer_lists;
 mod one_list;
 #[cfg(test)]
 mod phases;
+#[cfg(test)]
 mod posters;
 #[cfg(test)]
 mod refused_offers;
@@ -35,6 +37,7 @@ mod settled_cells;
 mod settled_worlds;
 #[cfg(test)]
 mod steps_of_worlds;
+#[cfg(test)]
 mod whole_configuration;
 #[cfg(test)]
 mod whole_offers;

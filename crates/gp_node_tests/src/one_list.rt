@@ -1,7 +1,8 @@
 //! What the threads post through one wire is one list.
 ghost use Rattle.std.specs.Prelude.{◌≡◌, ◌<◌, length, map, IfSome};
 ghost use Rattle.gp_wire.specs.Lists.{IsDistinct};
-ghost use Rattle.gp_node_tests.specs.Posters.{AreOfNodes, IsReady, IsStill, HasAll, pass_of};
+ghost use Rattle.gp_node_tests.specs.Posters.{AreOfNodes, IsReady, IsStill, HasAll};
+ghost use Rattle.gp_node_tests.specs.declared.posters.Poster.{Poster};
 
 use crate::posters::{
     AllLegal, Findings, Mark, Poster, append_numbered, mark, parts, posted, read_mark,
@@ -112,7 +113,7 @@ fn closed(
     wire: Wire<AllLegal>,
     posters: Vec<Poster>,
 ) -> Result<(Records, Vec<Findings>), NoMemory>
-    requires of { AreOfNodes wire.id wire.nodes (map pass_of posters.items) }
+    requires of { AreOfNodes wire.id wire.nodes (map (λ (p : Poster). p.pass) posters.items) }
 {
     let (passes, findings) = parts(alloc, posters)?;
     Ok((wire.close(passes), findings))

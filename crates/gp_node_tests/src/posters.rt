@@ -2,7 +2,8 @@
 ghost use Rattle.std.specs.Prelude.{◌≡◌, ◌<◌, ℕ, All, length, map, slice_index_or, IfOk};
 ghost use Rattle.gp_msg.specs.declared.node.Node.{Node};
 ghost use Rattle.gp_wire.specs.Lists.{IsDistinct};
-ghost use Rattle.gp_node_tests.specs.Posters.{IsReady, IsStill, AreOfNodes, pass_of};
+ghost use Rattle.gp_node_tests.specs.Posters.{IsReady, IsStill, AreOfNodes};
+ghost use Rattle.gp_node_tests.specs.declared.posters.Poster.{Poster};
 
 use gp_command::NoMemory;
 use gp_msg::{Event, Msg, MsgKind, Node, Outs, Record};
@@ -168,9 +169,9 @@ fn work_all<R: Threads + Wait + Sync>(
     mut posters: Vec<Poster>,
 ) -> Vec<Poster>
     requires some { 0 < length posters.items }
-    requires ready { All (λ p. IsReady wire.now.id (pass_of p)) posters.items }
+    requires ready { All (λ (p : Poster). IsReady wire.now.id p.pass) posters.items }
     ensures same { length result.items ≡ length posters.items }
-    ensures each { (i : ℕ) (d : _) → i < length posters.items → IsStill (pass_of (slice_index_or posters.items i d)) (pass_of (slice_index_or result.items i d)) }
+    ensures each { (i : ℕ) (d : Poster) → i < length posters.items → IsStill (slice_index_or posters.items i d).pass (slice_index_or result.items i d).pass }
 {
     let count = posters.len();
     thread::for_each_mut(
@@ -184,7 +185,7 @@ fn work_all<R: Threads + Wait + Sync>(
 
 // A poster for each pass.
 fn posters(alloc: Global, passes: Vec<Pass>, posts: u32) -> Result<Vec<Poster>, NoMemory>
-    ensures { IfOk result (λ v. map pass_of v.items ≡ passes.items) }
+    ensures { IfOk result (λ v. map (λ (p : Poster). p.pass) v.items ≡ passes.items) }
 {
     let mut posters = Vec::new(alloc);
     let mut left = passes;
@@ -215,7 +216,7 @@ pub fn posted<R: Threads + Wait + Sync>(
 ) -> Result<(Wire<AllLegal>, Vec<Poster>), NoMemory>
     requires some { 0 < length nodes.now }
     requires distinct { IsDistinct nodes.now }
-    ensures { IfOk result (λ w. AreOfNodes w.0.id w.0.nodes (map pass_of w.1.items)) }
+    ensures { IfOk result (λ w. AreOfNodes w.0.id w.0.nodes (map (λ (p : Poster). p.pass) w.1.items)) }
 {
     let (wire, passes) = Wire::new(alloc, AllLegal, nodes)?;
     let posters = posters(alloc, passes, posts)?;
@@ -225,7 +226,7 @@ pub fn posted<R: Threads + Wait + Sync>(
 
 /// The passes and the findings of posters, in their order.
 pub fn parts(alloc: Global, posters: Vec<Poster>) -> Result<(Vec<Pass>, Vec<Findings>), NoMemory>
-    ensures { IfOk result (λ w. w.0.items ≡ map pass_of posters.items) }
+    ensures { IfOk result (λ w. w.0.items ≡ map (λ (p : Poster). p.pass) posters.items) }
 {
     let mut passes = Vec::new(alloc);
     let mut findings = Vec::new(alloc);

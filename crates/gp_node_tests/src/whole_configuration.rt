@@ -58,7 +58,7 @@ pub struct Disks {
 
 /// All cells of the configuration. Proposers 0 and 1 have offered a command each.
 pub fn make_scene<R: Wait>(rt: &R, alloc: Global, disks: Disks) -> Result<Scene, NoMemory>
-    ensures { IfOk result IsScene }
+    ensures { IfOk result (λ s. IsScene s.config s.wire s.cells.items) }
 {
     let Ok(config) = Config::new(3, 2, 1) else {
         return Err(NoMemory);

@@ -14,5 +14,5 @@ returns g c = let w = c.in_ok-wire in record {
   config_is = sym (ap (λ (r : PaxosRules). r.config) w.ensures.about.0);
   nodes = subst (λ k. AreAllNodes k w.wire.nodes) (sym c.in-Ok.ensures.made) (subst (AreAllNodes three) (sym w.ensures.about.1) three_nodes);
   ready = c.in_ok-cells.ensures.ready;
-  cells = cells_of w.wire.nodes c.in_ok-cells.cells.items c.in_ok-cells.ensures.nodes (subst IsDistinct (sym w.ensures.about.1) three_distinct);
+  are_all = cells_of w.wire.nodes c.in_ok-cells.cells.items c.in_ok-cells.ensures.nodes (subst IsDistinct (sym w.ensures.about.1) three_distinct);
 }
