@@ -10,7 +10,7 @@ ghost use Rattle.gp_acceptor.specs.Table.{acceptor_take, acceptor_fall, durable,
 ghost use Rattle.gp_acceptor.specs.Revotes.{IsAgreed, IsPlan, settled, vote_sent};
 
 use crate::held::{clear, copy_value, value_at};
-use crate::voting::{revote, told_vote};
+use crate::voting::{revote, sent_vote, told_vote};
 use gp_command::{Command, NoMemory};
 use gp_history::Hist;
 use gp_index::History;
@@ -167,24 +167,26 @@ impl Part {
     }
 
     // Votes for one more command.
-    #[tactic(auto, using(gp_safe::proofs::Pushed::pushed))]
     fn extend(&mut self, epoch: u32, c: &Command) -> Result<Outs, NoMemory>
         requires { IsTrue (is_fast self.old.round.mode) }
         ensures next { OnOk result (self.new ≡ record self.old { vote = push self.old.vote c.now }) }
         ensures sent { IfOk result (λ outs. map message_of outs ≡ InEpoch epoch (Voted self.old.round self.old.number (push self.old.vote c.now)) ∷ []) }
         ensures unchanged { OnErr result (self.new ≡ self.old) }
     {
-        let mut outs = Outs::new(self.alloc);
-        let mut vote = self.vote.copy()?;
-        vote.push(c.copy()?)?;
-        outs.push(Msg::P2b {
-            epoch,
-            round: self.round,
-            acceptor: self.number,
-            vote: vote.copy()?,
-        })?;
+        let vote = self.vote_with(c)?;
+        let outs = sent_vote(self.alloc, epoch, self.number, self.round, &vote)?;
         self.vote = vote;
         Ok(outs)
+    }
+
+    // Its vote with one more command. `NoMemory` if memory runs out.
+    #[tactic(auto, using(gp_safe::proofs::Pushed::pushed))]
+    fn vote_with(&self, c: &Command) -> Result<History, NoMemory>
+        ensures { IfOk result (λ vote. history_of vote ≡ push self.now.vote c.now) }
+    {
+        let mut vote = self.vote.copy()?;
+        vote.push(c.copy()?)?;
+        Ok(vote)
     }
 
     /// Takes a proposed command: in a fast round in which it has voted, it votes for the command if

@@ -1,8 +1,8 @@
 //! The vote that the held values give, and the message that sends it.
-ghost use Rattle.std.specs.Prelude.{◌≡◌, ◌<◌, IfOk, map, Option, ◌&&◌};
+ghost use Rattle.std.specs.Prelude.{◌≡◌, ◌<◌, [], ◌∷◌, IfOk, map, Option, ◌&&◌};
 ghost use Rattle.std.specs.Option.{option_map, option_to_list, option_copied};
 ghost use Rattle.gp_history.specs.Sequence.{history_of};
-ghost use Rattle.gp_msg.specs.Messages.{message_of, maybe_stamped};
+ghost use Rattle.gp_msg.specs.Messages.{message_of, maybe_stamped, InEpoch, Voted};
 ghost use Rattle.gp_safe.specs.Cow.{cow_history};
 ghost use Rattle.gp_acceptor.specs.State.{histories};
 ghost use Rattle.gp_acceptor.specs.Revotes.{Settles, HasAgreed, agreed_with};
@@ -92,16 +92,30 @@ pub fn told_vote(
 ) -> Result<Outs, NoMemory>
     ensures { IfOk result (λ outs. map message_of outs ≡ option_to_list (maybe_stamped epoch (told_vote acceptor voted round (history_of vote.now) (option_map history_of (option_copied next.entry))))) }
 {
-    let mut outs = Outs::new(alloc);
-    if let Some(next) = next {
-        if voted < round || vote.len() < next.len() {
-            outs.push(Msg::P2b {
-                epoch,
-                round,
-                acceptor,
-                vote: next.copy()?,
-            })?;
+    match next {
+        Some(next) if voted < round || vote.len() < next.len() => {
+            sent_vote(alloc, epoch, acceptor, round, next)
         }
+        _ => Ok(Outs::new(alloc)),
     }
+}
+
+/// The message that sends a vote. `NoMemory` if memory runs out.
+pub fn sent_vote(
+    alloc: Global,
+    epoch: u32,
+    acceptor: u32,
+    round: Round,
+    vote: &History,
+) -> Result<Outs, NoMemory>
+    ensures { IfOk result (λ outs. map message_of outs ≡ InEpoch epoch (Voted round acceptor (history_of vote.now)) ∷ []) }
+{
+    let mut outs = Outs::new(alloc);
+    outs.push(Msg::P2b {
+        epoch,
+        round,
+        acceptor,
+        vote: vote.copy()?,
+    })?;
     Ok(outs)
 }

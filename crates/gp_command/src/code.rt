@@ -4,7 +4,7 @@ ghost use Rattle.gp_command.specs.Code.{draft_code};
 ghost use Rattle.gp_command.specs.Words.{IsWord, IsHead};
 
 use crate::touch::Touch;
-use crate::writing::push_foot;
+use crate::writing::push_touches;
 use gp_memory::NoMemory;
 use std::alloc::Global;
 use std::marker::Model;
@@ -82,8 +82,7 @@ pub fn code_of(
     let room = 2 + 18 * foot.len() + body.len();
     let mut code = Vec::with_capacity(alloc, room)?;
     code.push(u8::from(checkpoint))?;
-    code.push(foot.len() as u8)?;
-    push_foot(foot, &mut code)?;
+    push_touches(foot, &mut code)?;
     code.extend_from_slice(body)?;
     Ok(Code::new(code))
 }

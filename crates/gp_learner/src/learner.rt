@@ -5,7 +5,7 @@ ghost use Rattle.gp_history.specs.Sequence.{history_of};
 ghost use Rattle.gp_epoch.specs.Cut.{cut};
 ghost use Rattle.gp_msg.specs.Messages.{message_of, Voted, Final};
 ghost use Rattle.gp_learner.specs.Table as table;
-ghost use Rattle.gp_learner.specs.Table.{learner_take};
+ghost use Rattle.gp_learner.specs.Table.{learner_take, with_vote};
 ghost use Rattle.gp_learner.specs.Epochs.{LearnerInEpoch, opening, take, hearing, passed, fall, CanTake};
 
 use crate::part::Part;
@@ -173,9 +173,8 @@ impl Learner {
         self.learned = learned;
     }
 
-    // Takes a vote of its epoch. All memory is allocated before anything changes. A vote that is
-    // not to be held changes nothing, since what the quorums of its round voted for is learned
-    // already.
+    // Takes a vote of its epoch. A vote that is not to be held changes nothing, since what the
+    // quorums of its round voted for is learned already.
     fn hear(&mut self, round: Round, acceptor: u32, vote: &History) -> Result<Outs, NoMemory>
         requires room { self.old.epoch < 2 ^ 32 - 1 }
         requires known { acceptor < self.old.state.config.acceptors }
@@ -183,13 +182,43 @@ impl Learner {
         ensures sent { IfOk result (λ outs. map message_of outs ≡ option_to_list (hearing self.old (learner_take self.old.state (Voted round acceptor (history_of vote.now)))).1) }
         ensures unchanged { OnErr result (self.new ≡ self.old) }
     {
-        let Some(vote) = self.part.to_hold(round, acceptor, vote)? else {
-            return Ok(Outs::new(self.alloc));
-        };
-        let Some(part) = self.part.learned_with(round, acceptor, &vote)? else {
-            self.part.hold(round, acceptor, vote, None)?;
-            return Ok(Outs::new(self.alloc));
-        };
+        match self.part.to_hold(round, acceptor, vote)? {
+            Some(vote) => self.count(round, acceptor, vote),
+            None => Ok(Outs::new(self.alloc)),
+        }
+    }
+
+    // Holds a vote, and learns what it adds. If memory runs out, nothing changes.
+    fn count(&mut self, round: Round, acceptor: u32, vote: History) -> Result<Outs, NoMemory>
+        requires room { self.old.epoch < 2 ^ 32 - 1 }
+        requires known { acceptor < self.old.state.config.acceptors }
+        ensures next { OnOk result (self.new ≡ (hearing self.old (with_vote self.old.state round acceptor (history_of vote))).0) }
+        ensures sent { IfOk result (λ outs. map message_of outs ≡ option_to_list (hearing self.old (with_vote self.old.state round acceptor (history_of vote))).1) }
+        ensures unchanged { OnErr result (self.new ≡ self.old) }
+    {
+        match self.part.learned_with(round, acceptor, &vote)? {
+            Some(part) => self.learn(round, acceptor, vote, part),
+            None => {
+                self.part.hold(round, acceptor, vote, None)?;
+                Ok(Outs::new(self.alloc))
+            }
+        }
+    }
+
+    // Holds a vote with the part that it leads to. All memory is allocated before anything changes.
+    fn learn(
+        &mut self,
+        round: Round,
+        acceptor: u32,
+        vote: History,
+        part: History,
+    ) -> Result<Outs, NoMemory>
+        requires room { self.old.epoch < 2 ^ 32 - 1 }
+        requires part { history_of part ≡ (with_vote self.old.state round acceptor (history_of vote)).learned }
+        ensures next { OnOk result (self.new ≡ (hearing self.old (with_vote self.old.state round acceptor (history_of vote))).0) }
+        ensures sent { IfOk result (λ outs. map message_of outs ≡ option_to_list (hearing self.old (with_vote self.old.state round acceptor (history_of vote))).1) }
+        ensures unchanged { OnErr result (self.new ≡ self.old) }
+    {
         if first_checkpoint(&part).is_some() {
             return self.close(&part);
         }
