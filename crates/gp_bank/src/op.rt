@@ -2,6 +2,7 @@
 ghost use Rattle.std.specs.Prelude.{◌≡◌, ◌++◌, ◌∷◌, ◌<◌, ◌^◌, Some, IsTrue, OnOk, OnErr, length, take, decimal};
 ghost use Rattle.gp_command.specs.Key.{is_key};
 ghost use Rattle.gp_words.specs.Tokens.{tokens_of};
+ghost use Rattle.gp_bank.specs.declared.op.BankOp.TheVariants.{Transfer};
 ghost use Rattle.gp_bank.specs.Operations.{IsBankOp, is_checkpoint, bank_text};
 ghost use Rattle.gp_bank.specs.Forms.{bank_op_spelled};
 
@@ -59,35 +60,42 @@ fn push_op(op: &BankOp, to: &mut Vec<u8>) -> Result<(), NoMemory>
     ensures range { OnOk result (IsBankOp op.now) }
 {
     match op {
-        BankOp::Deposit(key, amount) => {
-            to.extend_from_slice(b"deposit ")?;
-            push_amount(key, *amount, to)
-        }
-        BankOp::Withdraw(key, amount) => {
-            to.extend_from_slice(b"withdraw ")?;
-            push_amount(key, *amount, to)
-        }
-        BankOp::Transfer(from, into, amount) => {
-            to.extend_from_slice(b"transfer ")?;
-            to.extend_from_slice(from.as_bytes())?;
-            to.push(b' ')?;
-            push_amount(into, *amount, to)
-        }
-        BankOp::Balance(key) => {
-            to.extend_from_slice(b"balance ")?;
-            Ok(to.extend_from_slice(key.as_bytes())?)
-        }
+        BankOp::Deposit(key, amount) => push_amount(b"deposit ", key, *amount, to),
+        BankOp::Withdraw(key, amount) => push_amount(b"withdraw ", key, *amount, to),
+        BankOp::Transfer(from, into, amount) => push_transfer(from, into, *amount, to),
+        BankOp::Balance(key) => push_keyed(b"balance ", key, to),
         BankOp::Checkpoint => Ok(to.extend_from_slice(b"checkpoint")?),
     }
 }
 
-fn push_amount(key: &Key, amount: u32, to: &mut Vec<u8>) -> Result<(), NoMemory>
-    ensures written { OnOk result (to.new.items ≡ to.old.items ++ (key.now ++ 32 ∷ decimal amount)) }
+// Appends a word and a key.
+fn push_keyed(word: &[u8], key: &Key, to: &mut Vec<u8>) -> Result<(), NoMemory>
+    ensures written { OnOk result (to.new.items ≡ to.old.items ++ word.now ++ key.now) }
     ensures behind { OnErr result (take (length to.old.items) to.new.items ≡ to.old.items) }
-    ensures key { IsTrue (is_key key.now) }
+    ensures key { OnOk result (IsTrue (is_key key.now)) }
+{
+    to.extend_from_slice(word)?;
+    Ok(to.extend_from_slice(key.as_bytes())?)
+}
+
+// Appends a word, a key and an amount.
+fn push_amount(word: &[u8], key: &Key, amount: u32, to: &mut Vec<u8>) -> Result<(), NoMemory>
+    ensures written { OnOk result (to.new.items ≡ to.old.items ++ word.now ++ key.now ++ 32 ∷ decimal amount) }
+    ensures behind { OnErr result (take (length to.old.items) to.new.items ≡ to.old.items) }
+    ensures key { OnOk result (IsTrue (is_key key.now)) }
     ensures amount { amount < 2 ^ 32 }
 {
-    to.extend_from_slice(key.as_bytes())?;
+    push_keyed(word, key, to)?;
     to.push(b' ')?;
     push_number(u64::from(amount), to)
+}
+
+fn push_transfer(from: &Key, into: &Key, amount: u32, to: &mut Vec<u8>) -> Result<(), NoMemory>
+    ensures written { OnOk result (to.new.items ≡ to.old.items ++ bank_text (Transfer from.now into.now amount)) }
+    ensures behind { OnErr result (take (length to.old.items) to.new.items ≡ to.old.items) }
+    ensures keys { OnOk result (IsTrue (is_key from.now) × IsTrue (is_key into.now)) }
+    ensures amount { amount < 2 ^ 32 }
+{
+    push_keyed(b"transfer ", from, to)?;
+    push_amount(b" ", into, amount, to)
 }

@@ -2,6 +2,7 @@
 ghost use Rattle.std.specs.Prelude.{◌≡◌, ◌++◌, ◌∷◌, Some, IsTrue, OnOk, OnErr, length, take, decimal};
 ghost use Rattle.gp_command.specs.Key.{is_key};
 ghost use Rattle.gp_words.specs.Tokens.{tokens_of};
+ghost use Rattle.gp_store.specs.declared.op.Op.TheVariants.{Cas, Copy};
 ghost use Rattle.gp_store.specs.Operations.{IsOp, is_checkpoint, op_text};
 ghost use Rattle.gp_store.specs.Forms.{op_spelled};
 
@@ -60,44 +61,53 @@ fn push_op(op: &Op, to: &mut Vec<u8>) -> Result<(), NoMemory>
     ensures range { OnOk result (IsOp op.now) }
 {
     match op {
-        Op::Put(key, value) => {
-            to.extend_from_slice(b"put ")?;
-            push_valued(key, *value, to)
-        }
-        Op::Add(key, value) => {
-            to.extend_from_slice(b"add ")?;
-            push_valued(key, *value, to)
-        }
-        Op::Get(key) => {
-            to.extend_from_slice(b"get ")?;
-            Ok(to.extend_from_slice(key.as_bytes())?)
-        }
-        Op::Del(key) => {
-            to.extend_from_slice(b"del ")?;
-            Ok(to.extend_from_slice(key.as_bytes())?)
-        }
-        Op::Cas(key, old, new) => {
-            to.extend_from_slice(b"cas ")?;
-            push_valued(key, *old, to)?;
-            to.push(b' ')?;
-            push_number(*new, to)
-        }
-        Op::Copy(from, into) => {
-            to.extend_from_slice(b"copy ")?;
-            to.extend_from_slice(from.as_bytes())?;
-            to.push(b' ')?;
-            Ok(to.extend_from_slice(into.as_bytes())?)
-        }
+        Op::Put(key, value) => push_valued(b"put ", key, *value, to),
+        Op::Add(key, value) => push_valued(b"add ", key, *value, to),
+        Op::Get(key) => push_keyed(b"get ", key, to),
+        Op::Del(key) => push_keyed(b"del ", key, to),
+        Op::Cas(key, old, new) => push_swap(key, *old, *new, to),
+        Op::Copy(from, into) => push_copy(from, into, to),
         Op::Checkpoint => Ok(to.extend_from_slice(b"checkpoint")?),
     }
 }
 
-fn push_valued(key: &Key, value: u64, to: &mut Vec<u8>) -> Result<(), NoMemory>
-    ensures written { OnOk result (to.new.items ≡ to.old.items ++ (key.now ++ 32 ∷ decimal value)) }
+// Appends a word and a key.
+fn push_keyed(word: &[u8], key: &Key, to: &mut Vec<u8>) -> Result<(), NoMemory>
+    ensures written { OnOk result (to.new.items ≡ to.old.items ++ word.now ++ key.now) }
     ensures behind { OnErr result (take (length to.old.items) to.new.items ≡ to.old.items) }
-    ensures key { IsTrue (is_key key.now) }
+    ensures key { OnOk result (IsTrue (is_key key.now)) }
 {
-    to.extend_from_slice(key.as_bytes())?;
+    to.extend_from_slice(word)?;
+    Ok(to.extend_from_slice(key.as_bytes())?)
+}
+
+// Appends a word, a key and a number.
+fn push_valued(word: &[u8], key: &Key, value: u64, to: &mut Vec<u8>) -> Result<(), NoMemory>
+    ensures written { OnOk result (to.new.items ≡ to.old.items ++ word.now ++ key.now ++ 32 ∷ decimal value) }
+    ensures behind { OnErr result (take (length to.old.items) to.new.items ≡ to.old.items) }
+    ensures key { OnOk result (IsTrue (is_key key.now)) }
+{
+    push_keyed(word, key, to)?;
     to.push(b' ')?;
     push_number(value, to)
+}
+
+fn push_swap(key: &Key, old: u64, new: u64, to: &mut Vec<u8>) -> Result<(), NoMemory>
+    ensures written { OnOk result (to.new.items ≡ to.old.items ++ op_text (Cas key.now old new)) }
+    ensures behind { OnErr result (take (length to.old.items) to.new.items ≡ to.old.items) }
+    ensures key { OnOk result (IsTrue (is_key key.now)) }
+{
+    push_valued(b"cas ", key, old, to)?;
+    to.push(b' ')?;
+    push_number(new, to)
+}
+
+fn push_copy(from: &Key, into: &Key, to: &mut Vec<u8>) -> Result<(), NoMemory>
+    ensures written { OnOk result (to.new.items ≡ to.old.items ++ op_text (Copy from.now into.now)) }
+    ensures behind { OnErr result (take (length to.old.items) to.new.items ≡ to.old.items) }
+    ensures keys { OnOk result (IsTrue (is_key from.now) × IsTrue (is_key into.now)) }
+{
+    push_keyed(b"copy ", from, to)?;
+    to.push(b' ')?;
+    Ok(to.extend_from_slice(into.as_bytes())?)
 }
