@@ -4,7 +4,7 @@ ghost use Rattle.gp_history.specs.Sequence.{history_of, no_repeat};
 ghost use Rattle.gp_phase.specs.Beside.{topics};
 ghost use Rattle.gp_views.specs.Lists.{Extends};
 ghost use Rattle.gp_onlookers.specs.Ends.{AreWatching, HasFailedNowhere, topic_of};
-ghost use Rattle.gp_onlookers.specs.Looks.{look_after, AreSeen};
+ghost use Rattle.gp_onlookers.specs.Looks.{look_after, AreLooks, AreSeen};
 
 use crate::catching::{catch_up, ids_of};
 use crate::looks::{Look, Looks};
@@ -119,18 +119,49 @@ fn looks_of_both<R: Wait>(
         AreSeen key (history_of learned.now) watchers.0.looks watchers.1.looks looks) }
     ensures whole { OnOk result ((watchers.0.failed ≡ false) × (watchers.1.failed ≡ false)) }
 {
-    let (first, second) = watchers;
-    catch_up(replica, learned)?;
-    feed.publish(rt, replica)?;
-    let order = ids_of(alloc, replica.ran())?;
+    publish_all(rt, feed, replica, learned)?;
     let end = end_of(replica, key);
-    let first = first.last_looks(rt, feed.tell()?, end)?;
-    let second = second.last_looks(rt, feed.tell()?, end)?;
+    let (first, second) = watchers;
+    let first = last_looks_at(rt, feed, first, end)?;
+    let second = last_looks_at(rt, feed, second, end)?;
     Ok(Looks {
-        order,
+        order: ids_of(alloc, replica.ran())?,
         first,
         second,
     })
+}
+
+// Has the replica catch up with the history, and publishes everything that it ran.
+fn publish_all<R: Wait>(
+    rt: &R,
+    feed: &mut Feed,
+    replica: &mut Replica<KeyStore>,
+    learned: &History,
+) -> Result<(), NoMemory>
+    requires { Extends replica.old feed.old.list }
+    ensures all { OnOk result (history_of replica.new ≡ history_of learned.now) }
+    ensures published { OnOk result (feed.new.list ≡ replica.new) }
+    ensures feed { feed.new.feed ≡ feed.old.feed }
+{
+    catch_up(replica, learned)?;
+    feed.publish(rt, replica)?;
+    Ok(())
+}
+
+// What a watcher saw, after it was notified of the published list, at whose end this is seen.
+fn last_looks_at<R: Wait>(
+    rt: &R,
+    feed: &mut Feed,
+    watcher: Watcher,
+    end: Look,
+) -> Result<Vec<Look>, NoMemory>
+    requires feed { watcher.feed ≡ feed.old.feed }
+    requires end { end ≡ look_after watcher.key feed.old.list }
+    ensures looks { IfOk result (λ looks. AreLooks watcher.key feed.old.list watcher.looks looks.items) }
+    ensures whole { OnOk result (watcher.failed ≡ false) }
+    ensures kept { feed.new ≡ feed.old }
+{
+    watcher.last_looks(rt, feed.tell()?, end)
 }
 
 // What is seen of the key after everything that the replica ran, which has no command twice.

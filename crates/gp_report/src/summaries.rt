@@ -1,6 +1,8 @@
 //! Summaries of runs whose events were drawn.
 ghost use Rattle.std.specs.Prelude.{◌≡◌, ◌↔◌, ◌<◌, ◌++◌, length, IsTrue, OnOk, OnErr, IfOk};
+ghost use Rattle.gp_run.specs.Messages.{messages};
 ghost use Rattle.gp_world.specs.State.{entries_of};
+ghost use Rattle.gp_report.specs.Texts.{totals_line};
 ghost use Rattle.gp_report.specs.Summaries.{are_alike, sum_of_values, asked_line, counts_line, same_line, sum_line, replicas_summary, summary};
 
 use crate::replicas::replica_of;
@@ -102,6 +104,23 @@ fn push_replicas(
     push_sum(sum_of_values(replica.machine().pairs()), to)
 }
 
+// Appends what was asked for, the lines of two replicas and the totals of a world.
+fn push_summary(
+    seed: u64,
+    commands: u32,
+    replica: &Replica<KeyStore>,
+    other: &Replica<KeyStore>,
+    world: &World,
+    to: &mut Vec<u8>,
+) -> Result<(), NoMemory>
+    ensures { OnOk result (to.new.items ≡ to.old.items ++ asked_line seed commands ++ replicas_summary replica.now other.now
+        ++ totals_line (length (entries_of world.now)) (length (messages (entries_of world.now)))) }
+{
+    push_asked(seed, commands, to)?;
+    push_replicas(replica, other, to)?;
+    push_totals(world, to)
+}
+
 #[tactic(auto, unfolding(crate::specs::Summaries::summary))]
 fn summary_of(alloc: Global, seed: u64, commands: u32, world: &World) -> Result<Vec<u8>, NoMemory>
     requires { 1 < world.now.config.learners }
@@ -110,9 +129,7 @@ fn summary_of(alloc: Global, seed: u64, commands: u32, world: &World) -> Result<
     let replica = replica_of::<KeyStore>(alloc, world.learned(0))?;
     let other = replica_of::<KeyStore>(alloc, world.learned(1))?;
     let mut text = Vec::new(alloc);
-    push_asked(seed, commands, &mut text)?;
-    push_replicas(&replica, &other, &mut text)?;
-    push_totals(world, &mut text)?;
+    push_summary(seed, commands, &replica, &other, world, &mut text)?;
     Ok(text)
 }
 
