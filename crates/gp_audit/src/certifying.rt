@@ -1,6 +1,8 @@
 //! Certificates of what a learner learned.
 ghost use Rattle.std.specs.Prelude.{◌≡◌, ◌<◌, ◌≤◌, IfOk, take};
 ghost use Rattle.std.specs.List.{filter_map};
+ghost use Rattle.gp_history.specs.Canonical.{canonical};
+ghost use Rattle.gp_history.specs.Sequence.{history_of};
 ghost use Rattle.gp_world.specs.State.{entries_of};
 ghost use Rattle.gp_audit.specs.Certificates.{AreProofs};
 ghost use Rattle.gp_audit.specs.Replays.{IsReplayed};
@@ -23,9 +25,15 @@ pub fn certify(alloc: Global, world: &World, learner: u32) -> Result<Proofs, NoM
     ensures { IfOk result (λ proofs. AreProofs world.now.config (entries_of world.now) learner proofs) }
 {
     let replay = replay_of(alloc, world, learner)?;
-    let commands = world.learned(learner).in_order()?;
-    let proofs = proofs_of(alloc, &commands, &replay.proofs)?;
-    Ok(Proofs::from(proofs))
+    proofs_in_order(alloc, world.learned(learner), &replay.proofs)
+}
+
+// The proofs of the commands of a history, in canonical order. `NoMemory` if memory runs out.
+fn proofs_in_order(alloc: Global, learned: &History, proofs: &[Proof]) -> Result<Proofs, NoMemory>
+    ensures { IfOk result (λ found. found ≡ filter_map (λ c. proof_under c.id proofs.now) (canonical (history_of learned.now))) }
+{
+    let commands = learned.in_order()?;
+    Ok(Proofs::from(proofs_of(alloc, &commands, proofs)?))
 }
 
 // The proofs of these commands, in their order.

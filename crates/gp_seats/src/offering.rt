@@ -63,13 +63,26 @@ fn moves_of(alloc: Global, node: Node, offers: &[(u32, Draft)]) -> Result<Moves,
     Ok(moves)
 }
 
-// The job, with its own offers to make.
-fn give<D: Disk>(alloc: Global, job: Job<D>, offers: &[(u32, Draft)]) -> Result<Job<D>, NoMemory>
-    ensures { IfOk result (λ given. given ≡ given_to offers.now job) }
+// Gives a job its own offers to make.
+fn give<D: Disk>(alloc: Global, job: &mut Job<D>, offers: &[(u32, Draft)]) -> Result<(), NoMemory>
+    ensures { OnOk result (job.new ≡ given_to offers.now job.old) }
 {
-    let mut job = job;
     job.first = moves_of(alloc, job.cell.node(), offers)?;
-    Ok(job)
+    Ok(())
+}
+
+// Gives each job its own offers to make. If memory runs out, some of them may have theirs.
+fn give_each<D: Disk>(
+    alloc: Global,
+    jobs: &mut Vec<Job<D>>,
+    offers: &[(u32, Draft)],
+) -> Result<(), NoMemory>
+    ensures { OnOk result (jobs.new.items ≡ map (given_to offers.now) jobs.old.items) }
+{
+    for i in 0..jobs.len() {
+        give(alloc, &mut jobs[i], offers)?;
+    }
+    Ok(())
 }
 
 // New jobs of the proposers at a wire, each with its own offers to make.
@@ -86,12 +99,8 @@ fn give_all<D: Disk>(
     ensures some { IfOk result (λ given. 0 < length given.items) }
     ensures ready { IfOk result (λ given. All (IsReadyJob D.faults wire.now) given.items) }
 {
-    let mut left = jobs;
-    left.reverse();
-    let mut given = Vec::new(alloc);
-    while let Some(job) = left.pop() {
-        given.push(give(alloc, job, offers)?)?;
-    }
+    let mut given = jobs;
+    give_each(alloc, &mut given, offers)?;
     Ok(given)
 }
 

@@ -1,11 +1,11 @@
 -- The body that is written stands for the durable part.
-use Rattle.std.proofs.Common.{◌≡◌, ℕ, suc, ◌<◌, ◌≤◌, ◌^◌, Bool, true, false, List, [], ◌∷◌, ◌++◌, length, Option, Some, None, Result, Ok, Err, refl, sym, ap, subst, ◌∙◌, append_assoc, arith}
+use Rattle.std.proofs.Common.{◌≡◌, ℕ, suc, ◌<◌, ◌≤◌, ◌^◌, Bool, true, false, List, [], ◌∷◌, ◌++◌, length, Option, Some, None, Result, Ok, Err, refl, sym, ap, subst, ◌∙◌, append_assoc, arith, ◌-◌, get_or, take, drop}
 use Rattle.std.specs.Prelude.{not, ◌&&◌, nat_le, nat_eq, nat_lt, IfOk, OnOk}
 use Rattle.std.specs.Option.{option_map}
 use Rattle.std.specs.Int.{w32, to_le_bytes}
 use Rattle.std.specs.List.{flat_map, All}
 use Rattle.std.proofs.lemmas.Bool.{eqb-true, leb-true}
-use Rattle.std.proofs.lemmas.List.{drop_at, append-nil, length-append}
+use Rattle.std.proofs.lemmas.List.{drop_at, take_rest, append-nil, length-append}
 use Rattle.std.proofs.lemmas.Nat.{from_le_bytes-to_le_bytes_4}
 use Rattle.gp_command.specs.declared.command.Command.{Command}
 use Rattle.gp_command.specs.Spelling.{spelling, IsNumbered}
@@ -27,7 +27,7 @@ use Rattle.gp_command.proofs.Fields.{when_some}
 use Rattle.gp_vlog.specs.declared.reading.Kind.{Kind}
 use Rattle.gp_vlog.specs.declared.reading.Kind.TheVariants.{Whole, Coordinating, Adding}
 use Rattle.gp_vlog.specs.Prefixes.{is_prefix, additions, adds}
-use Rattle.gp_vlog.specs.Bodies.{LogEntry, acceptors, coordinators, is_round, is_zero, most_lead, round_spelling, ◌>>=◌, is_end, number_at, mode_at, round_of, round_at, found, command_at, commands_at, acceptor_at, coordinator_at, part_at, part_before, entry_with, entry_of, fits_version, base_or_empty, first_byte, vote_before, base_for, vote_spelling, acceptor_body, votes_body, coordinator_body, body_of, IsReadAgain}
+use Rattle.gp_vlog.specs.Bodies.{LogEntry, kind_of, epoch_at, acceptors, coordinators, is_round, is_zero, most_lead, round_spelling, ◌>>=◌, is_end, number_at, mode_at, round_of, round_at, found, command_at, commands_at, acceptor_at, coordinator_at, part_at, part_before, entry_with, entry_of, fits_version, base_or_empty, first_byte, vote_before, base_for, vote_spelling, acceptor_body, votes_body, coordinator_body, body_of, IsReadAgain}
 use Rattle.gp_vlog.proofs.Added.{add_up, adds_additions, all_added}
 use Rattle.gp_vlog.specs.Logs.{KeepsRules, entry_for}
 use Rattle.gp_vlog.proofs.PrefixTests.{prefix_from_test}
@@ -235,3 +235,28 @@ numbered d epoch r q v base cs is rules cs_is = subst (All (λ c. IsNumbered c.i
 pub meaning_always : {X E : Type 0} (result : Result X E) (items : X → List ℕ) (text : List ℕ) (before : Option LogEntry) (e : LogEntry) → IfOk result (λ b. items b ≡ text) → entry_of before text ≡ Some e → IfOk result (λ b. length (items b) < 2 ^ 32 → entry_of before (items b) ≡ Some e)
 meaning_always (Ok b) items text before e is f = λ short. ap (entry_of before) is ∙ f
 meaning_always (Err x) items text before e is f = tt
+
+-- ---- what the code reads, field by field
+
+body_is : (body : List ℕ) → 1 ≤ length body → body ≡ get_or body 0 0 ∷ take (length body - 1) (drop 1 body)
+body_is [] some = absurd (omega (arith, some))
+body_is (first ∷ rest) some = ap (λ l. first ∷ l) (sym (take_rest (first ∷ rest) 1))
+
+fields_read : (before : Option LogEntry) (first : ℕ) (bytes : List ℕ) (version : Bool) (kind : Kind) (epoch : ℕ) (rest : List ℕ) → kind_of first ≡ Some (version, kind) → epoch_at version bytes ≡ Some (epoch, rest)
+    → entry_of before (first ∷ bytes) ≡ (part_at kind (part_before before) epoch rest >>= finish before version)
+unfolding entry_of
+fields_read before first bytes version kind epoch rest is_kind is_epoch =
+    ap (λ (k : Option (Bool × Kind)). k >>= λ k. epoch_at k.0 bytes >>= λ e. part_at k.1 (part_before before) e.0 e.1 >>= finish before k.0) is_kind
+    ∙ ap (λ (e : Option (ℕ × List ℕ)). e >>= λ e. part_at kind (part_before before) e.0 e.1 >>= finish before version) is_epoch
+
+-- a body whose fields are all right is an entry if it is of the version of the entries before it
+pub entry_read : (o : Option Durable) (old : Bool) (body : List ℕ) (version : Bool) (kind : Kind) (epoch : ℕ) (rest : List ℕ) (part : EpochPart) (fits : Bool)
+    → 1 ≤ length body → kind_of (get_or body 0 0) ≡ Some (version, kind) → epoch_at version (take (length body - 1) (drop 1 body)) ≡ Some (epoch, rest) → part_at kind (option_map part_of o) epoch rest ≡ Some part
+    → fits ≡ fits_version (option_map (entry_for old) o) version → entry_of (option_map (entry_for old) o) body ≡ when fits (entry_with version part)
+entry_read o old body version kind epoch rest part fits some is_kind is_epoch is_part is_fit =
+    let before = option_map (entry_for old) o in
+    ap (entry_of before) (body_is body some)
+    ∙ fields_read before (get_or body 0 0) (take (length body - 1) (drop 1 body)) version kind epoch rest is_kind is_epoch
+    ∙ ap (λ b. part_at kind b epoch rest >>= finish before version) (part_kept old o)
+    ∙ ap (λ (p : Option EpochPart). p >>= finish before version) is_part
+    ∙ ap (λ b. when b (entry_with version part)) (sym is_fit)

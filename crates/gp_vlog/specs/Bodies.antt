@@ -95,6 +95,10 @@ commands_at (suc n) bytes = do
   others ← commands_at n first.1
   Some (first.0 ∷ others.0, others.1)
 
+-- the vote with these commands, which are what it adds to the vote before
+abbrev pub vote_with : History → List Command → Option History
+vote_with base commands = when (adds base commands) (pushes base commands)
+
 -- round, voted round, and the commands that the vote has and `base` lacks
 unfoldable pub acceptor_at : ℕ → History → List ℕ → Option EpochPart
 acceptor_at epoch base bytes = do

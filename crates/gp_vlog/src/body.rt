@@ -134,10 +134,17 @@ fn push_commands(commands: &[Command], to: &mut Vec<u8>) -> Result<(), NoMemory>
     ensures written { OnOk result (to.new.items ≡ to.old.items ++ vote_spelling commands.now) }
     ensures again { OnOk result (All IsReadAgain commands.now) }
 {
-    let count = (commands.len() as u64).to_le_bytes();
-    to.extend_from_slice(&count[..4])?;
+    push_count(commands.len(), to)?;
     for c in commands {
         write_command(c, to)?;
     }
     Ok(())
+}
+
+// A count in four bytes.
+fn push_count(count: usize, to: &mut Vec<u8>) -> Result<(), NoMemory>
+    ensures { OnOk result (to.new.items ≡ to.old.items ++ to_le_bytes w32 count) }
+{
+    let bytes = (count as u64).to_le_bytes();
+    Ok(to.extend_from_slice(&bytes[..4])?)
 }

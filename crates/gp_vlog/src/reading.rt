@@ -3,10 +3,11 @@ ghost use Rattle.std.specs.Prelude.{◌≡◌, ◌≤◌, ◌-◌, ◌++◌, len
 ghost use Rattle.std.specs.List.{All};
 ghost use Rattle.gp_command.specs.Spelling.{IsNumbered};
 ghost use Rattle.std.specs.Option.{option_copied, option_map};
+ghost use Rattle.gp_history.specs.History.{pushes};
 ghost use Rattle.gp_history.specs.Sequence.{history_of};
 ghost use Rattle.gp_msg.specs.Messages.{part_of};
 ghost use Rattle.gp_vlog.specs.declared.reading.Unread.TheVariants as unread;
-ghost use Rattle.gp_vlog.specs.Bodies.{number_at, mode_at, is_round, round_at, command_at, commands_at, acceptor_at, coordinator_at, kind_of, epoch_at, vote_before, part_at, fits_version, entry_of, base_or_empty};
+ghost use Rattle.gp_vlog.specs.Bodies.{number_at, mode_at, is_round, round_at, command_at, commands_at, vote_with, acceptor_at, coordinator_at, kind_of, epoch_at, vote_before, part_at, fits_version, entry_of, base_or_empty};
 ghost use Rattle.gp_vlog.specs.Logs.{entry_for, KeepsRules};
 ghost use Rattle.gp_vlog.specs.Reading.{Gives};
 
@@ -152,15 +153,25 @@ fn acceptor_at(
     if round < voted {
         return Err(Unread::Wrong);
     }
-    let vote = pushed(alloc, base, &commands)?;
+    let vote = vote_with(alloc, base, &commands)?;
+    Ok(Durable::Acceptor {
+        epoch,
+        round,
+        voted,
+        vote,
+    })
+}
+
+// The vote that has these commands besides those of another one. `Wrong` if they are not what it
+// adds to that one. `NoMemory` if memory runs out.
+fn vote_with(alloc: Global, base: Option<&History>, commands: &[Command]) -> Result<History, Unread>
+    ensures read { Gives history_of result (vote_with (base_or_empty (option_map history_of (option_copied base.entry))) commands.now) }
+    ensures pushed { IfOk result (λ vote. history_of vote ≡ pushes (base_or_empty (option_map history_of (option_copied base.entry))) commands.now) }
+{
+    let vote = pushed(alloc, base, commands)?;
     let added = additions(alloc, base, &vote)?;
-    if are_same(&added, &commands) {
-        Ok(Durable::Acceptor {
-            epoch,
-            round,
-            voted,
-            vote,
-        })
+    if are_same(&added, commands) {
+        Ok(vote)
     } else {
         Err(Unread::Wrong)
     }

@@ -1,5 +1,5 @@
 use Rattle.std.proofs.Common.{◌≡◌, ◌≤◌, ◌+◌, [], ◌∷◌, ◌++◌, length, reverse, sym, subst, ap, ◌∙◌, length-append, vec_capacity, vec_len, arith, rules}
-use Rattle.std.proofs.lemmas.List.{reverse-reverse, length-reverse}
+use Rattle.std.proofs.lemmas.List.{append-nil, reverse-reverse, length-reverse}
 use Rattle.std.specs.Option.{option_to_list}
 use Rattle.gp_work.specs.declared.job.Job.{Job}
 use Rattle.gp_cell.specs.Cells.{CellState, log_of}
@@ -55,3 +55,28 @@ take_back-requires g c =
     let back = ap length (c.push_log.ensures.items ∙ ap (λ o. rest ++ option_to_list o) c.in-Err.ensures.back ∙ sym c.next_log-log.ensures.rest) in
     let whole = length_whole c.loop-pass.jobs.items c.loop-pass.logs.items c.args.logs.items c.loop-pass.invariant.1 in
     let held = c.loop-pass.invariant.4 in let room = c.push_log.ensures.room in let kept = c.next_log-log.ensures.room in omega arith
+
+pub push_log-requires : goal.push_log-requires
+push_log-requires g c =
+    let rest = c.next_log-log.new.logs.items in let log = c.next_log-log.result in
+    let whole = length_whole c.loop-pass.jobs.items c.loop-pass.logs.items c.args.logs.items c.loop-pass.invariant.1 in
+    let same = ap (λ o. length (option_to_list o)) c.in-Err.ensures.back in
+    omega (arith, ap length c.next_log-log.ensures.rest, length-append rest (option_to_list log), same, whole, c.loop-pass.invariant.4, c.next_log-log.ensures.room)
+
+pub push_reserved-requires : goal.push_reserved-requires
+push_reserved-requires g c = omega (arith, c.loop-pass.jobs.ok.0, c.loop-pass.invariant.3, ap length c.in-Some.ensures.items, length-append c.pop.new.self.items (c.in-Some.pass ∷ []))
+
+pub loop-pass-smaller : goal.loop-pass-smaller
+loop-pass-smaller g c = omega (arith, ap length c.in-Some.ensures.items, length-append c.pop.new.self.items (c.in-Some.pass ∷ []))
+
+pub returns-in-Err-clause-back : goal.returns-in-Err-clause-back
+returns-in-Err-clause-back g c =
+    let rest = c.next_log-log.new.logs.items in
+    let back = c.push_log.ensures.items ∙ ap (λ o. rest ++ option_to_list o) c.in-Err.ensures.back ∙ sym c.next_log-log.ensures.rest in
+    c.take_back.ensures ∙ ap (λ l. logs_in c.loop-pass.jobs.items ++ reverse l) back ∙ c.loop-pass.invariant.1
+
+pub returns-clause-made : goal.returns-clause-made
+returns-clause-made g c =
+    let jobs = c.loop-pass.jobs.items in let logs = reverse c.loop-pass.logs.items in
+    let none : c.loop-pass.passes.items ≡ [] = search rules in
+    sym (append-nil jobs) ∙ ap (λ l. jobs ++ seats c.args.config (reverse l) logs) (sym none) ∙ c.loop-pass.invariant.0
