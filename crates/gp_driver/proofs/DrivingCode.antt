@@ -26,7 +26,7 @@ module _ (config : Counts) (draft : Draft) (es : List Entry) where
   abbrev pub voted : List Entry
   voted = sweep config Acceptor config.acceptors Kind.P2a (length (messages es)) pushed
 
-  pub voted_room : length voted ≤ length (driven config draft es)
+  voted_room : length voted ≤ length (driven config draft es)
   voted_room = longer config Learner config.learners Kind.P2b (length (messages es)) voted
 
   pub pushed_room : length pushed ≤ length (driven config draft es)
@@ -40,9 +40,6 @@ module _ (config : Counts) (draft : Draft) (es : List Entry) where
 
   pub pushed_order : length (messages es) ≤ length (messages pushed)
   pushed_order = let a = more config Coordinator 2 Kind.Propose (length (messages es)) offered in let b = offered_order in omega (arith, a, b)
-
-  pub voted_order : length (messages es) ≤ length (messages voted)
-  voted_order = let a = more config Acceptor config.acceptors Kind.P2a (length (messages es)) pushed in let b = pushed_order in omega (arith, a, b)
 
 module _ (config : Counts) where
   abbrev pub opened1 : List Entry
@@ -60,14 +57,17 @@ module _ (config : Counts) where
   abbrev pub opened5 : List Entry
   opened5 = sweep config Acceptor config.acceptors Kind.P2a 0 opened4
 
-  pub opened_room5 : length opened5 ≤ length (opened config)
+  opened_room5 : length opened5 ≤ length (opened config)
   opened_room5 = longer config Learner config.learners Kind.P2b 0 opened5
 
   pub opened_room4 : length opened4 ≤ length (opened config)
   opened_room4 = let a = longer config Acceptor config.acceptors Kind.P2a 0 opened4 in let b = opened_room5 in omega (arith, a, b)
 
-  pub opened_room3 : length opened3 ≤ length (opened config)
+  opened_room3 : length opened3 ≤ length (opened config)
   opened_room3 = let a = longer config Coordinator 2 Kind.P1b 0 opened3 in let b = opened_room4 in omega (arith, a, b)
+
+  pub opened_room2 : length opened2 ≤ length (opened config)
+  opened_room2 = let a = longer config Acceptor config.acceptors Kind.P1a 0 opened2 in let b = opened_room3 in omega (arith, a, b)
 
 -- what begins on no entries
 pub first_begun : (c d : Counts) (es : List Entry) → c ≡ d → es ≡ [] → entry_after c es (Begin 0 first_round) ∷ es ≡ opened1 d

@@ -1,5 +1,5 @@
 -- What drivers do to the nodes and the run of a stage, one call after another.
-use Rattle.std.proofs.Common.{◌≡◌, ◌≢◌, ◌≤◌, ℕ, zero, suc, inl, inr, List, [], ◌∷◌, ◌++◌, refl, sym, ap, ◌∙◌, subst, arith, append_assoc, Some, None, Result, Ok, Err}
+use Rattle.std.proofs.Common.{◌≡◌, ◌≢◌, ◌≤◌, ℕ, zero, suc, inl, inr, List, [], ◌∷◌, ◌++◌, refl, sym, ap, ◌∙◌, subst, arith, append_assoc, Some, None, Result, Ok, Err, length, ◌+◌}
 use Rattle.std.specs.Prelude.{slice_get}
 use Rattle.std.specs.List.{AllZip}
 use Rattle.gp_msg.specs.declared.node.Node.{Node}
@@ -11,7 +11,7 @@ use Rattle.gp_driver.specs.declared.sweep.Role.TheVariants.{Coordinator, Accepto
 use Rattle.gp_driver.specs.Roles.{node_of}
 use Rattle.gp_driver.specs.declared.stage.StageFault.{StageFault}
 use Rattle.gp_driver.specs.declared.stage.StageFault.TheVariants as fault
-use Rattle.gp_driver.specs.Stages.{StageNode, StageState, Anyone, Nobody, AllBut, IsProposer, NodeGoes, NodesGo, StageGoes, Extends, HasRisen, SomeNodeRose, IfDiskFailed, UnlessDiskFailed, FailsByNode, fault_counts}
+use Rattle.gp_driver.specs.Stages.{StageNode, StageState, Anyone, Nobody, AllBut, IsProposer, NodeGoes, NodesGo, StageGoes, Extends, HasRisen, SomeNodeRose, IfDiskFailed, UnlessDiskFailed, FailsByNode, fault_counts, HasDriven, HasCause, IsTooGreatForOne}
 
 -- what is known of a loop, and what became of the nodes and the run in it, in which no disk failed
 pub record WithNodes (known_is : Type 0) (idle : Node → Type 0) (old new : StageState) : Type 0 where
@@ -134,4 +134,23 @@ pub failed_on : (idle : Node → Type 0) (xs ys zs : List StageNode) (r : Result
 failed_on idle xs ys zs r a e f = record {
   by_node = failed_after (SomeNodeRose ys zs) (SomeNodeRose xs zs) r (some_rose idle xs ys zs a) f.by_node;
   steady = unless_after (fault_counts zs ≡ fault_counts ys) (fault_counts zs ≡ fault_counts xs) r (λ s. s ∙ e) f.steady;
+}
+
+-- a call that failed, after others that did not
+pub driven_failed : (x y z : StageState) (before target : List Entry) (fault : StageFault) → y.config ≡ x.config → y.faults ≡ x.faults → HasDriven y z before (Err fault) → HasDriven x z target (Err fault)
+driven_failed x y z before target fault config steady h = record {
+  same_config = h.same_config ∙ config;
+  later = let l = h.later in omega (arith, l, steady);
+  steady = tt;
+  outcome = subst (λ k. HasCause x.faults z.faults (IsTooGreatForOne k z.run z.is_too_great) fault) config
+      (subst (λ n. HasCause n z.faults (IsTooGreatForOne y.config z.run z.is_too_great) fault) steady h.outcome);
+}
+
+-- one call more that did not fail
+pub driven_on : (x y z : StageState) (before target : List Entry) (n m all : ℕ) → y.config ≡ x.config → y.faults ≡ x.faults → length y.run ≡ length x.run + n → HasDriven y z before (Ok m) → before ≡ target → n + m ≡ all → HasDriven x z target (Ok all)
+driven_on x y z before target n m all config steady more h is sum = record {
+  same_config = h.same_config ∙ config;
+  later = let l = h.later in omega (arith, l, steady);
+  steady = h.steady ∙ steady;
+  outcome = (h.outcome.0 ∙ is, (let l = h.outcome.1 in omega (arith, l, more, sum)), h.outcome.2);
 }

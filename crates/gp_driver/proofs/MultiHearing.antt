@@ -20,7 +20,8 @@ use Rattle.gp_acceptor.specs.Epochs as acceptor
 use Rattle.gp_learner.specs.Epochs.{LearnerInEpoch}
 use Rattle.gp_learner.specs.Epochs as learner
 use Rattle.gp_driver.specs.Sweeps.{is_of, places, swept, sweep}
-use Rattle.gp_driver.specs.Driving.{first_round, voted_from}
+use Rattle.gp_driver.specs.Phases.{voted_from}
+use Rattle.gp_driver.specs.Driving.{first_round}
 use Rattle.gp_driver.specs.Driven.{beginnings}
 use Rattle.gp_driver.proofs.Lists.{Picked, filter-append, outs, length-outs, all_outs}
 use Rattle.gp_driver.proofs.Sweeping.{run, all_sent_outs, stays_while_swept}

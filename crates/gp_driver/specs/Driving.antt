@@ -1,33 +1,29 @@
 -- Driving: drafts are learned one after another in one multi round, in which coordinator 2 takes no part.
-use Rattle.std.specs.Prelude.{ℕ, List, [], ◌∷◌, length}
+use Rattle.std.specs.Prelude.{List, [], ◌∷◌, length}
 use Rattle.gp_command.specs.declared.draft.Draft.{Draft}
 use Rattle.gp_round.specs.Counts.{Counts}
 use Rattle.gp_round.specs.declared.round.Mode.TheVariants.{Multi}
 use Rattle.gp_round.specs.declared.round.Round.{Round}
-use Rattle.gp_msg.specs.declared.node.Node.TheVariants.{Coordinator, Acceptor, Learner}
+use Rattle.gp_msg.specs.declared.node.Node.TheVariants.{Coordinator}
 use Rattle.gp_msg.specs.declared.event.Event.TheVariants.{Offer, Begin}
 use Rattle.gp_msg.specs.Messages.{Entry}
 use Rattle.gp_msg.specs.declared.message.MsgKind.TheVariants as Kind
 use Rattle.gp_run.specs.Messages.{messages}
 use Rattle.gp_run.specs.Runs.{run_onto}
 use Rattle.gp_driver.specs.Sweeps.{sweep}
+use Rattle.gp_driver.specs.Phases.{answered_from, voted_from}
 
 -- the multi round of count 1
 abbrev pub first_round : Round
 first_round = record { count = 1; mode = Multi; lead = 0 }
 
--- acceptors take the values and then learners take the votes, each from message number `start` on
-abbrev pub voted_from : Counts → ℕ → List Entry → List Entry
-voted_from config start es = sweep config Learner config.learners Kind.P2b start (sweep config Acceptor config.acceptors Kind.P2a start es)
-
 -- coordinator 0 begins the round, and coordinators 0 and 1 lead it
 abbrev pub opened : Counts → List Entry
 opened config =
     voted_from config 0
-    (sweep config Coordinator 2 Kind.P1b 0
-    (sweep config Acceptor config.acceptors Kind.P1a 0
+    (answered_from config 2 0
     (sweep config Coordinator 2 Kind.P1a 0
-    (run_onto config [] (Begin 0 first_round ∷ [])))))
+    (run_onto config [] (Begin 0 first_round ∷ []))))
 
 -- proposer 0 offers a draft, and coordinators 0 and 1 bring it to all learners
 abbrev pub driven : Counts → Draft → List Entry → List Entry

@@ -1,5 +1,6 @@
 pub mod Kinds
 pub mod Sweeps
+pub mod Phases
 pub mod Settling
 pub mod Driving
 pub mod Settled

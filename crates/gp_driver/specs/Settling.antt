@@ -12,6 +12,7 @@ use Rattle.gp_run.specs.Messages.{messages}
 use Rattle.gp_run.specs.Runs.{run_onto}
 use Rattle.gp_run.specs.TopCount.{top_count}
 use Rattle.gp_driver.specs.Sweeps.{places, swept, sweep}
+use Rattle.gp_driver.specs.Phases.{answered_from, voted_from}
 
 -- ---- before the first round
 
@@ -37,11 +38,7 @@ begun config es = run_onto config es (Begin 0 (next_round config es) ∷ [])
 
 -- from message number `start` on, acceptors take the P1a, coordinator 0 takes their answers, acceptors take the value, and learners take the votes
 abbrev pub heard_from : Counts → ℕ → List Entry → List Entry
-heard_from config start es =
-    sweep config Learner config.learners Kind.P2b start
-    (sweep config Acceptor config.acceptors Kind.P2a start
-    (sweep config Coordinator 1 Kind.P1b start
-    (sweep config Acceptor config.acceptors Kind.P1a start es)))
+heard_from config start es = voted_from config start (answered_from config 1 start es)
 
 -- one pass: coordinator 0 leads such a round to its end
 abbrev pub pass : Counts → List Entry → List Entry

@@ -4,6 +4,7 @@
 
 pub mod laws;
 mod multi_round;
+mod phases;
 mod single_rounds;
 mod stage;
 mod sweep;

@@ -7,6 +7,7 @@ ghost use Rattle.gp_driver.specs.Driving.{first_round, opened, driven, all_drive
 ghost use Rattle.gp_driver.specs.Driven.{AreNoCheckpoints, DrivesMulti};
 ghost use Rattle.gp_driver.specs.Stages.{HasDriven, IsProposer, Nobody, StageGoes, FailsByNode};
 
+use crate::phases::{answer, vote};
 use crate::stage::{Stage, StageFault, config_of};
 use crate::sweep::{Role, make, sweep};
 use gp_command::Draft;
@@ -52,14 +53,10 @@ fn lead_first<S: Stage, W: Wait>(rt: &W, stage: &mut S, config: &Config) -> Resu
     ensures failed { FailsByNode (S.state stage.old).nodes (S.state stage.new).nodes result }
 {
     let begun = begin_first(rt, stage)?;
-    let acceptors = config.acceptors();
     let led = sweep(rt, stage, Role::Coordinator, 2, MsgKind::P1a, 0)?;
-    let asked = sweep(rt, stage, Role::Acceptor, acceptors, MsgKind::P1a, 0)?;
-    let answered = sweep(rt, stage, Role::Coordinator, 2, MsgKind::P1b, 0)?;
-    let voted = sweep(rt, stage, Role::Acceptor, acceptors, MsgKind::P2a, 0)?;
-    let learners = config.learners();
-    let heard = sweep(rt, stage, Role::Learner, learners, MsgKind::P2b, 0)?;
-    Ok(begun + led + asked + answered + voted + heard)
+    let answered = answer(rt, stage, config, 2, 0)?;
+    let heard = vote(rt, stage, config, 0)?;
+    Ok(begun + led + answered + heard)
 }
 
 // Proposer 0 offers a draft, and coordinators 0 and 1 bring it to all learners.
@@ -81,23 +78,8 @@ fn drive_one<S: Stage, W: Wait>(
     let start = stage.messages();
     let offered = make(rt, stage, Event::Offer { proposer: 0, draft })?;
     let pushed = sweep(rt, stage, Role::Coordinator, 2, MsgKind::Propose, start)?;
-    let voted = sweep(
-        rt,
-        stage,
-        Role::Acceptor,
-        config.acceptors(),
-        MsgKind::P2a,
-        start,
-    )?;
-    let heard = sweep(
-        rt,
-        stage,
-        Role::Learner,
-        config.learners(),
-        MsgKind::P2b,
-        start,
-    )?;
-    Ok(offered + pushed + voted + heard)
+    let heard = vote(rt, stage, config, start)?;
+    Ok(offered + pushed + heard)
 }
 
 // Drives one draft after another.

@@ -9,10 +9,11 @@ ghost use Rattle.gp_run.specs.TopCount.{top_count};
 ghost use Rattle.gp_driver.specs.Sweeps.{places, swept};
 ghost use Rattle.gp_driver.specs.Roles.{node_of};
 ghost use Rattle.gp_driver.specs.declared.sweep.Role.TheVariants as Role;
-ghost use Rattle.gp_driver.specs.Settling.{closings, closed, pass, passes, CanPass, settle, checkpoints};
+ghost use Rattle.gp_driver.specs.Settling.{begun, closings, closed, pass, passes, CanPass, settle, checkpoints};
 ghost use Rattle.gp_driver.specs.Stages.{HasDriven, IsProposer, StageGoes, FailsByNode};
 ghost use Rattle.gp_driver.specs.Settled.{Settles};
 
+use crate::phases::{answer, vote};
 use crate::stage::{Stage, StageFault, config_of};
 use crate::sweep::{Role, first_since, is_kind, make, show, sweep};
 use gp_msg::{Event, MsgKind};
@@ -41,6 +42,32 @@ fn close<S: Stage, W: Wait>(
     Ok(leader + voters)
 }
 
+// Coordinator 0 begins a single round with a greater count than any other.
+fn begin_next<S: Stage, W: Wait>(rt: &W, stage: &mut S) -> Result<u64, StageFault>
+    requires ready { (S.state stage.old).is_ready }
+    requires lead { 0 < (S.state stage.old).config.coordinators }
+    requires round { top_count (S.state stage.old).config (S.state stage.old).run < LAST_COUNT }
+    requires room { length (S.state stage.old).run < 2 ^ 31 }
+    ensures driven { HasDriven (S.state stage.old) (S.state stage.new)
+        (begun (S.state stage.old).config (S.state stage.old).run) result }
+    ensures goes { StageGoes IsProposer (S.state stage.old) (S.state stage.new) }
+    ensures failed { FailsByNode (S.state stage.old).nodes (S.state stage.new).nodes result }
+{
+    let round = Round {
+        count: stage.top_count() + 1,
+        mode: Mode::Single,
+        lead: 0,
+    };
+    make(
+        rt,
+        stage,
+        Event::Begin {
+            coordinator: 0,
+            round,
+        },
+    )
+}
+
 // Coordinator 0 leads a single round with a greater count than any other.
 fn pass_once<S: Stage, W: Wait>(rt: &W, stage: &mut S, config: &Config) -> Result<u64, StageFault>
     requires ready { (S.state stage.old).is_ready }
@@ -54,26 +81,10 @@ fn pass_once<S: Stage, W: Wait>(rt: &W, stage: &mut S, config: &Config) -> Resul
     ensures failed { FailsByNode (S.state stage.old).nodes (S.state stage.new).nodes result }
 {
     let start = stage.messages();
-    let round = Round {
-        count: stage.top_count() + 1,
-        mode: Mode::Single,
-        lead: 0,
-    };
-    let begun = make(
-        rt,
-        stage,
-        Event::Begin {
-            coordinator: 0,
-            round,
-        },
-    )?;
-    let acceptors = config.acceptors();
-    let asked = sweep(rt, stage, Role::Acceptor, acceptors, MsgKind::P1a, start)?;
-    let answered = sweep(rt, stage, Role::Coordinator, 1, MsgKind::P1b, start)?;
-    let voted = sweep(rt, stage, Role::Acceptor, acceptors, MsgKind::P2a, start)?;
-    let learners = config.learners();
-    let heard = sweep(rt, stage, Role::Learner, learners, MsgKind::P2b, start)?;
-    Ok(begun + asked + answered + voted + heard)
+    let begun = begin_next(rt, stage)?;
+    let answered = answer(rt, stage, config, 1, start)?;
+    let heard = vote(rt, stage, config, start)?;
+    Ok(begun + answered + heard)
 }
 
 // Coordinator 0, then each acceptor, then each learner takes message k.
