@@ -40,7 +40,7 @@ last_added first (x ∷ es) e = last_added (Some x.part) es e
 
 -- ---- a log that was not written
 
-if_revealed : (o : Option (List ℕ)) (P Q : List ℕ → Type 0) → ((s : List ℕ) → P s → Q s) → IfRevealed o P → IfRevealed o Q
+pub if_revealed : (o : Option (List ℕ)) (P Q : List ℕ → Type 0) → ((s : List ℕ) → P s → Q s) → IfRevealed o P → IfRevealed o Q
 if_revealed None P Q f h = tt
 if_revealed (Some s) P Q f h = f s h
 
@@ -81,7 +81,7 @@ module _ {D : Type 0} (content : D → Option (List ℕ)) (image : D → List �
   ends limit first part ds next s e (inr (inl h)) = (log_entries false ds ++ entry_with false next ∷ [], h, inr (last_added (Some first) (log_entries false ds) (entry_with false next)))
   ends limit first part ds next s e (inr (inr h)) = (entry_with false next ∷ [], h, inr refl)
 
-  leaves : (old new : D) (P Q : List ℕ → Type 0) → ((s : List ℕ) → P s → Q s) → LeavesOnly moment since old new P → LeavesOnly moment since old new Q
+  pub leaves : (old new : D) (P Q : List ℕ → Type 0) → ((s : List ℕ) → P s → Q s) → LeavesOnly moment since old new P → LeavesOnly moment since old new Q
   leaves old new P Q f l = record {
     later = l.later;
     each = λ c left. f c (l.each c left);

@@ -53,6 +53,10 @@ goes_on p q r a b = record {
   grown = b.grown ∙ ap (λ l. l ++ b.more) a.grown ∙ append_assoc (records p) a.more b.more;
 }
 
+-- a pass that has read, and then goes on
+pub reads_on : (p q w r : PassState) → Later p q → w ≡ q → GoesOn w r → GoesOn p r
+reads_on p q w r l same g = goes_on p q r (later_goes p q l) (subst (λ (x : PassState). GoesOn x r) same g)
+
 -- a record that was posted after a list that had grown
 abbrev pub posts_after : (config : Counts) (n : Node) (p q r : PassState) (e f : Event) → Later p q → own n (records q) ≡ own n (records p) → e ≡ f → PostsOne config n (records q) (records r) e → PostsOne config n (records p) (records r) f
 posts_after config n p q r e f l same is x = record {

@@ -15,3 +15,4 @@ pub mod Reviving
 pub mod Refusing
 pub mod Acts
 pub mod Crashing
+pub mod Counting

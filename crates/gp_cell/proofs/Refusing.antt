@@ -1,6 +1,7 @@
 -- What a write leaves of a cell.
-use Rattle.std.proofs.Common.{◌≡◌, ◌≢◌, ℕ, [], ◌++◌, refl, sym, ap, ◌∙◌, subst, Option, Some, None, Result, Ok, Err, inl, inr}
-use Rattle.std.specs.Prelude.{IfErr}
+use Rattle.std.proofs.Common.{◌≡◌, ◌≢◌, ◌⊎◌, ℕ, [], ◌++◌, length, arith, refl, sym, ap, ◌∙◌, subst, Option, Some, None, Result, Ok, Err, inl, inr}
+use Rattle.std.specs.Prelude.{IfErr, OnErr}
+use Rattle.gp_msg.specs.Records.{messages_in}
 use Rattle.gp_msg.specs.Messages.{EpochPart}
 use Rattle.gp_run.specs.Messages.{messages}
 use Rattle.gp_run.specs.Runs.{newest_first}
@@ -10,12 +11,12 @@ use Rattle.gp_wire.specs.Known.{records}
 use Rattle.gp_work.specs.declared.moves.Move.{Move}
 use Rattle.gp_work.specs.declared.faults.StepFault.{StepFault}
 use Rattle.gp_work.specs.declared.faults.StepFault.TheVariants.{Waiting, NoMemory, Disk, Full}
-use Rattle.gp_work.specs.Moves.{event_of}
+use Rattle.gp_work.specs.Moves.{event_of, IsBeyond}
 use Rattle.gp_cell.specs.declared.roles.Core.{Core}
 use Rattle.gp_cell.specs.Cores.{acts, part_in}
 use Rattle.gp_cell.specs.declared.planning.Plan.{Plan}
 use Rattle.gp_cell.specs.Cells.{CellState, cell_of, IsThought}
-use Rattle.gp_cell.specs.Refusals.{IsFullLogWhere, IsOverFull, IsTried, IsTooGreat, WriteCause, StepCause}
+use Rattle.gp_cell.specs.Refusals.{CountsFaults, IsDisk, IsFullLogWhere, IsOverFull, IsReadFault, IsTried, IsTooGreat, WriteCause, StepCause, faults_of}
 
 -- ---- the log had no room
 
@@ -87,3 +88,33 @@ step_cause {D} first old new mv plan (Full size needed) at is log config node co
       size_is = h.1;
       no_room = o.no_room;
     } in (h.0, subst (λ (x : CellState D). IsTooGreat x (event_of x.node mv) size needed) same great)
+
+-- ---- a step that was refused before its write, or after it
+
+pub read_cause : {D : Type 0} (first old : CellState D) (mv : Move) (f : StepFault) → first.down ≡ None → old.down ≡ first.down → old.log ≡ first.log → (f ≡ Waiting → IsBeyond (length (messages_in (records old.pass))) mv) → IsReadFault f → StepCause first old mv f
+read_cause first old mv Waiting up down log beyond r = (beyond refl, down ∙ up, log)
+read_cause first old mv NoMemory up down log beyond r = inl (down ∙ up, log)
+read_cause first old mv Disk up down log beyond r = absurd r
+read_cause first old mv (Full size needed) up down log beyond r = absurd r
+
+pub unposted_cause : {D T : Type 0} (first old : CellState D) (mv : Move) (r : Result T StepFault) → IfErr r (λ e. e ≡ NoMemory) → OnErr r (((old.down ≡ None) × (old.log ≡ first.log)) ⊎ (old.down ≡ Some mv)) → IfErr r (StepCause first old mv)
+unposted_cause first old mv (Ok x) e h = tt
+unposted_cause first old mv (Err f) e h = subst (StepCause first old mv) (sym e) h
+
+not_disk : (f : StepFault) → IsReadFault f → IsDisk f → ⊥
+not_disk Waiting r d = d
+not_disk NoMemory r d = d
+not_disk Disk r d = r
+not_disk (Full size needed) r d = d
+
+-- the count of faults of a disk that was not written
+pub read_faults : {D : Type 0} (T : Type 0) (faults : D → ℕ) (old new : Option (LogState D)) (f : StepFault) → faults_of faults new ≡ faults_of faults old → IsReadFault f → CountsFaults {T = T} (faults_of faults old) (faults_of faults new) (Err f)
+read_faults T faults old new f same r = record { never_falls = omega arith; failed = λ d. absurd (not_disk f r d); steady = λ n. same }
+
+pub unposted_faults : {D T : Type 0} (faults : D → ℕ) (old new : Option (LogState D)) (r : Result T StepFault) → faults_of faults new ≡ faults_of faults old → IfErr r (λ e. e ≡ NoMemory) → CountsFaults (faults_of faults old) (faults_of faults new) r
+unposted_faults faults old new (Ok x) same e = record { never_falls = omega arith; failed = λ d. absurd d; steady = λ n. same }
+unposted_faults {T} faults old new (Err f) same e = read_faults T faults old new f same (subst IsReadFault (sym e) tt)
+
+pub moved_faults : {D : Type 0} (T U : Type 0) (faults : D → ℕ) (old mid new : Option (LogState D)) (f : StepFault) → mid ≡ old → CountsFaults {T = T} (faults_of faults mid) (faults_of faults new) (Err f) → CountsFaults {T = U} (faults_of faults old) (faults_of faults new) (Err f)
+moved_faults T U faults old mid new f same h =
+    subst (λ l. CountsFaults {T = U} (faults_of faults l) (faults_of faults new) (Err f)) same (record { never_falls = h.never_falls; failed = h.failed; steady = h.steady })

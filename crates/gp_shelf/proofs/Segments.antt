@@ -1,6 +1,7 @@
 -- Lists of disks in segments.
-use Rattle.std.proofs.Common.{◌≡◌, ℕ, zero, suc, ◌+◌, ◌-◌, ◌<◌, ◌≤◌, List, [], ◌∷◌, ◌++◌, get_or, length, take, drop, refl, sym, ap, ◌∙◌, ⊎_elim, arith, append_assoc, length-append, length-drop, take-append-drop}
-use Rattle.std.specs.Prelude.{slice_get}
+use Rattle.std.proofs.Common.{◌≡◌, true, false, Result, Ok, Err, ℕ, zero, suc, ◌+◌, ◌-◌, ◌<◌, ◌≤◌, List, [], ◌∷◌, ◌++◌, get_or, length, take, drop, refl, sym, ap, ◌∙◌, ⊎_elim, arith, append_assoc, length-append, length-drop, take-append-drop}
+use Rattle.std.specs.Prelude.{slice_get, OnOk}
+use Rattle.std.specs.Result.{is_err}
 use Rattle.std.proofs.lemmas.List.{length-take-le, take_at, drop_at, drop-drop}
 use Rattle.std.proofs.lemmas.Bool.{cases_lt}
 use Rattle.std.proofs.lemmas.Bool.Decides.{nat_tests}
@@ -171,3 +172,29 @@ module _ {D : Type 0} where
   pub taken_first : (xs rest : List D) (x : D) → 0 < length xs → x ≡ get_or xs 0 x → rest ≡ drop 1 xs → xs ≡ x ∷ rest
   taken_first [] rest x some is left = absurd (omega (arith, some))
   taken_first (y ∷ xs) rest x some is left = cc
+
+  pub no_more : (xs : List D) → length xs ≡ 0 → xs ≡ []
+  no_more [] e = refl
+  no_more (x ∷ xs) e = absurd (omega (arith, e))
+
+  pub length-shelved : (n : Counts) (unlent lent : List D) → length (shelved n unlent lent) ≡ length lent + length unlent
+  length-shelved n unlent lent =
+      let a = take n.acceptors lent in
+      let b = take (7 - n.acceptors) unlent in
+      let c = drop n.acceptors lent in
+      let d = drop (7 - n.acceptors) unlent in
+      omega (
+        arith,
+        length-append (a ++ b ++ c) d,
+        length-append (a ++ b) c,
+        length-append a b,
+        length-append a c,
+        length-append b d,
+        ap length (take-append-drop n.acceptors lent),
+        ap length (take-append-drop (7 - n.acceptors) unlent),
+      )
+
+-- what holds of an Ok
+pub on_ok : {T E : Type 0} (P : Type 0) (r : Result T E) → false ≡ is_err r → OnOk r P → P
+on_ok P (Ok x) e h = h
+on_ok P (Err x) e h = absurd (let wrong : false ≡ true = e in cc)

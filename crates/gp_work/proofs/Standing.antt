@@ -6,7 +6,7 @@ use Rattle.gp_wire.specs.Own.{own_events}
 use Rattle.gp_msg.specs.declared.event.Event.{Event}
 use Rattle.gp_msg.specs.declared.message.MsgKind.{MsgKind}
 use Rattle.gp_msg.specs.Records.{messages_in}
-use Rattle.gp_work.specs.Doing.{ProcessState, have, Goes, Posted}
+use Rattle.gp_work.specs.Doing.{ProcessState, have, HasRisen, Goes, Posted}
 use Rattle.gp_work.specs.Moves.{Takes}
 use Rattle.gp_work.specs.Batches.{IsBatch, order, AreRead}
 use Rattle.gp_work.specs.Jobs.{Stretch, CountsSteps, MovesOn, turn_after, MadeAll, MadeSome, TookAll, TookSome, TookStanding, Done, Broken}
@@ -78,6 +78,23 @@ taken_more p f a q g b before now kinds r h later t batch some s all counted = r
     read_now : AreRead p.node (messages_in r.list) b (b + length kinds) (order p.node b kinds)
     read_now = subst (λ ms. AreRead p.node ms b (b + length kinds) (order p.node b kinds)) (sym (messages_grown q r s.goes))
         (read_stays p.node (messages_in q.list) (messages_in s.goes.more) b (b + length kinds) (order p.node b kinds) (inr last) (batch_read p.node (messages_in q.list) b kinds batch))
+
+-- nothing more stands where a look found nothing
+pub standing_is : (p : ProcessState) (f : Bool) (a : ℕ) (q : ProcessState) (g : Bool) (b before now : ℕ) (r : ProcessState)
+    → Taken p f a q g b before now → Goes q r → Posted q r [] → HasRisen q.turn r.turn → have r ≤ b → r.up ≡ true → TookStanding p f a r g b
+standing_is p f a q g b before now r t go post risen none up =
+    let l = taken_looked p f a q g b before now r t go post in record {
+      ks = l.ks;
+      es = l.es;
+      posts = l.posts;
+      all = l.all;
+      read = l.read;
+      risen = risen_on p.turn q.turn r.turn t.stretch.goes.turn risen;
+      forth = l.forth;
+      none = none;
+      within = l.within;
+      up = up;
+    }
 
 pub taken_far : (p : ProcessState) (f : Bool) (a : ℕ) (q : ProcessState) (g : Bool) (b before now : ℕ) (t : Taken p f a q g b before now) → TookSoFar p f t.ks q g
 taken_far p f a q g b before now t = record { stretch = t.stretch; es = t.es; posts = t.posts; all = t.all }

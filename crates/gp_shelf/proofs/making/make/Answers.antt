@@ -1,8 +1,10 @@
-use Rattle.std.proofs.Common.{◌+◌, [], ◌∷◌, ◌++◌, length, map, sym, subst, ap, ◌∙◌, arith, append_assoc, length-append}
+use Rattle.std.proofs.Common.{◌+◌, [], ◌∷◌, ◌++◌, length, map, refl, sym, subst, ap, ◌∙◌, arith, append_assoc, length-append}
 use Rattle.std.specs.List.{AllZip}
 use Rattle.std.proofs.lemmas.Slice.Zip.{AllZip-long, all_zipped_more}
 use Rattle.gp_shelf.specs.Lists.{disk_in}
 use Rattle.gp_shelf.specs.Making.{IsMade, StaysFirst, ComesBack}
+use Rattle.std.proofs.lemmas.List.{append-nil}
+use Rattle.gp_shelf.proofs.Segments.{no_more}
 use Rattle.gp_shelf.proofs.Zips.{unmade}
 use Rattle.gp_shelf.proofs.making.make.Goals as goal
 
@@ -57,3 +59,29 @@ loop-preserved g c =
       c.make_first.ensures.capacity ∙ k.4,
       omega (arith, c.make_first.ensures.logs_capacity, k.5),
     )
+
+pub loop-init : goal.loop-init
+loop-init g c = ([], refl, subst (AllZip (IsMade g.D.Disk.content g.D.Disk.image g.D.Disk.faults c.args.limit) []) (sym c.requires.room.0) tt, refl, refl, c.requires.room.1)
+
+pub make_first-requires-clause-some : goal.make_first-requires-clause-some
+make_first-requires-clause-some g c =
+    let k = c.loop.invariant in
+    omega (arith, c.loop-test.true, c.len-end.ensures, c.args.disks.now.ok.0, k.3, ap length k.1, length-append k.0 c.loop.disks.items)
+
+pub returns-in-Err-clause-capacity : goal.returns-in-Err-clause-capacity
+returns-in-Err-clause-capacity g c = c.unmake.ensures.capacity ∙ c.make_first.ensures.capacity ∙ c.loop.invariant.4
+
+pub returns-clause-made : goal.returns-clause-made
+returns-clause-made g c =
+    let k = c.loop.invariant in
+    let none = no_more c.loop.disks.items (omega (arith, c.loop-test.false, c.len-end.ensures, c.args.disks.now.ok.0, k.3, ap length k.1, length-append k.0 c.loop.disks.items)) in
+    subst (λ xs. AllZip (IsMade g.D.Disk.content g.D.Disk.image g.D.Disk.faults c.args.limit) xs c.loop.logs.items) (sym (k.1 ∙ ap (λ l. k.0 ++ l) none ∙ append-nil k.0)) k.2
+
+pub returns-clause-none_left : goal.returns-clause-none_left
+returns-clause-none_left g c =
+    let k = c.loop.invariant in
+    let none = no_more c.loop.disks.items (omega (arith, c.loop-test.false, c.len-end.ensures, c.args.disks.now.ok.0, k.3, ap length k.1, length-append k.0 c.loop.disks.items)) in
+    none
+
+pub returns-clause-capacity : goal.returns-clause-capacity
+returns-clause-capacity g c = c.loop.invariant.4

@@ -1,11 +1,12 @@
 use Rattle.std.proofs.Common.{◌≡◌, ℕ, ◌≤◌, List, length, refl, sym, subst, ap, ◌∙◌, arith}
+use Rattle.std.specs.List.{AllZip}
 use Rattle.std.proofs.lemmas.Slice.Zip.{AllZip-long}
 use Rattle.gp_round.specs.Counts.{Counts}
 use Rattle.gp_shelf.specs.declared.making.LendFault.{LendFault}
 use Rattle.gp_shelf.specs.Places.{logged}
 use Rattle.gp_shelf.specs.Lists.{lent_of, unlent_of, shelved, KeepsOthers}
 use Rattle.gp_shelf.specs.Making.{IsMade, ComesBack}
-use Rattle.gp_shelf.proofs.Segments.{length-lent, others_stay}
+use Rattle.gp_shelf.proofs.Segments.{length-lent, length-unlent, others_stay, on_ok}
 use Rattle.gp_shelf.proofs.Zips.{AllZip-same, fell_there}
 use Rattle.gp_shelf.proofs.shelf.lend.Goals as goal
 
@@ -67,3 +68,36 @@ returns-in-Err-clause-cause g c =
     (few_acceptors _ _ c.acceptors.ensures.value c.acceptors.ensures.most)
     (few_coordinators _ _ c.coordinators.ensures.value c.coordinators.ensures.most)
     c.requires.twelve c.divide.ensures.lent c.divide.ensures.unlent c.shelve-disks.ensures c.in-Err.ensures.back).1
+
+pub divide-requires-clause-lent : goal.divide-requires-clause-lent
+divide-requires-clause-lent g c =
+    let room = on_ok _ c.reserve-else-is_err.result c.if-is_err-2.ensures.value c.reserve-else-is_err.ensures.ok in let a = c.acceptors.ensures.value in let b = c.coordinators.ensures.value in
+    (c.reserve-else-is_err.ensures.items ∙ c.new-lent.ensures.items, omega (arith, room, a, b))
+
+pub divide-requires-clause-unlent : goal.divide-requires-clause-unlent
+divide-requires-clause-unlent g c =
+    let room = on_ok _ c.reserve-else-is_err-2.result c.if-is_err-3.ensures.value c.reserve-else-is_err-2.ensures.ok in let a = c.acceptors.ensures.value in let b = c.coordinators.ensures.value in
+    (c.reserve-else-is_err-2.ensures.items ∙ c.new-unlent.ensures.items, omega (arith, room, a, b))
+
+pub make-requires-clause-room : goal.make-requires-clause-room
+make-requires-clause-room g c =
+    let room = on_ok _ c.reserve.result c.if-is_err.ensures.value c.reserve.ensures.ok in let a = c.acceptors.ensures.value in let b = c.coordinators.ensures.value in
+    let lent = ap length c.divide.ensures.lent ∙ length-lent c.args.config c.args.disks.items c.requires.twelve (few_acceptors _ _ c.acceptors.ensures.value c.acceptors.ensures.most) (few_coordinators _ _ c.coordinators.ensures.value c.coordinators.ensures.most) in
+    (c.reserve.ensures.items ∙ c.new-logs.ensures.items, omega (arith, room, a, b, lent))
+
+pub shelve-disks-requires-clause-unlent : goal.shelve-disks-requires-clause-unlent
+shelve-disks-requires-clause-unlent g c =
+    let unlent = length-unlent c.args.config c.args.disks.items c.requires.twelve (few_acceptors _ _ c.acceptors.ensures.value c.acceptors.ensures.most) (few_coordinators _ _ c.coordinators.ensures.value c.coordinators.ensures.most) in
+    omega (arith, ap length c.divide.ensures.unlent, unlent)
+
+pub shelve-disks-requires-clause-room : goal.shelve-disks-requires-clause-room
+shelve-disks-requires-clause-room g c = (c.divide.ensures.none_left, omega (arith, c.divide.ensures.capacity, c.args.disks.ok, c.requires.twelve))
+
+pub returns-in-Ok-clause-logs : goal.returns-in-Ok-clause-logs
+returns-in-Ok-clause-logs g c = subst (λ xs. AllZip (IsMade g.D.Disk.content g.D.Disk.image g.D.Disk.faults c.args.limit) xs c.in-Ok.logs.items) c.divide.ensures.lent c.in-Ok.ensures.made
+
+pub returns-in-Ok-clause-unlent : goal.returns-in-Ok-clause-unlent
+returns-in-Ok-clause-unlent g c = c.divide.ensures.unlent
+
+pub returns-then-is_err-clause-others : goal.returns-then-is_err-clause-others
+returns-then-is_err-clause-others g c i other = refl

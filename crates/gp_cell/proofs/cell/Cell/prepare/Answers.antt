@@ -2,8 +2,10 @@ use Rattle.std.proofs.Common.{◌≡◌, sym, subst, length, ap, ◌∙◌}
 use Rattle.gp_wire.specs.Lists.{Has}
 use Rattle.gp_wire.specs.Known.{HoldsAll, records}
 use Rattle.gp_wire.specs.Own.{own}
-use Rattle.gp_work.specs.Moves.{HasRoom}
+use Rattle.gp_work.specs.Moves.{Fits, HasRoom}
+use Rattle.gp_work.specs.declared.faults.StepFault.TheVariants.{Waiting, NoMemory}
 use Rattle.gp_cell.specs.Cells.{CellState}
+use Rattle.gp_cell.specs.Passing.{Later}
 use Rattle.gp_cell.proofs.Reading.{sound_later, own_later}
 use Rattle.gp_cell.proofs.cell.Cell.prepare.Goals as goal
 
@@ -52,3 +54,36 @@ returns-in-Ok-clause-whole g c = subst (λ (x : CellState g.row.D.Denot). HoldsA
 
 pub returns-in-Err-clause-whole : goal.returns-in-Err-clause-whole
 returns-in-Err-clause-whole g c = subst (λ (x : CellState g.row.D.Denot). HoldsAll x.pass → length c.read_named.new.pass.seen ≡ length x.pass.seen) c.self.view_is c.read_named.ensures.whole
+
+pub returns-in_err-message-clause-rest : goal.returns-in_err-message-clause-rest
+returns-in_err-message-clause-rest g c =
+    let e = c.self.view_is in
+    (ap (λ (x : CellState g.row.D.Denot). x.config) e, ap (λ (x : CellState g.row.D.Denot). x.node) e, ap (λ (x : CellState g.row.D.Denot). x.core) e, ap (λ (x : CellState g.row.D.Denot). x.log) e, ap (λ (x : CellState g.row.D.Denot). x.down) e)
+
+pub returns-in_err-message-clause-pass : goal.returns-in_err-message-clause-pass
+returns-in_err-message-clause-pass g c = subst (λ (x : CellState g.row.D.Denot). Later x.pass c.read_named.new.pass) c.self.view_is c.read_named.ensures.knows
+
+pub returns-in-Ok-clause-rest : goal.returns-in-Ok-clause-rest
+returns-in-Ok-clause-rest g c =
+    let e = c.self.view_is in
+    (ap (λ (x : CellState g.row.D.Denot). x.config) e, ap (λ (x : CellState g.row.D.Denot). x.node) e, ap (λ (x : CellState g.row.D.Denot). x.core) e, ap (λ (x : CellState g.row.D.Denot). x.log) e, ap (λ (x : CellState g.row.D.Denot). x.down) e)
+
+pub returns-in-Ok-clause-pass : goal.returns-in-Ok-clause-pass
+returns-in-Ok-clause-pass g c = subst (λ (x : CellState g.row.D.Denot). Later x.pass c.read_named.new.pass) c.self.view_is c.read_named.ensures.knows
+
+pub returns-in-Err-clause-rest : goal.returns-in-Err-clause-rest
+returns-in-Err-clause-rest g c =
+    let e = c.self.view_is in
+    (ap (λ (x : CellState g.row.D.Denot). x.config) e, ap (λ (x : CellState g.row.D.Denot). x.node) e, ap (λ (x : CellState g.row.D.Denot). x.core) e, ap (λ (x : CellState g.row.D.Denot). x.log) e, ap (λ (x : CellState g.row.D.Denot). x.down) e)
+
+pub returns-in-Err-clause-pass : goal.returns-in-Err-clause-pass
+returns-in-Err-clause-pass g c = subst (λ (x : CellState g.row.D.Denot). Later x.pass c.read_named.new.pass) c.self.view_is c.read_named.ensures.knows
+
+pub returns-in-Ok-clause-thought : goal.returns-in-Ok-clause-thought
+returns-in-Ok-clause-thought g c = c.in-Ok.ensures.thought
+
+pub returns-in-Err-clause-waiting : goal.returns-in-Err-clause-waiting
+returns-in-Err-clause-waiting g c e = absurd (let wrong : NoMemory ≡ Waiting = e in cc)
+
+pub think-made-requires-clause-fits : goal.think-made-requires-clause-fits
+think-made-requires-clause-fits g c = subst (λ (x : CellState g.row.D.Denot). Fits x.config x.node c.args.mv.now) (sym c.self.view_is) c.requires.fits
