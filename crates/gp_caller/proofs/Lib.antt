@@ -3,3 +3,4 @@ pub mod Seeing
 pub mod Deciding
 pub mod Following
 pub mod Adapted
+pub mod Looked

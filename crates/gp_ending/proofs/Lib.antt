@@ -18,3 +18,4 @@ pub mod Ending
 pub mod Deciding
 pub mod Carrying
 pub mod Resting
+pub mod Counting

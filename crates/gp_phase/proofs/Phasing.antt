@@ -30,6 +30,7 @@ use Rattle.gp_work.proofs.Batching.{read_none, get_front, take_whole}
 use Rattle.gp_work.proofs.Stretches.{goes_same, goes_on, rose_on, rose_then, posted_more}
 use Rattle.gp_phase.specs.Deeds.{Tidy, takes_in, others_in, begins, begin_moves}
 use Rattle.gp_phase.specs.declared.caller.Call.{Call}
+use Rattle.gp_phase.specs.declared.phases.PhasesEnd.TheVariants as PhasesEnd
 use Rattle.gp_phase.specs.Phases.{rounds, only_at, Going, FaultCause, Carried, Answers, IsMeant, HasBegun, IsToBegin, HasBegunAll, Follows, AreReady, IsNew, total, Finished, Asked}
 use Rattle.gp_phase.proofs.Deeds.{tidy_on, tidy_looked, begins_append, done_made, no_offer}
 
@@ -37,6 +38,14 @@ use Rattle.gp_phase.proofs.Deeds.{tidy_on, tidy_looked, begins_append, done_made
 pub done_of : (causes : FaultCauses) (p : ProcessState) (f : Bool) (first : List Move) (cursor : ℕ) (q : ProcessState) (g : Bool) (behind : ℕ) (fault : Option JobFault)
     → fault ≡ None → Ends causes p f first cursor q g behind fault → Done p f first cursor q g behind
 done_of causes p f first cursor q g behind fault none e = subst (Ends causes p f first cursor q g behind) none e
+
+-- ---- why the phases ended
+
+pub not_quiet_fault : PhasesEnd.Fault ≡ PhasesEnd.Quiet → ⊥
+not_quiet_fault e = cc
+
+pub not_quiet_memory : PhasesEnd.NoMemory ≡ PhasesEnd.Quiet → ⊥
+not_quiet_memory e = cc
 
 -- ---- a place of its own
 
@@ -358,6 +367,17 @@ module _ {N P : Type 0} (state : P → ProcessState) (is_of : P → N → Type 0
             none l = omega (arith, l)
           defaults (x ∷ xs) zero d e l = refl
           defaults (x ∷ xs) (suc n) d e l = defaults xs n d e (omega (arith, l))
+
+  -- the caller returned no round
+  pub none_left : (ks : List (Job P)) (called after : List Call) (y e d : Job P) (left : Bool) → at < length ks → Looks (get_or ks at e) y
+      → Asked state (answers (state (get_or ks at e).cell).config (state (get_or ks at e).cell).node) called after (get_or ks at e) y left → left ≡ false
+      → answers (state (get_or (set ks at y) at d).cell).config (state (get_or (set ks at y) at d).cell).node after (state (get_or (set ks at y) at d).cell).list None
+  none_left ks called after y e d left there w a none =
+      subst (λ (x : Job P). answers (state x.cell).config (state x.cell).node after (state x.cell).list None) (sym (get_or-set_same ks at y d there))
+      (subst (λ cs. answers (state y.cell).config (state y.cell).node cs (state y.cell).list None) (sym (a.called ∙ ap (λ o. called ++ option_to_list o) (a.none none) ∙ append-nil called))
+      (subst (λ o. answers (state y.cell).config (state y.cell).node called (state y.cell).list o) (a.none none)
+      (subst (λ n. answers (state y.cell).config n called (state y.cell).list a.answer) (sym w.goes.node)
+      (subst (λ u. answers u (state (get_or ks at e).cell).node called (state y.cell).list a.answer) (sym w.goes.config) a.may))))
 
   -- the caller was asked, and memory ran out, or not: what it left of each job
   pub carried_asked : (js0 ks : List (Job P)) (me : Node) (us : Counts) (called : List Call) (y e : Job P) → at < length js0 → Phase js0 ks me us called None called → Looks (get_or ks at e) y

@@ -1,4 +1,4 @@
-use Rattle.std.proofs.Common.{◌≡◌, ◌<◌, List, None, map, length, get_or, sym, ap, ◌∙◌, subst}
+use Rattle.std.proofs.Common.{refl, ◌≡◌, ◌<◌, List, None, map, length, get_or, sym, ap, ◌∙◌, subst}
 use Rattle.std.specs.Prelude.{IfSome}
 use Rattle.std.specs.List.{All}
 use Rattle.gp_wire.specs.Known.{records}
@@ -77,3 +77,24 @@ returns-clause-decided g c = elim c.match-phases.branch [
   | in-Quiet w ↦ subst (λ o. IfSome o (IsDecided c.run_phases-phases.result.jobs.items)) (sym w.end-is) tt
   | in-Fault w ↦ subst (λ o. IfSome o (IsDecided c.run_phases-phases.result.jobs.items)) (sym w.end-is) (decided_or c.run_phases-phases.result.jobs.items w.deciding.result w.unwrap_or.result (w.deciding.ensures ∙ ap (λ js. deciding (map fault_in js)) w.deref.ensures.value) w.unwrap_or.ensures)
 ]
+
+pub returns-in_default-clause-size : goal.returns-in_default-clause-size
+returns-in_default-clause-size g c = ap (λ v. length v.items) c.starved.ensures.jobs
+
+pub returns-in_default-clause-worked : goal.returns-in_default-clause-worked
+returns-in_default-clause-worked g c none = some_no (sym c.starved.ensures.end ∙ none)
+
+pub returns-in_default-clause-caller : goal.returns-in_default-clause-caller
+returns-in_default-clause-caller g c none = some_no (sym c.starved.ensures.end ∙ none)
+
+pub returns-in_default-clause-topics : goal.returns-in_default-clause-topics
+returns-in_default-clause-topics g c = refl
+
+pub returns-clause-size : goal.returns-clause-size
+returns-clause-size g c = c.run_phases-phases.ensures.size
+
+pub returns-clause-carried : goal.returns-clause-carried
+returns-clause-carried g c = c.run_phases-phases.ensures.carried
+
+pub returns-clause-topics : goal.returns-clause-topics
+returns-clause-topics g c = c.run_phases-phases.ensures.topics

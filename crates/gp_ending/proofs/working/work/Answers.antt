@@ -1,4 +1,4 @@
-use Rattle.std.proofs.Common.{◌≡◌, ◌<◌, List, None, length, get_or, sym, ap, ◌∙◌, subst, arith}
+use Rattle.std.proofs.Common.{refl, ◌≡◌, ◌<◌, List, None, length, get_or, sym, ap, ◌∙◌, subst, arith}
 use Rattle.std.specs.List.{All}
 use Rattle.gp_wire.specs.Known.{records}
 use Rattle.gp_work.specs.declared.job.Job.{Job}
@@ -9,6 +9,7 @@ use Rattle.gp_ending.specs.Begins.{leader}
 use Rattle.gp_ending.proofs.Indexing.{pick}
 use Rattle.gp_ending.specs.Working.{IsCarriedJob}
 use Rattle.gp_ending.proofs.Carrying.{carried_on, decided_none, on_ok}
+use Rattle.gp_ending.proofs.Deciding.{some_no}
 use Rattle.gp_ending.proofs.working.work.Goals as goal
 
 pub call_first-requires-clause-at : goal.call_first-requires-clause-at
@@ -89,3 +90,36 @@ returns-clause-quiet g c none =
         worked = c.go_on.ensures.worked none;
       };
     }
+
+pub call_first-requires-clause-new : goal.call_first-requires-clause-new
+call_first-requires-clause-new g c = c.requires.new
+
+pub call_first-requires-clause-none : goal.call_first-requires-clause-none
+call_first-requires-clause-none g c = c.requires.none
+
+pub returns-then-is_err-clause-size : goal.returns-then-is_err-clause-size
+returns-then-is_err-clause-size g c = ap (λ v. length v.items) c.starved.ensures.jobs ∙ c.call_first.ensures.size
+
+pub returns-then-is_err-clause-quiet : goal.returns-then-is_err-clause-quiet
+returns-then-is_err-clause-quiet g c none = some_no (sym c.starved.ensures.end ∙ none)
+
+pub returns-then-is_err-clause-caller : goal.returns-then-is_err-clause-caller
+returns-then-is_err-clause-caller g c none = some_no (sym c.starved.ensures.end ∙ none)
+
+pub returns-then-is_err-clause-topics : goal.returns-then-is_err-clause-topics
+returns-then-is_err-clause-topics g c = refl
+
+pub go_on-requires-clause-at : goal.go_on-requires-clause-at
+go_on-requires-clause-at g c κs within = subst (λ n. c.args.config.acceptors < n) (sym c.call_first.ensures.size) c.requires.at
+
+pub returns-clause-size : goal.returns-clause-size
+returns-clause-size g c = c.go_on.ensures.size ∙ c.call_first.ensures.size
+
+pub returns-clause-caller : goal.returns-clause-caller
+returns-clause-caller g c = c.go_on.ensures.caller
+
+pub returns-clause-decided : goal.returns-clause-decided
+returns-clause-decided g c = c.go_on.ensures.decided
+
+pub returns-clause-topics : goal.returns-clause-topics
+returns-clause-topics g c = c.go_on.ensures.topics

@@ -59,3 +59,12 @@ returns-clause-top g c = let r = c.requires in let xs = c.args.cells.now in let 
     top_looked c.args.wire.now xs c.args.at r.held (get_or xs c.args.at i) (slice_get-get_or xs c.args.at i r.here) c.kind_of.new.self c.kind_of.ensures.rest c.kind_of.ensures.turn
     c.match-kind_of.sent c.top_of_cells.result c.max.result (returns-clause-sent g c)
     (c.top_of_cells.ensures.top (up_still xs _ (same_looked c.args.wire.now xs c.args.at r.held (get_or xs c.args.at i) (slice_get-get_or xs c.args.at i r.here) c.kind_of.new.self c.kind_of.ensures.rest c.kind_of.ensures.turn) r.up)) c.top_of_cells.ensures.cores c.max.ensures
+
+pub bounds-cells-at : goal.bounds-cells-at
+bounds-cells-at g c = c.requires.here
+
+pub push_reserved-requires : goal.push_reserved-requires
+push_reserved-requires g c = c.requires.room
+
+pub bounds-cells-at-in-Some : goal.bounds-cells-at-in-Some
+bounds-cells-at-in-Some g c = let long = set_length c.args.cells.now c.args.at c.kind_of.new.self in let here = c.requires.here in omega (arith, long, here)

@@ -1,4 +1,5 @@
-use Rattle.std.proofs.Common.{sym, ◌∙◌}
+use Rattle.std.proofs.Common.{refl, sym, ◌∙◌}
+use Rattle.gp_stage.proofs.Places.{within}
 use Rattle.gp_stage.proofs.Meeting.{meeting_keeps_rest}
 use Rattle.gp_stage.proofs.Moving.{held_by, held_met, whole_led}
 use Rattle.gp_stage.proofs.Keeping.{list_of_lead}
@@ -26,3 +27,15 @@ returns-then-at-holder-clause-long g c = same_length c.args.cells.now c.meet_at.
 
 pub returns-else-at-holder-clause-taken : goal.returns-else-at-holder-clause-taken
 returns-else-at-holder-clause-taken g c = same_holder c.args.wire.now c.args.cells.now c.args.holder c.args.at c.requires.held (sym c.if-at-holder.false)
+
+pub meet_at-requires-clause-here : goal.meet_at-requires-clause-here
+meet_at-requires-clause-here g c = c.requires.here
+
+pub meet_at-requires-clause-there : goal.meet_at-requires-clause-there
+meet_at-requires-clause-there g c = within c.args.cells.now c.args.holder c.requires.held.lead c.requires.held.lead_is
+
+pub meet_at-requires-clause-two : goal.meet_at-requires-clause-two
+meet_at-requires-clause-two g c = c.if-at-holder.true
+
+pub returns-else-at-holder-clause-long : goal.returns-else-at-holder-clause-long
+returns-else-at-holder-clause-long g c = refl

@@ -1,4 +1,4 @@
-use Rattle.std.proofs.Common.{◌≡◌, None, Some, sym, ap, ◌∙◌, subst}
+use Rattle.std.proofs.Common.{◌≡◌, None, Some, refl, sym, ap, ◌∙◌, subst}
 use Rattle.std.specs.Prelude.{slice_get}
 use Rattle.gp_wire.specs.Known.{records}
 use Rattle.gp_msg.specs.Records.{messages_in}
@@ -35,3 +35,48 @@ pub returns-in-Err-shown-clause-saw : goal.returns-in-Err-shown-clause-saw
 returns-in-Err-shown-clause-saw g c =
     let p = c.args.cell.now.pass in let q = c.look.new.self.pass in
     subst (λ s. Saw s (records q)) (sym c.in-Err-shown.ensures.unchanged) (saw_on c.args.self.now p q (later_goes p q (had_later p q c.look.ensures.turn)) c.requires.saw)
+
+pub returns-in-Ok-None-clause-rest : goal.returns-in-Ok-None-clause-rest
+returns-in-Ok-None-clause-rest g c = c.look.ensures.rest
+
+pub returns-in-Ok-None-clause-pass : goal.returns-in-Ok-None-clause-pass
+returns-in-Ok-None-clause-pass g c = let p = c.args.cell.now.pass in let q = c.look.new.self.pass in later_goes p q (had_later p q c.look.ensures.turn)
+
+pub returns-in-Ok-None-clause-own : goal.returns-in-Ok-None-clause-own
+returns-in-Ok-None-clause-own g c = c.look.ensures.own
+
+pub returns-in-Err-clause-rest : goal.returns-in-Err-clause-rest
+returns-in-Err-clause-rest g c = c.look.ensures.rest
+
+pub returns-in-Err-clause-pass : goal.returns-in-Err-clause-pass
+returns-in-Err-clause-pass g c = let p = c.args.cell.now.pass in let q = c.look.new.self.pass in later_goes p q (had_later p q c.look.ensures.turn)
+
+pub returns-in-Err-clause-own : goal.returns-in-Err-clause-own
+returns-in-Err-clause-own g c = c.look.ensures.own
+
+pub returns-in-Ok-clause-rest : goal.returns-in-Ok-clause-rest
+returns-in-Ok-clause-rest g c = c.look.ensures.rest
+
+pub returns-in-Ok-clause-pass : goal.returns-in-Ok-clause-pass
+returns-in-Ok-clause-pass g c = let p = c.args.cell.now.pass in let q = c.look.new.self.pass in later_goes p q (had_later p q c.look.ensures.turn)
+
+pub returns-in-Ok-clause-own : goal.returns-in-Ok-clause-own
+returns-in-Ok-clause-own g c = c.look.ensures.own
+
+pub returns-in-Err-shown-clause-rest : goal.returns-in-Err-shown-clause-rest
+returns-in-Err-shown-clause-rest g c = c.look.ensures.rest
+
+pub returns-in-Err-shown-clause-pass : goal.returns-in-Err-shown-clause-pass
+returns-in-Err-shown-clause-pass g c = let p = c.args.cell.now.pass in let q = c.look.new.self.pass in later_goes p q (had_later p q c.look.ensures.turn)
+
+pub returns-in-Err-shown-clause-own : goal.returns-in-Err-shown-clause-own
+returns-in-Err-shown-clause-own g c = c.look.ensures.own
+
+pub returns-in-Ok-None-clause-round : goal.returns-in-Ok-None-clause-round
+returns-in-Ok-None-clause-round g c = refl
+
+pub returns-in-Err-clause-round : goal.returns-in-Err-clause-round
+returns-in-Err-clause-round g c = refl
+
+pub returns-in-Err-shown-clause-round : goal.returns-in-Err-shown-clause-round
+returns-in-Err-shown-clause-round g c = ap (λ (s : SightState). s.watch.round) c.in-Err-shown.ensures.unchanged

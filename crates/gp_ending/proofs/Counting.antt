@@ -1,0 +1,11 @@
+-- What is counted of jobs.
+use Rattle.std.proofs.Common.{◌≡◌, ℕ, zero, suc, ◌+◌, ◌<◌, List, [], ◌∷◌, length, drop, get_or, refl, arith}
+use Rattle.gp_work.specs.declared.job.Job.{Job}
+use Rattle.gp_work.specs.Doing.{ProcessState, posted}
+use Rattle.gp_phase.specs.Phases.{total}
+
+pub total_next : {P : Type 0} (state : P → ProcessState) (others : ℕ) (js : List (Job P)) (i : ℕ) (d : Job P) → i < length js
+    → total state others (drop i js) ≡ posted (state (get_or js i d).cell) + total state others (drop (suc i) js)
+total_next state others [] i d l = absurd (omega (arith, l))
+total_next state others (j ∷ js) zero d l = refl
+total_next state others (j ∷ js) (suc i) d l = total_next state others js i d (omega (arith, l))
