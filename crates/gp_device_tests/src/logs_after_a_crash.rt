@@ -1,7 +1,7 @@
 //! What a crash inside an append or a renewal may leave of a log. Each prefix and each suffix of each
 //! write, with zeros or ones in the place of what was lost, opens to the entries before the call or
 //! after it.
-use crate::parts::{Opens, append, created, opens, part, renew};
+use crate::parts::{Opens, append_part, created, opens, renew_part};
 use gp_edge::CalmDisk;
 use gp_vlog::Log;
 use std::alloc::Global;
@@ -99,29 +99,44 @@ fn changed(
     next: usize,
     renews: bool,
 ) -> Result<Change, Fail> {
-    let mut log = created(alloc, 200)?;
-    for i in 0..appended {
-        append(&mut log, &part(alloc, i)?)?;
-    }
-    for i in renewed {
-        renew(&mut log, &part(alloc, *i)?)?;
-    }
-    let old = bytes_of(alloc, log)?;
-    let mut log = opened(alloc, &old)?;
-    let before = Ok((log.count(), log.size()));
-    if renews {
-        renew(&mut log, &part(alloc, next)?)?;
-    } else {
-        append(&mut log, &part(alloc, next)?)?;
-    }
-    let after = Ok((log.count(), log.size()));
-    let new = bytes_of(alloc, log)?;
+    let old = made(alloc, appended, renewed)?;
+    let (before, new, after) = called(alloc, &old, next, renews)?;
     Ok(Change {
         old,
         before,
         new,
         after,
     })
+}
+
+// The bytes of a log that is made so.
+fn made(alloc: Global, appended: usize, renewed: &[usize]) -> Result<Vec<u8>, Fail> {
+    let mut log = created(alloc, 200)?;
+    for i in 0..appended {
+        append_part(alloc, &mut log, i)?;
+    }
+    for i in renewed {
+        renew_part(alloc, &mut log, *i)?;
+    }
+    bytes_of(alloc, log)
+}
+
+// What these bytes open to, the bytes after a call on that log, and what these open to.
+fn called(
+    alloc: Global,
+    old: &[u8],
+    next: usize,
+    renews: bool,
+) -> Result<(Opens, Vec<u8>, Opens), Fail> {
+    let mut log = opened(alloc, old)?;
+    let before = Ok((log.count(), log.size()));
+    if renews {
+        renew_part(alloc, &mut log, next)?;
+    } else {
+        append_part(alloc, &mut log, next)?;
+    }
+    let after = Ok((log.count(), log.size()));
+    Ok((before, bytes_of(alloc, log)?, after))
 }
 
 fn opened(alloc: Global, bytes: &[u8]) -> Result<Log<CalmDisk>, Fail> {

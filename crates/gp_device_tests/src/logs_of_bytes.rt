@@ -1,6 +1,6 @@
 //! Logs of both versions: complete, cut and wrong.
 use crate::bytes::{new_log, old_log};
-use crate::parts::{Opens, append, broken, created, opens, opens_cut, part, renew};
+use crate::parts::{Opens, append_part, broken, created, opens, opens_cut, renew_part};
 use gp_edge::CalmDisk;
 use gp_vlog::Log;
 use std::alloc::Global;
@@ -27,8 +27,8 @@ fn a_gate_that_is_not_zero_is_open_and_needs_a_whole_entry(rt: HostRuntime) -> R
 fn two_appends_write_a_log_of_version_2(rt: HostRuntime) -> Result<(), Fail> {
     let alloc = rt.alloc();
     let mut log = created(alloc, LIMIT)?;
-    append(&mut log, &part(alloc, 0)?)?;
-    append(&mut log, &part(alloc, 1)?)?;
+    append_part(alloc, &mut log, 0)?;
+    append_part(alloc, &mut log, 1)?;
     let disk = log.into_disk();
     assert!(rt; disk.content() == new_log(alloc, LIMIT)?.as_slice());
     Ok(())
@@ -139,17 +139,18 @@ fn an_old_log_is_upgraded_by_renewing_its_last_entry(rt: HostRuntime) -> Result<
     let Ok(mut log) = Log::open(alloc, disk) else {
         return Err(Fail::from("not opened"));
     };
-    assert!(rt; log.is_old());
-    assert!(rt; log.is_ready());
-    let last = part(alloc, 1)?;
-    renew(&mut log, &last)?;
-    assert!(rt; !log.is_old());
-    assert!(rt; log.count() == 1);
-    assert!(rt; log.size() == 70);
+    assert!(rt; is_upgraded(alloc, &mut log)?);
     let disk = log.into_disk();
     let bytes = disk.content();
     assert!(rt; bytes.len() == 182);
     assert!(rt; bytes[12] == 1 && bytes[128] == 1 && bytes[181] == 0);
     assert!(rt; opens(alloc, bytes)? == Ok((1, 70)));
     Ok(())
+}
+
+// Whether an old log that is ready is one of version 2 after it was renewed, with one entry.
+fn is_upgraded(alloc: Global, log: &mut Log<CalmDisk>) -> Result<bool, Fail> {
+    let was_old = log.is_old() && log.is_ready();
+    renew_part(alloc, log, 1)?;
+    Ok(was_old && !log.is_old() && log.count() == 1 && log.size() == 70)
 }

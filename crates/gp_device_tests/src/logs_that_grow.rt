@@ -1,5 +1,7 @@
 //! Logs that are created, appended to, renewed and opened again.
-use crate::parts::{append, broken, created, opens, part, put, renew, single, votes};
+use crate::parts::{
+    append, append_part, broken, created, opens, part, put, renew_part, single, votes,
+};
 use gp_edge::CalmDisk;
 use gp_history::Hist;
 use gp_index::History;
@@ -14,7 +16,7 @@ fn a_full_log_tells_its_size_and_the_need(rt: HostRuntime) -> Result<(), Fail> {
     let alloc = rt.alloc();
     let mut log = created(alloc, 90)?;
     assert!(rt; log.size() == 17);
-    append(&mut log, &part(alloc, 0)?)?;
+    append_part(alloc, &mut log, 0)?;
     assert!(rt; log.size() == 49);
     let full = Err(AppendFault::Full { size: 49, need: 53 });
     assert!(rt; append(&mut log, &part(alloc, 1)?) == full);
@@ -26,15 +28,15 @@ fn a_full_log_tells_its_size_and_the_need(rt: HostRuntime) -> Result<(), Fail> {
 // The disk of a log that is renewed when it is full.
 fn renewed<R: Abort>(rt: &R, alloc: Global) -> Result<CalmDisk, Fail> {
     let mut log = created(alloc, 128)?;
-    append(&mut log, &part(alloc, 0)?)?;
-    append(&mut log, &part(alloc, 1)?)?;
+    append_part(alloc, &mut log, 0)?;
+    append_part(alloc, &mut log, 1)?;
     assert!(rt; log.size() == 102);
     let full = Err(AppendFault::Full {
         size: 102,
         need: 53,
     });
     assert!(rt; append(&mut log, &part(alloc, 2)?) == full);
-    renew(&mut log, &part(alloc, 2)?)?;
+    renew_part(alloc, &mut log, 2)?;
     assert!(rt; log.count() == 1 && log.size() == 91);
     Ok(log.into_disk())
 }
@@ -45,8 +47,8 @@ fn renewed_again<R: Abort>(rt: &R, alloc: Global, disk: CalmDisk) -> Result<Calm
         return Err(Fail::from("not opened"));
     };
     assert!(rt; log.count() == 1 && !log.is_old());
-    renew(&mut log, &part(alloc, 1)?)?;
-    append(&mut log, &part(alloc, 2)?)?;
+    renew_part(alloc, &mut log, 1)?;
+    append_part(alloc, &mut log, 2)?;
     assert!(rt; log.size() == 123);
     Ok(log.into_disk())
 }
@@ -78,21 +80,31 @@ fn voted(epoch: u32, vote: History) -> Durable {
     }
 }
 
+fn append_vote(log: &mut Log<CalmDisk>, epoch: u32, vote: &History) -> Result<(), Fail> {
+    append(log, &voted(epoch, vote.copy()?))?;
+    Ok(())
+}
+
 // How large a log is after a vote, and its disk after two more: the vote with two commands more, and the same
 // in the next epoch.
 fn grown(alloc: Global) -> Result<(u64, CalmDisk), Fail> {
     let mut log = created(alloc, 1000)?;
+    let size = grow(alloc, &mut log)?;
+    Ok((size, log.into_disk()))
+}
+
+fn grow(alloc: Global, log: &mut Log<CalmDisk>) -> Result<u64, Fail> {
     let mut vote = History::empty(alloc)?;
     vote.push(put(alloc, 5, "k", "")?)?;
-    append(&mut log, &voted(0, vote.copy()?))?;
+    append_vote(log, 0, &vote)?;
     let size = log.size();
     // the write of proposer 0 waits for that of proposer 5, so that of proposer 1 comes first
     vote.push(put(alloc, 0, "k", "")?)?;
     vote.push(put(alloc, 1, "j", "")?)?;
-    append(&mut log, &voted(0, vote.copy()?))?;
+    append_vote(log, 0, &vote)?;
     // of another epoch, so it is whole
-    append(&mut log, &voted(1, vote))?;
-    Ok((size, log.into_disk()))
+    append_vote(log, 1, &vote)?;
+    Ok(size)
 }
 
 // The bytes with the two commands of the addition in the other order.

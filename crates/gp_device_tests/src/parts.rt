@@ -99,6 +99,20 @@ pub fn renew<D: Disk>(log: &mut Log<D>, part: &Durable) -> Result<(), AppendFaul
     log.renew(part)
 }
 
+/// Appends the part with so many commands.
+pub fn append_part<D: Disk>(alloc: Global, log: &mut Log<D>, commands: usize) -> Result<(), Fail> {
+    let entry = part(alloc, commands)?;
+    append(log, &entry)?;
+    Ok(())
+}
+
+/// Makes the part with so many commands the only entry.
+pub fn renew_part<D: Disk>(alloc: Global, log: &mut Log<D>, commands: usize) -> Result<(), Fail> {
+    let entry = part(alloc, commands)?;
+    renew(log, &entry)?;
+    Ok(())
+}
+
 /// The result of opening: the number of entries and the size, or why it was refused.
 pub type Opens = Result<(usize, u64), OpenFault>;
 

@@ -1,4 +1,8 @@
 //! Calls of a cell, each once, with enough memory.
+ghost use Rattle.std.specs.Prelude.{◌≡◌};
+ghost use Rattle.gp_msg.specs.declared.node.Node.TheVariants.{Coordinator};
+ghost use Rattle.gp_node_tests.specs.Alone.{IsAlone};
+
 use crate::alone::{Alone, make_alone};
 use gp_command::NoMemory;
 use gp_edge::Idle;
@@ -23,11 +27,19 @@ fn a_plan_shows_its_record(rt: HostRuntime) -> Result<(), Fail> {
     Ok(())
 }
 
-// Whether the plan of beginning the round has that event, and one message.
 fn begins_with_one_message(alloc: Global) -> Result<bool, Fail> {
     let config = Config::new(3, 1, 1).or(Err("no configuration"))?;
     let alone = make_alone(alloc, config, Node::Coordinator(0), &[])?;
-    let plan = alone.cell.think(&Move::Begin(ROUND), None)?;
+    plans_one_message(config, &alone)
+}
+
+// Whether the plan of beginning the round has that event, and one message.
+fn plans_one_message(config: Config, alone: &Alone) -> Result<bool, Fail>
+    requires alone { IsAlone config (Coordinator 0) alone.now.wire alone.now.cell }
+    requires one { config.coordinators ≡ 1 }
+{
+    let begin = Move::Begin(ROUND);
+    let plan = alone.cell.think(&begin, None)?;
     let made = plan.made();
     let is_begun = matches!(made.event, Event::Begin { .. });
     Ok(is_begun && made.out.as_slice().len() == 1)
@@ -40,17 +52,25 @@ fn a_coordinator_steps(rt: HostRuntime) -> Result<(), Fail> {
 
 fn check_step<R: Wait + Abort>(rt: &R, alloc: Global) -> Result<(), Fail> {
     let config = Config::new(3, 1, 1).or(Err("no configuration"))?;
-    let Alone { wire, mut cell } = make_alone(alloc, config, Node::Coordinator(0), &[])?;
-    let messages = count_of(cell.step(rt, &wire, Move::Begin(ROUND), &Idle, 0));
-    let state = (cell.is_down(), cell.posted(), cell.seen());
-    let shown = (cell.durable().is_some(), cell.learned().is_none());
-    let (pass, log) = cell.into_parts();
-    assert!(rt; messages == Some(1));
-    assert!(rt; state == (false, 1, 1));
-    assert!(rt; shown == (true, true));
+    let mut alone = make_alone(alloc, config, Node::Coordinator(0), &[])?;
+    begins(rt, config, &mut alone);
+    let (pass, log) = alone.cell.into_parts();
     assert!(rt; pass.seen() == 1);
     assert!(rt; log.is_some());
     Ok(())
+}
+
+// The coordinator begins the round in its first step.
+fn begins<R: Wait + Abort>(rt: &R, config: Config, alone: &mut Alone)
+    requires alone { IsAlone config (Coordinator 0) alone.old.wire alone.old.cell }
+    requires one { config.coordinators ≡ 1 }
+{
+    let Alone { wire, cell } = alone;
+    let messages = count_of(cell.step(rt, wire, Move::Begin(ROUND), &Idle, 0));
+    assert!(rt; messages == Some(1));
+    assert!(rt; (cell.is_down(), cell.posted(), cell.seen()) == (false, 1, 1));
+    assert!(rt; cell.durable().is_some());
+    assert!(rt; cell.learned().is_none());
 }
 
 #[test]
@@ -60,16 +80,25 @@ fn a_coordinator_waits_and_looks(rt: HostRuntime) -> Result<(), Fail> {
 
 fn check_look<R: Wait + Abort>(rt: &R, alloc: Global) -> Result<(), Fail> {
     let config = Config::new(3, 1, 1).or(Err("no configuration"))?;
-    let Alone { wire, mut cell } = make_alone(alloc, config, Node::Coordinator(0), &[])?;
-    let early = is_waiting(cell.step(rt, &wire, Move::Take(0), &Idle, 0));
+    let mut alone = make_alone(alloc, config, Node::Coordinator(0), &[])?;
+    waits_and_looks(rt, config, &mut alone);
+    Ok(())
+}
+
+// The coordinator waits for a message, begins the round, and then sees its own message.
+fn waits_and_looks<R: Wait + Abort>(rt: &R, config: Config, alone: &mut Alone)
+    requires alone { IsAlone config (Coordinator 0) alone.old.wire alone.old.cell }
+    requires one { config.coordinators ≡ 1 }
+{
+    let Alone { wire, cell } = alone;
+    let early = is_waiting(cell.step(rt, wire, Move::Take(0), &Idle, 0));
     assert!(rt; early);
     assert!(rt; !cell.is_down());
-    let messages = count_of(cell.step(rt, &wire, Move::Begin(ROUND), &Idle, 1));
-    let first = kind_of(cell.look(rt, &wire, 0));
-    let second = kind_of(cell.look(rt, &wire, 1));
+    let messages = count_of(cell.step(rt, wire, Move::Begin(ROUND), &Idle, 1));
+    let first = kind_of(cell.look(rt, wire, 0));
+    let second = kind_of(cell.look(rt, wire, 1));
     assert!(rt; messages == Some(1));
     assert!(rt; (first, second) == (Some(MsgKind::P1a), None));
-    Ok(())
 }
 
 // How many messages there are after a step.

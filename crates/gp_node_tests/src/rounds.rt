@@ -99,6 +99,26 @@ fn a_calm_has_two_looks(rt: HostRuntime) -> Result<(), Fail> {
     Ok(())
 }
 
+// A wire at which commands that write these keys were offered, and the passes of the other nodes.
+fn offered<R: Threads + Wait + Sync>(
+    rt: &R,
+    alloc: Global,
+    config: Config,
+    keys: &[u8],
+) -> Result<(Wire<PaxosRules>, Vec<Pass>), NoMemory>
+    ensures rules { IfOk result (λ w. w.0.rules.config ≡ config) }
+    ensures fresh { IfOk result (λ w. Each (IsFresh w.0) w.1.items) }
+{
+    let (wire, mut passes) = Wire::new(alloc, PaxosRules { config }, &NODES)?;
+    let Some(pass) = passes.pop() else {
+        return Err(NoMemory);
+    };
+    if !offer(rt, alloc, config, &wire, pass, keys)? {
+        return Err(NoMemory);
+    }
+    Ok((wire, passes))
+}
+
 // Offers commands that write these keys, and runs the work phases.
 fn run<R: Threads + Wait + Sync>(
     rt: &R,
@@ -108,13 +128,7 @@ fn run<R: Threads + Wait + Sync>(
     calls: &[Call],
 ) -> Result<Outcome, NoMemory> {
     let keys = scene.0.as_bytes();
-    let (wire, mut passes) = Wire::new(alloc, PaxosRules { config }, &NODES)?;
-    let Some(pass) = passes.pop() else {
-        return Err(NoMemory);
-    };
-    if !offer(rt, alloc, config, &wire, pass, keys)? {
-        return Err(NoMemory);
-    }
+    let (wire, passes) = offered(rt, alloc, config, keys)?;
     let mut jobs = jobs_of(alloc, config, &wire, passes, scene)?;
     let Some(at) = jobs.len().checked_sub(1) else {
         return Err(NoMemory);

@@ -97,7 +97,6 @@ fn few(number: u64) -> Result<u64, Large>
 
 // Whether settling after these steps takes this many events, after which every learner holds this
 // many commands.
-#[tactic(auto, using(crate::proofs::Small::few_rounds, crate::proofs::Small::few_settled))]
 fn settles(rt: &impl Wait, alloc: Global, steps: &[Step], row: Row) -> Result<bool, Fail> {
     let (acceptors, coordinators, learners, events, commands) = row;
     let config = Config::new(acceptors, coordinators, learners)?;
@@ -105,12 +104,24 @@ fn settles(rt: &impl Wait, alloc: Global, steps: &[Step], row: Row) -> Result<bo
     if !all_happen(&mut world, alloc, steps)? {
         return Ok(false);
     }
+    takes_to_settle(rt, &mut world, events, commands)
+}
+
+// Whether settling a world takes this many events, after which every learner holds this many
+// commands.
+#[tactic(auto, using(crate::proofs::Small::few_rounds, crate::proofs::Small::few_settled))]
+fn takes_to_settle(
+    rt: &impl Wait,
+    world: &mut World,
+    events: u64,
+    commands: usize,
+) -> Result<bool, Fail> {
     let _records = few(world.records().len() as u64)?;
     let _messages = few(world.messages())?;
     let _rounds = few(world.top_count() as u64)?;
     in_range(world.config());
-    let made = settle(rt, &mut world)?;
-    Ok(made == events && all_hold(&world, commands))
+    let made = settle(rt, world)?;
+    Ok(made == events && all_hold(world, commands))
 }
 
 #[test]

@@ -1,5 +1,5 @@
 //! The cells of a whole configuration, over disks in memory.
-ghost use Rattle.std.specs.Prelude.{◌≡◌, ◌≤◌, [], true, None, map, IfOk};
+ghost use Rattle.std.specs.Prelude.{◌≡◌, ◌≤◌, [], true, None, map, IfOk, OnOk};
 ghost use Rattle.gp_msg.specs.Nodes.{is_present};
 ghost use Rattle.gp_wire.specs.Known.{records};
 ghost use Rattle.gp_wire.specs.Fresh.{AreFresh};
@@ -112,13 +112,13 @@ fn make_cell<R: Wait>(
 {
     let node = pass.node();
     let log = log_for(alloc, config, node, disks)?;
-    let Ok(cell) = Cell::new(alloc, config, node, log, pass) else {
+    let Ok(mut cell) = Cell::new(alloc, config, node, log, pass) else {
         return Err(NoMemory);
     };
-    match node {
-        Node::Proposer(p) if p < 2 => offer(rt, alloc, wire, cell),
-        _ => Ok(cell),
+    if let Node::Proposer(0 | 1) = node {
+        offer(rt, alloc, wire, &mut cell)?;
     }
+    Ok(cell)
 }
 
 // A proposer that has posted nothing offers a command.
@@ -126,20 +126,19 @@ fn offer<R: Wait>(
     rt: &R,
     alloc: Global,
     wire: &Wire<PaxosRules>,
-    cell: Cell<MemDisk>,
-) -> Result<Cell<MemDisk>, NoMemory>
-    requires at { IsAt cell wire.now }
-    requires up { cell.down ≡ None }
-    requires proposer { IsProposer cell.node }
-    requires none { own cell.node (records cell.pass) ≡ [] }
-    ensures { IfOk result (IsReadyCell wire.now cell.node) }
+    cell: &mut Cell<MemDisk>,
+) -> Result<(), NoMemory>
+    requires at { IsAt cell.old wire.now }
+    requires up { cell.old.down ≡ None }
+    requires proposer { IsProposer cell.old.node }
+    requires none { own cell.old.node (records cell.old.pass) ≡ [] }
+    ensures { OnOk result (IsReadyCell wire.now cell.old.node cell.new) }
 {
-    let mut cell = cell;
     let Ok(draft) = Draft::new(alloc, &[], b"x") else {
         return Err(NoMemory);
     };
     match cell.step(rt, wire, Move::Offer(draft), &Idle, 0) {
-        Ok(_) => Ok(cell),
+        Ok(_) => Ok(()),
         Err(_) => Err(NoMemory),
     }
 }

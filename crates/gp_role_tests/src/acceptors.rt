@@ -259,16 +259,22 @@ fn what_is_held_is_of_one_epoch(rt: HostRuntime) -> Result<(), Fail> {
     plays(&rt, rt.alloc(), &HELD_IN_EPOCHS)
 }
 
-#[test]
-fn a_crash_keeps_the_part_of_a_later_step(rt: HostRuntime) -> Result<(), Fail> {
-    let alloc = rt.alloc();
-    let mut acceptor = Acceptor::new(alloc, &three()?, 1)?;
+// The acceptor crashes, and restarts with the part of a later step.
+fn falls_later(alloc: Global, acceptor: &mut Acceptor) -> Result<(), Fail> {
     acceptor.fall(Durable::Acceptor {
         epoch: 3,
         round: MULTI_2,
         voted: MULTI_2,
         vote: history(alloc, "ab")?,
     });
+    Ok(())
+}
+
+#[test]
+fn a_crash_keeps_the_part_of_a_later_step(rt: HostRuntime) -> Result<(), Fail> {
+    let alloc = rt.alloc();
+    let mut acceptor = Acceptor::new(alloc, &three()?, 1)?;
+    falls_later(alloc, &mut acceptor)?;
     assert!(rt; keeps(alloc, &acceptor, 3, MULTI_2, MULTI_2, "ab")?);
     // that of a coordinator has no vote
     acceptor.fall(Durable::Coordinator {

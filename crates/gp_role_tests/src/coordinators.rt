@@ -1,4 +1,7 @@
 //! The steps of coordinator 0 of three, with three acceptors.
+ghost use Rattle.std.specs.Prelude.{◌≡◌, true};
+ghost use Rattle.gp_round.specs.Configs.{is_owner};
+
 use crate::coordinators::Step::{Crashes, IsCopied, Keeps, Takes};
 use crate::scene::Text::{self, Final, Nothing, P1a, P1b, P2a, P2b, Propose};
 use crate::scene::{
@@ -234,9 +237,23 @@ fn begun(rt: &impl Abort, alloc: Global, epoch: u32, round: Round) -> Result<Coo
     let mut coordinator = Coordinator::new(alloc, &config, 0)?;
     coordinator.fall(Durable::Coordinator { epoch, round: ZERO });
     assert!(rt; config.owns(0, round));
+    begins(rt, alloc, &mut coordinator, epoch, round)?;
+    Ok(coordinator)
+}
+
+// Coordinator 0 begins a round of its epoch, and asks the acceptors to join.
+fn begins(
+    rt: &impl Abort,
+    alloc: Global,
+    coordinator: &mut Coordinator,
+    epoch: u32,
+    round: Round,
+) -> Result<(), Fail>
+    requires { is_owner coordinator.old.state.config.coordinators coordinator.old.state.number round ≡ true }
+{
     let outs = coordinator.begin(round)?;
     assert!(rt; is_sent(alloc, &outs, epoch, P1a(round))?);
-    Ok(coordinator)
+    Ok(())
 }
 
 // It begins a round of epoch 0, and these are its next steps.
@@ -255,21 +272,21 @@ fn a_coordinator_opens_at_round_zero(rt: HostRuntime) -> Result<(), Fail> {
     Ok(())
 }
 
-// Whether a round that is begun again sends nothing, and stays.
-fn begins_once(alloc: Global) -> Result<bool, Fail> {
-    let config = three()?;
-    let mut coordinator = Coordinator::new(alloc, &config, 0)?;
-    if !config.owns(0, SINGLE_1) {
-        return Ok(false);
-    }
-    coordinator.begin(SINGLE_1)?;
-    let again = coordinator.begin(SINGLE_1)?;
-    Ok(is_sent(alloc, &again, 0, Nothing)? && keeps(&coordinator, 0, SINGLE_1))
+// Whether a round of coordinator 0 that is begun again sends nothing, and stays.
+fn begins_once(alloc: Global, coordinator: &mut Coordinator, round: Round) -> Result<bool, Fail>
+    requires { is_owner coordinator.old.state.config.coordinators coordinator.old.state.number round ≡ true }
+{
+    coordinator.begin(round)?;
+    let again = coordinator.begin(round)?;
+    Ok(is_sent(alloc, &again, 0, Nothing)? && keeps(coordinator, 0, round))
 }
 
 #[test]
 fn a_round_is_begun_once(rt: HostRuntime) -> Result<(), Fail> {
-    assert!(rt; begins_once(rt.alloc())?);
+    let config = three()?;
+    let mut coordinator = Coordinator::new(rt.alloc(), &config, 0)?;
+    assert!(rt; config.owns(0, SINGLE_1));
+    assert!(rt; begins_once(rt.alloc(), &mut coordinator, SINGLE_1)?);
     Ok(())
 }
 

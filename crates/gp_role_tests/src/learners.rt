@@ -1,9 +1,14 @@
 //! The steps of learner 1, with three acceptors.
+ghost use Rattle.std.specs.Prelude.{◌≡◌};
+ghost use Rattle.gp_msg.specs.Messages.{message_of};
+ghost use Rattle.gp_learner.specs.Epochs.{CanTake};
+
 use crate::learners::Step::{Crashes, IsCopied, Takes};
 use crate::scene::Text::{self, Final, Nothing, P1a, P1b, P2a, P2b, Propose};
 use crate::scene::{FAST_1, SINGLE_1, SINGLE_2, ZERO, epoch_of, history, is_sent, message, three};
 use gp_history::Hist;
 use gp_learner::Learner;
+use gp_msg::Msg;
 use std::alloc::Global;
 use std::process::Abort;
 use std::test::Fail;
@@ -192,17 +197,31 @@ fn a_final_closes_the_epoch(rt: HostRuntime) -> Result<(), Fail> {
 }
 
 // A Final of the greatest epoch is one of another epoch.
-fn passes_over_the_last_epoch(rt: &impl Abort, alloc: Global) -> Result<(), Fail> {
-    let mut learner = Learner::new(alloc, &three()?, 1)?;
+fn passes_over_the_last_epoch(
+    rt: &impl Abort,
+    alloc: Global,
+    learner: &mut Learner,
+) -> Result<(), Fail>
+    requires { learner.old.epoch ≡ 0 }
+{
     if let Some(last) = message(alloc, u32::MAX, Final(0, "a1"))? {
-        let outs = learner.take(&last)?;
-        assert!(rt; outs.as_slice().is_empty());
-        assert!(rt; learner.learned().len() == 0);
+        passes_over(rt, learner, &last)?;
     }
+    Ok(())
+}
+
+// The learner sends nothing for a message, and has learned nothing after it.
+fn passes_over(rt: &impl Abort, learner: &mut Learner, m: &Msg) -> Result<(), Fail>
+    requires { CanTake learner.old (message_of m.now) }
+{
+    let outs = learner.take(m)?;
+    assert!(rt; outs.as_slice().is_empty());
+    assert!(rt; learner.learned().len() == 0);
     Ok(())
 }
 
 #[test]
 fn a_final_of_the_greatest_epoch_is_of_another(rt: HostRuntime) -> Result<(), Fail> {
-    passes_over_the_last_epoch(&rt, rt.alloc())
+    let mut learner = Learner::new(rt.alloc(), &three()?, 1)?;
+    passes_over_the_last_epoch(&rt, rt.alloc(), &mut learner)
 }

@@ -33,9 +33,14 @@ fn check(
     kind: MsgKind,
 ) -> Result<(), Fail> {
     if let Some(m) = message(alloc, epoch, text)? {
-        assert!(rt; m.kind() == kind);
-        assert!(rt; are_alike(&m.copy()?, &m));
+        check_message(rt, &m, kind)?;
     }
+    Ok(())
+}
+
+fn check_message(rt: &impl Abort, m: &Msg, kind: MsgKind) -> Result<(), Fail> {
+    assert!(rt; m.kind() == kind);
+    assert!(rt; are_alike(&m.copy()?, m));
     Ok(())
 }
 
@@ -69,6 +74,11 @@ fn durable_parts_have_copies(rt: HostRuntime) -> Result<(), Fail> {
         vote: history(alloc, "aX")?,
     };
     assert!(rt; is_that_part(&acceptor.copy()?, &history(alloc, "aX")?));
+    Ok(())
+}
+
+#[test]
+fn a_part_without_a_vote_has_copies(rt: HostRuntime) -> Result<(), Fail> {
     let coordinator = Durable::Coordinator {
         epoch: 7,
         round: FAST_1,
@@ -166,11 +176,18 @@ fn is_that_record(record: &Record, sent: &Outs) -> bool {
 fn records_hold_messages_in_their_order(rt: HostRuntime) -> Result<(), Fail> {
     let alloc = rt.alloc();
     let mut records = Records::new(alloc);
-    records.push(record(alloc)?.copy()?)?;
-    records.push(record(alloc)?)?;
+    push_two(alloc, &mut records)?;
     let want = sent(alloc)?;
     assert!(rt; records.as_slice().len() == 2);
     assert!(rt; want.as_slice().len() == 6);
     assert!(rt; records.as_slice().iter().all(|r| is_that_record(r, &want)));
+    Ok(())
+}
+
+// Appends a copy of the record, and the record.
+fn push_two(alloc: Global, records: &mut Records) -> Result<(), Fail> {
+    let copy = record(alloc)?.copy()?;
+    records.push(copy)?;
+    records.push(record(alloc)?)?;
     Ok(())
 }

@@ -58,15 +58,22 @@ static AMONG_FOUR: [Row; 3] = [
 fn is_picked(alloc: Global, config: &Config, row: Row) -> Result<bool, Fail> {
     let (replies, want) = row;
     let mut answers = Vec::new(alloc);
-    for (acceptor, round, word) in replies {
-        answers.push(Answer {
-            acceptor: *acceptor,
-            round: *round,
-            vote: history(alloc, word)?,
-        })?;
+    for reply in replies {
+        push_answer(alloc, *reply, &mut answers)?;
     }
     let picked = pick(alloc, config, &answers)?;
     Ok(picked.same(&history(alloc, want)?))
+}
+
+fn push_answer(alloc: Global, reply: Reply, answers: &mut Vec<Answer>) -> Result<(), Fail> {
+    let (acceptor, round, word) = reply;
+    let vote = history(alloc, word)?;
+    answers.push(Answer {
+        acceptor,
+        round,
+        vote,
+    })?;
+    Ok(())
 }
 
 fn are_picked(rt: &impl Abort, alloc: Global, acceptors: u32, rows: &[Row]) -> Result<(), Fail> {

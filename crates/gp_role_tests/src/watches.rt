@@ -20,18 +20,25 @@ fn sees(rt: &impl Abort, alloc: Global, round: Round, steps: &[Step]) -> Result<
     let mut watch = Watch::new(alloc, EPOCH, round)?;
     assert!(rt; !watch.clashed());
     for (text, clashed) in steps {
-        watch.see(&message(alloc, EPOCH, *text)?)?;
-        assert!(rt; watch.clashed() == *clashed, "after {text:?}");
+        assert!(rt;
+            clashes(alloc, &mut watch, EPOCH, *text)? == *clashed,
+            "after {text:?}"
+        );
     }
     Ok(())
+}
+
+// Whether the watch has noticed a collision after this message.
+fn clashes(alloc: Global, watch: &mut Watch, epoch: u32, text: Text) -> Result<bool, Fail> {
+    watch.see(&message(alloc, epoch, text)?)?;
+    Ok(watch.clashed())
 }
 
 fn sees_epochs(rt: &impl Abort, alloc: Global, steps: &[EpochStep]) -> Result<(), Fail> {
     let mut watch = Watch::new(alloc, EPOCH, FAST_1)?;
     for (epoch, text, clashed) in steps {
-        watch.see(&message(alloc, *epoch, *text)?)?;
         assert!(rt;
-            watch.clashed() == *clashed,
+            clashes(alloc, &mut watch, *epoch, *text)? == *clashed,
             "after {text:?} of epoch {epoch}"
         );
     }
