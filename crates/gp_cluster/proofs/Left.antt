@@ -9,14 +9,17 @@ use Rattle.gp_round.specs.Counts.{Counts}
 use Rattle.gp_msg.specs.declared.record.Record.{Record}
 use Rattle.gp_vlog.specs.Logs.{LogState}
 use Rattle.gp_shelf.specs.Lists.{HasRoomFor}
+use Rattle.gp_shelf.specs.Making.{HasCause}
+use Rattle.gp_shelf.specs.declared.making.LendFault.{LendFault}
+use Rattle.gp_shelf.specs.declared.making.LendFault.TheVariants as fault
 use Rattle.gp_ending.specs.declared.ends.RunEnd.{RunEnd}
-use Rattle.gp_ending.specs.declared.ends.RunEnd.TheVariants.{Learned, NoMemory}
+use Rattle.gp_ending.specs.declared.ends.RunEnd.TheVariants.{Learned, NoMemory, Disk}
 use Rattle.gp_cluster.specs.Cells.{LogGoes}
 use Rattle.gp_cluster.specs.Offers.{AreOffered}
 use Rattle.gp_cluster.specs.declared.policy.RoundPolicy.{RoundPolicy}
 use Rattle.gp_cluster.specs.declared.policy.RoundPolicy.TheVariants.{Adaptive}
-use Rattle.gp_cluster.specs.Runs.{IsRunOf}
-use Rattle.gp_cluster.specs.Seated.{RunsFrom}
+use Rattle.gp_cluster.specs.Runs.{IsRunOf, EndCause}
+use Rattle.gp_cluster.specs.Seated.{RunsFrom, lent_end}
 
 not_learned : {P : Type 0} → NoMemory ≡ Learned → P
 not_learned e = absurd cc
@@ -71,3 +74,12 @@ module _ {D : Type 0} (faults : D → ℕ) where
   -- the logs of a run fit where its first ones did
   pub as_many_logs : (first last : List (LogState D)) (room : Vec (LogState D)) → AllZip (LogGoes faults) first last → HasRoomFor (length first) room → HasRoomFor (length last) room
   as_many_logs first last room goes fits = (fits.0, let long = AllZip-long (LogGoes faults) first last goes in subst (λ n. n ≤ vec_capacity room) (sym long) fits.1)
+
+-- a run whose logs could not be made
+pub unlent_end : (why : LendFault) (end : RunEnd) → end ≡ lent_end why → (end ≡ NoMemory) ⊎ (end ≡ Disk)
+unlent_end fault.Disk end is = inr is
+unlent_end fault.NoMemory end is = inl is
+
+pub unlent_cause : {D : Type 0} (content : D → Option (List ℕ)) (faults : D → ℕ) (config : Counts) (limit : ℕ) (old new : List D) (why : LendFault) (end : RunEnd) → end ≡ lent_end why → HasCause faults old new why → EndCause content faults config limit old new None end
+unlent_cause content faults config limit old new fault.Disk end is cause = subst (λ e. EndCause content faults config limit old new None e) (sym is) cause
+unlent_cause content faults config limit old new fault.NoMemory end is cause = subst (λ e. EndCause content faults config limit old new None e) (sym is) tt

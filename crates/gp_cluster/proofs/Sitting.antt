@@ -49,10 +49,14 @@ module _ {D : Type 0} (faults : D → ℕ) (config : Counts) (wire : WireState P
   pub distinct : IsDistinct wire.nodes
   distinct = subst IsDistinct (sym s.nodes) (all_distinct config)
 
+  -- the others are the proposers
+  pub proposing_nodes : nodes_of proposing ≡ proposer_nodes
+  proposing_nodes = ap nodes_of s.proposers_are ∙ seated_nodes {D = D} config wire proposer_nodes []
+
   pub count_nodes : length jobs + length proposing ≡ config.acceptors + config.coordinators + config.learners + 8
   count_nodes =
       let all : length jobs ≡ length (working_nodes config) = sym (length-map jobs node_in) ∙ ap length jobs_nodes in
-      let others : length proposing ≡ length proposer_nodes = sym (length-map proposing node_in) ∙ ap length (ap nodes_of s.proposers_are ∙ seated_nodes {D = D} config wire proposer_nodes []) in
+      let others : length proposing ≡ length proposer_nodes = sym (length-map proposing node_in) ∙ ap length proposing_nodes in
       let both = length-append (logged_nodes config) (first_of Learner config.learners) in
       let first = length_logged config in let last = length_first Learner config.learners in let eight = length_proposers in omega (arith, all, others, both, first, last, eight)
 

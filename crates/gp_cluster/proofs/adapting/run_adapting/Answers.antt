@@ -164,3 +164,39 @@ returns-clause-run g c =
     let run = carried_run Adaptive g.D.Disk.content g.D.Disk.faults c.args.config c.args.seated.wire c.args.offers.now c.args.seated.jobs.items c.args.seated.proposers.items c.go_on-worked.result.jobs.items c.in-Ok-offer_all.offered.items c.requires.seated size carried offers.size offers.offered offers.worked
     c.go_on-worked.result.end (let k = c.know.ensures.acceptors in omega arith) c.go_on-worked.new.caller.calls.items rests c.requires.known later.decided in
     c.close_run-2.ensures.run Adaptive c.args.offers.now c.args.seated.jobs.items c.args.seated.proposers.items (ap length c.as_slice-commands.ensures) run
+
+pub unclosed-requires-clause-cells_room : goal.unclosed-requires-clause-cells_room
+unclosed-requires-clause-cells_room g c = (c.requires.cells_room.0, let most = c.requires.cells_room.1 in omega (arith, most))
+
+pub unclosed-requires-clause-logs_room : goal.unclosed-requires-clause-logs_room
+unclosed-requires-clause-logs_room g c = c.requires.logs_room
+
+pub returns-in_default-clause-topics : goal.returns-in_default-clause-topics
+returns-in_default-clause-topics g c = refl
+
+pub work-rested-requires-clause-config : goal.work-rested-requires-clause-config
+work-rested-requires-clause-config g c κs within = c.requires.seated.rules
+
+pub work-rested-requires-clause-none : goal.work-rested-requires-clause-none
+work-rested-requires-clause-none g c κs within = c.in-Ok-new.ensures.none
+
+pub returns-then-is_some-clause-topics : goal.returns-then-is_some-clause-topics
+returns-then-is_some-clause-topics g c = c.work-rested.ensures.topics
+
+pub offer_all-requires-clause-nodes : goal.offer_all-requires-clause-nodes
+offer_all-requires-clause-nodes g c κs within = sitting.proposing_nodes g.D.Disk.faults c.args.config c.args.seated.wire c.args.seated.jobs.items c.args.seated.proposers.items c.requires.seated
+
+pub offer_all-requires-clause-few : goal.offer_all-requires-clause-few
+offer_all-requires-clause-few g c κs within = c.requires.few
+
+pub offer_all-requires-clause-known : goal.offer_all-requires-clause-known
+offer_all-requires-clause-known g c κs within = c.requires.known
+
+pub unclosed-requires-in_default-offer_all-clause-cells_room : goal.unclosed-requires-in_default-offer_all-clause-cells_room
+unclosed-requires-in_default-offer_all-clause-cells_room g c = (c.requires.cells_room.0, let most = c.requires.cells_room.1 in let size = c.work-rested.ensures.size in omega (arith, most, size))
+
+pub returns-in_default-offer_all-clause-topics : goal.returns-in_default-offer_all-clause-topics
+returns-in_default-offer_all-clause-topics g c = c.work-rested.ensures.topics
+
+pub returns-clause-topics : goal.returns-clause-topics
+returns-clause-topics g c = c.go_on-worked.ensures.topics ∙ c.work-rested.ensures.topics

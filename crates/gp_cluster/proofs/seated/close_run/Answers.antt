@@ -1,7 +1,8 @@
 use Rattle.std.proofs.Common.{◌≡◌, List, ◌++◌, length, sym, ap, ◌∙◌, subst, arith}
 use Rattle.gp_vlog.specs.Logs.{LogState}
 use Rattle.gp_cell.specs.Cells.{CellState}
-use Rattle.gp_ending.specs.Ended.{cells_of}
+use Rattle.std.proofs.lemmas.List.{length-map}
+use Rattle.gp_ending.specs.Ended.{cell_in, cells_of}
 use Rattle.gp_shelf.specs.Lists.{HasRoomFor}
 use Rattle.gp_stage.specs.Held.{AreUp}
 use Rattle.gp_cluster.specs.Cells.{AreCellsAt, logs_of}
@@ -61,3 +62,11 @@ returns-clause-run g c policy offers jobs proposing many run =
 pub returns-clause-early : goal.returns-clause-early
 returns-clause-early g c learned =
     left_early g.D.Disk.faults c.args.config c.args.commands c.take_cells-2.new.cells.items c.args.worked.jobs.items c.args.worked.end c.conclude.result.end c.conclude.result.posted c.conclude.result.logs.items c.requires.run.run.decided c.conclude.ensures.left learned
+
+pub take_cells-requires-2 : goal.take_cells-requires-2
+take_cells-requires-2 g c =
+    let room = c.requires.cells_room in
+    let most = room.1 in
+    let same = c.take_cells.ensures.room in
+    let size : length c.take_cells.new.cells.items ≡ length c.args.worked.jobs.items = ap length (c.take_cells.ensures.cells ∙ ap (λ (l : List (CellState g.row.D.Denot)). l ++ cells_of c.args.worked.jobs.items) room.0) ∙ length-map c.args.worked.jobs.items cell_in in
+    omega (arith, most, same, size)

@@ -66,3 +66,46 @@ returns-clause-run g c =
     let run = carried_run Multi g.D.Disk.content g.D.Disk.faults c.args.config c.args.seated.wire c.args.offers.now c.args.seated.jobs.items c.args.seated.proposers.items c.work-worked.result.jobs.items c.in-Ok-offer_all.offered.items c.requires.seated c.work-worked.ensures.size c.work-worked.ensures.carried offers.size offers.offered offers.worked
     c.work-worked.result.end (let k = c.know.ensures.acceptors in omega arith) c.work-worked.new.caller.calls rests c.requires.known c.work-worked.ensures.decided in
     c.close_run.ensures.run Multi c.args.offers.now c.args.seated.jobs.items c.args.seated.proposers.items (ap length c.as_slice-commands.ensures) run
+
+pub unclosed-requires-clause-cells_room : goal.unclosed-requires-clause-cells_room
+unclosed-requires-clause-cells_room g c = (c.requires.cells_room.0, let most = c.requires.cells_room.1 in omega (arith, most))
+
+pub unclosed-requires-clause-logs_room : goal.unclosed-requires-clause-logs_room
+unclosed-requires-clause-logs_room g c = c.requires.logs_room
+
+pub returns-in_default-clause-topics : goal.returns-in_default-clause-topics
+returns-in_default-clause-topics g c = refl
+
+pub offer_all-requires-clause-nodes : goal.offer_all-requires-clause-nodes
+offer_all-requires-clause-nodes g c κs within = sitting.proposing_nodes g.D.Disk.faults c.args.config c.args.seated.wire c.args.seated.jobs.items c.args.seated.proposers.items c.requires.seated
+
+pub offer_all-requires-clause-few : goal.offer_all-requires-clause-few
+offer_all-requires-clause-few g c κs within = c.requires.few
+
+pub offer_all-requires-clause-known : goal.offer_all-requires-clause-known
+offer_all-requires-clause-known g c κs within = c.requires.known
+
+pub unclosed-requires-in_default-offer_all-clause-cells_room : goal.unclosed-requires-in_default-offer_all-clause-cells_room
+unclosed-requires-in_default-offer_all-clause-cells_room g c = (c.requires.cells_room.0, let most = c.requires.cells_room.1 in omega (arith, most))
+
+pub unclosed-requires-in_default-offer_all-clause-logs_room : goal.unclosed-requires-in_default-offer_all-clause-logs_room
+unclosed-requires-in_default-offer_all-clause-logs_room g c = c.requires.logs_room
+
+pub returns-in_default-offer_all-clause-topics : goal.returns-in_default-offer_all-clause-topics
+returns-in_default-offer_all-clause-topics g c = refl
+
+pub work-worked-requires-clause-config : goal.work-worked-requires-clause-config
+work-worked-requires-clause-config g c κs within = c.requires.seated.rules
+
+pub work-worked-requires-clause-none : goal.work-worked-requires-clause-none
+work-worked-requires-clause-none g c κs within = ap (λ x. x.calls) c.in-Ok.ensures.made
+
+pub close_run-requires-clause-cells_room : goal.close_run-requires-clause-cells_room
+close_run-requires-clause-cells_room g c =
+    let most = c.requires.cells_room.1 in
+    let size = c.work-worked.ensures.size in
+    let offered = c.in-Ok-offer_all.ensures.size in
+    (c.requires.cells_room.0, omega (arith, most, size, offered))
+
+pub returns-clause-topics : goal.returns-clause-topics
+returns-clause-topics g c = c.work-worked.ensures.topics
