@@ -45,11 +45,16 @@ pub fn touching(alloc: Global, key: &[u8], access: Access) -> Result<Draft, Fail
     Ok(draft)
 }
 
+/// Pushes the command of a letter: whether it was not there yet.
+pub fn push_letter<H: Hist>(alloc: Global, history: &mut H, letter: u8) -> Result<bool, Fail> {
+    Ok(history.push(command(alloc, letter)?)?)
+}
+
 /// The history of a word: its letters are pushed in their order.
 pub fn history<H: Hist>(alloc: Global, word: &str) -> Result<H, Fail> {
     let mut history = H::empty(alloc)?;
     for letter in word.as_bytes() {
-        history.push(command(alloc, *letter)?)?;
+        push_letter(alloc, &mut history, *letter)?;
     }
     Ok(history)
 }
@@ -57,10 +62,15 @@ pub fn history<H: Hist>(alloc: Global, word: &str) -> Result<H, Fail> {
 /// The letters of a history, in the order of its sequence.
 pub fn letters<H: Hist>(alloc: Global, history: &H) -> Result<Vec<u8>, Fail> {
     let mut letters = Vec::new(alloc);
+    push_letters(history, &mut letters)?;
+    Ok(letters)
+}
+
+fn push_letters<H: Hist>(history: &H, letters: &mut Vec<u8>) -> Result<(), Fail> {
     for place in 0..history.len() {
         letters.push(letter(history.at(place)))?;
     }
-    Ok(letters)
+    Ok(())
 }
 
 /// The letter of a command.

@@ -54,17 +54,40 @@ fn are_alike(rt: &impl Abort, alloc: Global, word: &str) -> Result<(), Fail> {
 // Every call, on the history of a word.
 fn see_all<H: Hist>(rt: &impl Abort, alloc: Global, word: &str) -> Result<Vec<Seen>, Fail> {
     let mut seen = Vec::new(alloc);
-    let mut history: H = see_pushes(alloc, word, &mut seen)?;
-    see_places(&history, &mut seen)?;
-    see_letters(alloc, &history, &mut seen)?;
-    see_others(alloc, &history, &mut seen)?;
-    see_next(rt, alloc, &history, &mut seen)?;
+    see_word::<H>(rt, alloc, word, &mut seen)?;
+    Ok(seen)
+}
+
+fn see_word<H: Hist>(
+    rt: &impl Abort,
+    alloc: Global,
+    word: &str,
+    seen: &mut Vec<Seen>,
+) -> Result<(), Fail> {
+    let mut history: H = see_pushes(alloc, word, seen)?;
+    see_reads(rt, alloc, &history, seen)?;
+    see_clear(alloc, &mut history, seen)
+}
+
+fn see_reads<H: Hist>(
+    rt: &impl Abort,
+    alloc: Global,
+    history: &H,
+    seen: &mut Vec<Seen>,
+) -> Result<(), Fail> {
+    see_places(history, seen)?;
+    see_letters(alloc, history, seen)?;
+    see_others(alloc, history, seen)?;
+    see_next(rt, alloc, history, seen)
+}
+
+// A copy and the history itself after a clear.
+fn see_clear<H: Hist>(alloc: Global, history: &mut H, seen: &mut Vec<Seen>) -> Result<(), Fail> {
     let copy = history.copy()?;
     history.clear();
-    see_places(&copy, &mut seen)?;
-    see_places(&history, &mut seen)?;
-    see_letters(alloc, &history, &mut seen)?;
-    Ok(seen)
+    see_places(&copy, seen)?;
+    see_places(history, seen)?;
+    see_letters(alloc, history, seen)
 }
 
 fn see_pushes<H: Hist>(alloc: Global, word: &str, seen: &mut Vec<Seen>) -> Result<H, Fail> {
@@ -102,11 +125,15 @@ fn see_letter<H: Hist>(history: &H, c: &Command, seen: &mut Vec<Seen>) -> Result
 
 fn see_others<H: Hist>(alloc: Global, of: &H, seen: &mut Vec<Seen>) -> Result<(), Fail> {
     for word in OTHERS {
-        let other: H = history(alloc, word)?;
-        seen.push(Seen::Prefix(of.is_prefix(&other)))?;
-        seen.push(Seen::Prefix(other.is_prefix(of)))?;
-        seen.push(Seen::Same(of.same(&other)))?;
+        see_other(of, &history(alloc, word)?, seen)?;
     }
+    Ok(())
+}
+
+fn see_other<H: Hist>(of: &H, other: &H, seen: &mut Vec<Seen>) -> Result<(), Fail> {
+    seen.push(Seen::Prefix(of.is_prefix(other)))?;
+    seen.push(Seen::Prefix(other.is_prefix(of)))?;
+    seen.push(Seen::Same(of.same(other)))?;
     Ok(())
 }
 
@@ -119,12 +146,22 @@ fn see_next<H: Hist>(
 ) -> Result<(), Fail> {
     let mut taken = H::empty(alloc)?;
     for _ in 0..10 {
-        assert!(rt; taken.is_prefix(history));
-        let next = history.next_least(&taken);
-        seen.push(Seen::Next(next.map(letter)))?;
-        if let Some(c) = next {
-            taken.push(c.copy()?)?;
-        }
+        see_one_next(rt, history, &mut taken, seen)?;
+    }
+    Ok(())
+}
+
+fn see_one_next<H: Hist>(
+    rt: &impl Abort,
+    history: &H,
+    taken: &mut H,
+    seen: &mut Vec<Seen>,
+) -> Result<(), Fail> {
+    assert!(rt; taken.is_prefix(history));
+    let next = history.next_least(taken);
+    seen.push(Seen::Next(next.map(letter)))?;
+    if let Some(c) = next {
+        taken.push(c.copy()?)?;
     }
     Ok(())
 }

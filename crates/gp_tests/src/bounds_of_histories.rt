@@ -4,7 +4,6 @@ use gp_bounds::{compatible, join, join_all, meet, meet_all};
 use gp_history::{Hist, SeqHistory};
 use gp_index::History;
 use std::alloc::Global;
-use std::process::Abort;
 use std::test::Fail;
 
 // Two histories, whether they are compatible, their meet and their join, worked out by hand.
@@ -59,22 +58,27 @@ const PAIRS: [Pair; 24] = [
 #[test]
 fn pairs_have_the_bounds_that_were_worked_out(rt: HostRuntime) -> Result<(), Fail> {
     for pair in &PAIRS {
-        check::<SeqHistory, _>(&rt, rt.alloc(), pair)?;
-        check::<History, _>(&rt, rt.alloc(), pair)?;
+        assert!(rt; has_bounds::<SeqHistory>(rt.alloc(), pair)?);
+        assert!(rt; has_bounds::<History>(rt.alloc(), pair)?);
     }
     Ok(())
 }
 
-fn check<H: Hist, R: Abort>(rt: &R, alloc: Global, pair: &Pair) -> Result<(), Fail> {
-    let (first, second, want, met, joined) = *pair;
-    let a: H = history(alloc, first)?;
-    let b: H = history(alloc, second)?;
-    assert!(rt; compatible(&a, &b) == want);
-    assert!(rt; compatible(&b, &a) == want);
-    assert!(rt; is_meet(alloc, &a, &b, met)?);
-    assert!(rt; is_meet(alloc, &b, &a, met)?);
-    assert!(rt; is_join(alloc, &a, &b, joined)?);
-    Ok(())
+fn has_bounds<H: Hist>(alloc: Global, pair: &Pair) -> Result<bool, Fail> {
+    let a: H = history(alloc, pair.0)?;
+    let b: H = history(alloc, pair.1)?;
+    are_bounded(alloc, &a, &b, pair)
+}
+
+fn are_bounded<H: Hist>(alloc: Global, a: &H, b: &H, pair: &Pair) -> Result<bool, Fail> {
+    let (_, _, want, met, joined) = *pair;
+    Ok(
+        compatible(a, b) == want
+            && compatible(b, a) == want
+            && is_meet(alloc, a, b, met)?
+            && is_meet(alloc, b, a, met)?
+            && is_join(alloc, a, b, joined)?,
+    )
 }
 
 fn is_meet<H: Hist>(alloc: Global, a: &H, b: &H, word: &str) -> Result<bool, Fail> {

@@ -45,16 +45,23 @@ fn written(rt: &impl Abort, alloc: Global, command: &Command) -> Result<Vec<u8>,
 
 #[test]
 fn a_command_is_read_whatever_follows(rt: HostRuntime) -> Result<(), Fail> {
-    let alloc = rt.alloc();
-    let want = put_a_5(alloc)?;
-    for more in [0, 1, 9] {
-        let mut bytes = PUT_A_5.to_vec(alloc)?;
-        bytes.resize(21 + more, 0xff)?;
-        let (command, len) = read_command(alloc, &bytes)?;
-        assert!(rt; command == want);
-        assert!(rt; len == 21);
+    let want = put_a_5(rt.alloc())?;
+    for length in [21, 22, 30] {
+        assert!(rt; is_read_from(rt.alloc(), length, &want)?);
     }
     Ok(())
+}
+
+// Whether the command is read of its 21 bytes in an input of this length.
+fn is_read_from(alloc: Global, length: usize, want: &Command) -> Result<bool, Fail> {
+    let mut bytes = PUT_A_5.to_vec(alloc)?;
+    bytes.resize(length, 0xff)?;
+    is_read(alloc, &bytes, want, 21)
+}
+
+fn is_read(alloc: Global, bytes: &[u8], want: &Command, length: usize) -> Result<bool, Fail> {
+    let (command, len) = read_command(alloc, bytes)?;
+    Ok(command == *want && len == length)
 }
 
 #[test]
@@ -171,9 +178,7 @@ fn goes_both_ways(
     bytes: &[u8],
 ) -> Result<(), Fail> {
     assert!(rt; written(rt, alloc, command)?.as_slice() == bytes);
-    let (read, len) = read_command(alloc, bytes)?;
-    assert!(rt; read == *command);
-    assert!(rt; len == bytes.len());
+    assert!(rt; is_read(alloc, bytes, command, bytes.len())?);
     Ok(())
 }
 

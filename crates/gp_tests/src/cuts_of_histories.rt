@@ -4,7 +4,6 @@ use gp_epoch::{Done, cut, first_checkpoint};
 use gp_history::{Hist, SeqHistory};
 use gp_index::History;
 use std::alloc::Global;
-use std::process::Abort;
 use std::test::Fail;
 
 // A history, its first checkpoint, and its cut.
@@ -30,19 +29,17 @@ const CUTS: [Cut; 10] = [
 #[test]
 fn a_history_is_cut_at_its_first_checkpoint(rt: HostRuntime) -> Result<(), Fail> {
     for row in &CUTS {
-        check::<SeqHistory, _>(&rt, rt.alloc(), row)?;
-        check::<History, _>(&rt, rt.alloc(), row)?;
+        assert!(rt; is_cut::<SeqHistory>(rt.alloc(), row)?);
+        assert!(rt; is_cut::<History>(rt.alloc(), row)?);
     }
     Ok(())
 }
 
-fn check<H: Hist, R: Abort>(rt: &R, alloc: Global, row: &Cut) -> Result<(), Fail> {
+fn is_cut<H: Hist>(alloc: Global, row: &Cut) -> Result<bool, Fail> {
     let (word, first, want) = *row;
     let whole: H = history(alloc, word)?;
     let want: H = history(alloc, want)?;
-    assert!(rt; first_checkpoint(&whole).map(letter) == first);
-    assert!(rt; cut(alloc, &whole)?.same(&want));
-    Ok(())
+    Ok(first_checkpoint(&whole).map(letter) == first && cut(alloc, &whole)?.same(&want))
 }
 
 // Values, and the commands that are done after them.
@@ -62,22 +59,29 @@ const CLOSED: [Closed; 7] = [
 #[test]
 fn what_values_have_is_done(rt: HostRuntime) -> Result<(), Fail> {
     for (values, want) in CLOSED {
-        has_done(&rt, rt.alloc(), values, want)?;
+        assert!(rt; has_done(rt.alloc(), values, want)?);
     }
     Ok(())
 }
 
-fn has_done(rt: &impl Abort, alloc: Global, values: &[&str], want: &str) -> Result<(), Fail> {
+fn has_done(alloc: Global, values: &[&str], want: &str) -> Result<bool, Fail> {
     let mut done = Done::new(alloc)?;
+    add_all(alloc, &mut done, values)?;
+    Ok(is_done(alloc, &done, want)? && clears_one(alloc, &mut done, want)?)
+}
+
+fn add_all(alloc: Global, done: &mut Done, values: &[&str]) -> Result<(), Fail> {
     for value in values {
         done.add(&history(alloc, value)?)?;
     }
-    let copy = done.copy()?;
-    assert!(rt; is_done(alloc, &done, want)?);
-    done.clear();
-    assert!(rt; is_done(alloc, &done, "")?);
-    assert!(rt; is_done(alloc, &copy, want)?);
     Ok(())
+}
+
+// Whether a clear leaves a copy as it is.
+fn clears_one(alloc: Global, done: &mut Done, want: &str) -> Result<bool, Fail> {
+    let copy = done.copy()?;
+    done.clear();
+    Ok(is_done(alloc, done, "")? && is_done(alloc, &copy, want)?)
 }
 
 // Whether these letters are done, and no other.

@@ -1,5 +1,5 @@
 //! The calls of histories, in both representations.
-use crate::alphabet::{command, history, letters};
+use crate::alphabet::{command, history, letters, push_letter};
 use gp_history::{Hist, SeqHistory};
 use gp_index::History;
 use std::alloc::Global;
@@ -54,40 +54,52 @@ fn has_letters<H: Hist>(alloc: Global, history: &H, want: &str) -> Result<bool, 
 
 #[test]
 fn a_copy_stands_by_itself(rt: HostRuntime) -> Result<(), Fail> {
-    grow_apart::<SeqHistory, _>(&rt, rt.alloc())?;
-    grow_apart::<History, _>(&rt, rt.alloc())
+    assert!(rt; copies_grow_apart::<SeqHistory>(rt.alloc())?);
+    assert!(rt; copies_grow_apart::<History>(rt.alloc())?);
+    Ok(())
 }
 
-// Each of three copies grows, and the others stay as they are.
-fn grow_apart<H: Hist, R: Abort>(rt: &R, alloc: Global) -> Result<(), Fail> {
+fn copies_grow_apart<H: Hist>(alloc: Global) -> Result<bool, Fail> {
     let mut original: H = history(alloc, "WK")?;
     let mut copy = original.copy()?;
+    grow_apart(alloc, &mut original, &mut copy)
+}
+
+// Whether each of three copies grows, and the others stay as they are.
+fn grow_apart<H: Hist>(alloc: Global, original: &mut H, copy: &mut H) -> Result<bool, Fail> {
     let last = copy.copy()?;
-    assert!(rt; copy.same(&original));
-    assert!(rt; original.push(command(alloc, b'Y')?)?);
-    assert!(rt; has_letters(alloc, &copy, "WK")?);
-    assert!(rt; copy.push(command(alloc, b'L')?)?);
-    assert!(rt; has_letters(alloc, &original, "WKY")?);
-    assert!(rt; has_letters(alloc, &copy, "WKL")?);
-    assert!(rt; has_letters(alloc, &last, "WK")?);
-    Ok(())
+    let same = copy.same(original);
+    let grown = push_letter(alloc, original, b'Y')?;
+    let kept = has_letters(alloc, copy, "WK")?;
+    let grown_too = push_letter(alloc, copy, b'L')?;
+    Ok(same && grown && kept && grown_too && are_apart(alloc, original, copy, &last)?)
+}
+
+fn are_apart<H: Hist>(alloc: Global, original: &H, copy: &H, last: &H) -> Result<bool, Fail> {
+    Ok(
+        has_letters(alloc, original, "WKY")?
+            && has_letters(alloc, copy, "WKL")?
+            && has_letters(alloc, last, "WK")?,
+    )
 }
 
 #[test]
 fn a_clear_leaves_the_copies(rt: HostRuntime) -> Result<(), Fail> {
-    clear_one::<SeqHistory, _>(&rt, rt.alloc())?;
-    clear_one::<History, _>(&rt, rt.alloc())
+    assert!(rt; clears_one::<SeqHistory>(rt.alloc())?);
+    assert!(rt; clears_one::<History>(rt.alloc())?);
+    Ok(())
 }
 
-fn clear_one<H: Hist, R: Abort>(rt: &R, alloc: Global) -> Result<(), Fail> {
+fn clears_one<H: Hist>(alloc: Global) -> Result<bool, Fail> {
     let mut history: H = history(alloc, "KWA")?;
     let copy = history.copy()?;
     history.clear();
-    assert!(rt; history.len() == 0);
-    assert!(rt; has_letters(alloc, &copy, "KWA")?);
-    assert!(rt; history.push(command(alloc, b'W')?)?);
-    assert!(rt; has_letters(alloc, &history, "W")?);
-    Ok(())
+    let cleared = history.len() == 0;
+    Ok(cleared && has_letters(alloc, &copy, "KWA")? && begins_anew(alloc, &mut history)?)
+}
+
+fn begins_anew<H: Hist>(alloc: Global, history: &mut H) -> Result<bool, Fail> {
+    Ok(push_letter(alloc, history, b'W')? && has_letters(alloc, history, "W")?)
 }
 
 #[test]
@@ -155,36 +167,33 @@ const COMPARISONS: [Comparison; 24] = [
 #[test]
 fn histories_are_compared_by_their_order(rt: HostRuntime) -> Result<(), Fail> {
     for comparison in &COMPARISONS {
-        compare::<SeqHistory, _>(&rt, rt.alloc(), comparison)?;
-        compare::<History, _>(&rt, rt.alloc(), comparison)?;
+        assert!(rt; is_compared::<SeqHistory>(rt.alloc(), comparison)?);
+        assert!(rt; is_compared::<History>(rt.alloc(), comparison)?);
     }
     Ok(())
 }
 
-fn compare<H: Hist, R: Abort>(rt: &R, alloc: Global, of: &Comparison) -> Result<(), Fail> {
+fn is_compared<H: Hist>(alloc: Global, of: &Comparison) -> Result<bool, Fail> {
     let first: H = history(alloc, of.0)?;
     let second: H = history(alloc, of.1)?;
-    assert!(rt; first.is_prefix(&second) == of.2);
-    assert!(rt; first.same(&second) == of.3);
-    assert!(rt; second.same(&first) == of.3);
-    Ok(())
+    let same = first.same(&second) == of.3 && second.same(&first) == of.3;
+    Ok(same && first.is_prefix(&second) == of.2)
 }
 
 #[test]
 fn histories_are_compared_by_their_epochs(rt: HostRuntime) -> Result<(), Fail> {
     for comparison in &COMPARISONS {
-        compare_epochs(&rt, rt.alloc(), comparison)?;
+        assert!(rt; is_compared_by_epochs(rt.alloc(), comparison)?);
     }
     Ok(())
 }
 
 // The test of histories with an index, in place of that of the trait.
-fn compare_epochs(rt: &impl Abort, alloc: Global, of: &Comparison) -> Result<(), Fail> {
+fn is_compared_by_epochs(alloc: Global, of: &Comparison) -> Result<bool, Fail> {
     let first: History = history(alloc, of.0)?;
     let second: History = history(alloc, of.1)?;
-    assert!(rt; first.is_prefix(&second) == of.2);
-    assert!(rt; (first.is_prefix(&second) && second.is_prefix(&first)) == of.3);
-    Ok(())
+    let same = first.is_prefix(&second) && second.is_prefix(&first);
+    Ok(first.is_prefix(&second) == of.2 && same == of.3)
 }
 
 // A word, and its letters in canonical order.
@@ -202,17 +211,16 @@ const ORDERS: [(&str, &str); 8] = [
 #[test]
 fn the_next_least_commands_walk_the_canonical_order(rt: HostRuntime) -> Result<(), Fail> {
     for (word, want) in ORDERS {
-        walk::<SeqHistory, _>(&rt, rt.alloc(), word, want)?;
-        walk::<History, _>(&rt, rt.alloc(), word, want)?;
+        assert!(rt; walks::<SeqHistory, _>(&rt, rt.alloc(), word, want)?);
+        assert!(rt; walks::<History, _>(&rt, rt.alloc(), word, want)?);
     }
     Ok(())
 }
 
-fn walk<H: Hist, R: Abort>(rt: &R, alloc: Global, word: &str, want: &str) -> Result<(), Fail> {
+fn walks<H: Hist, R: Abort>(rt: &R, alloc: Global, word: &str, want: &str) -> Result<bool, Fail> {
     let history: H = history(alloc, word)?;
     let canonical = canonical(rt, alloc, &history)?;
-    assert!(rt; has_letters(alloc, &canonical, want)?);
-    Ok(())
+    has_letters(alloc, &canonical, want)
 }
 
 // The same history in its canonical sequence.

@@ -1,10 +1,9 @@
 //! The further calls of histories with an index.
-use crate::alphabet::{LETTERS, command, history, letters};
+use crate::alphabet::{LETTERS, command, history, letters, push_letter};
 use gp_command::{Access, Command, CommandId, Draft, Key, Touch};
 use gp_history::Hist;
 use gp_index::{EpochHistory, History};
 use std::alloc::Global;
-use std::process::Abort;
 use std::test::Fail;
 
 // The first command of a proposer.
@@ -19,26 +18,32 @@ fn put(alloc: Global, key: &[u8], body: &[u8]) -> Result<Draft, Fail> {
     Ok(Draft::new(alloc, &[Touch { key, access }], body)?)
 }
 
-// A write, a checkpoint, a write of another key, and the checkpoint again.
-fn pushed(rt: &impl Abort, alloc: Global) -> Result<EpochHistory, Fail> {
-    let mut history = EpochHistory::empty(alloc)?;
-    let close = first_of(1, Draft::checkpoint(alloc, b"checkpoint")?);
-    assert!(rt; history.push(first_of(0, put(alloc, b"a", b"put a 1")?))?);
-    assert!(rt; history.push(close.copy()?)?);
-    assert!(rt; history.push(first_of(2, put(alloc, b"b", b"put b 2")?))?);
-    assert!(rt; !history.push(close)?);
-    Ok(history)
+fn checkpoint(alloc: Global) -> Result<Command, Fail> {
+    Ok(first_of(1, Draft::checkpoint(alloc, b"checkpoint")?))
+}
+
+// A write, a checkpoint, a write of another key, and the checkpoint again: whether only the last was there.
+fn push_four(alloc: Global, history: &mut EpochHistory) -> Result<bool, Fail> {
+    let first = history.push(first_of(0, put(alloc, b"a", b"put a 1")?))?;
+    let close = history.push(checkpoint(alloc)?)?;
+    let last = history.push(first_of(2, put(alloc, b"b", b"put b 2")?))?;
+    let again = history.push(checkpoint(alloc)?)?;
+    Ok(first && close && last && !again)
+}
+
+// Whether the second epoch starts after two of three commands, the last of which is found.
+fn has_two_epochs(alloc: Global, history: &EpochHistory) -> Result<bool, Fail> {
+    let last = first_of(2, put(alloc, b"b", b"put b 2")?);
+    let epochs = history.epochs() == 2 && history.epoch_start(1) == 2;
+    Ok(epochs && history.len() == 3 && history.find(&last) == Some(2))
 }
 
 #[test]
 fn a_checkpoint_starts_an_epoch(rt: HostRuntime) -> Result<(), Fail> {
     let alloc = rt.alloc();
-    let history = pushed(&rt, alloc)?;
-    assert!(rt; history.epochs() == 2);
-    assert!(rt; history.epoch_start(1) == 2);
-    assert!(rt; history.len() == 3);
-    let last = first_of(2, put(alloc, b"b", b"put b 2")?);
-    assert!(rt; history.find(&last) == Some(2));
+    let mut history = EpochHistory::empty(alloc)?;
+    assert!(rt; push_four(alloc, &mut history)?);
+    assert!(rt; has_two_epochs(alloc, &history)?);
     Ok(())
 }
 
@@ -109,18 +114,31 @@ fn finds_all(alloc: Global, word: &str) -> Result<bool, Fail> {
 
 #[test]
 fn copies_have_their_own_index(rt: HostRuntime) -> Result<(), Fail> {
-    let alloc = rt.alloc();
+    assert!(rt; indexes_grow_apart(rt.alloc())?);
+    Ok(())
+}
+
+fn indexes_grow_apart(alloc: Global) -> Result<bool, Fail> {
     let mut original: History = history(alloc, "WK")?;
     let mut copy = original.copy()?;
-    assert!(rt; original.push(command(alloc, b'Y')?)?);
-    assert!(rt; copy.push(command(alloc, b'L')?)?);
-    assert!(rt; has_starts(&original, &[0, 2]));
-    assert!(rt; has_starts(&copy, &[0, 2, 3]));
-    assert!(rt; original.find(&command(alloc, b'Y')?) == Some(2));
-    assert!(rt; copy.find(&command(alloc, b'Y')?) == None);
-    assert!(rt; copy.find(&command(alloc, b'L')?) == Some(2));
-    assert!(rt; original.find(&command(alloc, b'L')?) == None);
-    Ok(())
+    let grown = push_letter(alloc, &mut original, b'Y')?;
+    let grown_too = push_letter(alloc, &mut copy, b'L')?;
+    Ok(grown && grown_too && are_apart(alloc, &original, &copy)?)
+}
+
+fn are_apart(alloc: Global, original: &History, copy: &History) -> Result<bool, Fail> {
+    Ok(
+        has_starts(original, &[0, 2])
+            && has_starts(copy, &[0, 2, 3])
+            && finds(alloc, original, b'Y', Some(2))?
+            && finds(alloc, copy, b'Y', None)?
+            && finds(alloc, copy, b'L', Some(2))?
+            && finds(alloc, original, b'L', None)?,
+    )
+}
+
+fn finds(alloc: Global, history: &History, letter: u8, at: Option<usize>) -> Result<bool, Fail> {
+    Ok(history.find(&command(alloc, letter)?) == at)
 }
 
 // A word, the letters that were taken, and all letters: first these, and then the others in

@@ -5,7 +5,6 @@ use gp_command::{Access, Command, CommandId, Draft};
 use gp_history::{Hist, SeqHistory};
 use gp_index::History;
 use std::alloc::Global;
-use std::process::Abort;
 use std::test::Fail;
 
 // What the 256 commands do.
@@ -95,27 +94,25 @@ const ROWS: [Row; 4] = [
 #[test]
 fn long_histories_are_compared(rt: HostRuntime) -> Result<(), Fail> {
     for (shape, same, met) in ROWS {
-        compare::<SeqHistory, _>(&rt, rt.alloc(), shape, same, met)?;
-        compare::<History, _>(&rt, rt.alloc(), shape, same, met)?;
+        assert!(rt; is_compared::<SeqHistory>(rt.alloc(), shape, same, met)?);
+        assert!(rt; is_compared::<History>(rt.alloc(), shape, same, met)?);
     }
     Ok(())
 }
 
-fn compare<H: Hist, R: Abort>(
-    rt: &R,
-    alloc: Global,
-    shape: Shape,
-    same: bool,
-    met: usize,
-) -> Result<(), Fail> {
+fn is_compared<H: Hist>(alloc: Global, shape: Shape, same: bool, met: usize) -> Result<bool, Fail> {
     let (a, b): (H, H) = both_orders(alloc, shape)?;
-    assert!(rt; a.is_prefix(&b) == same);
-    assert!(rt; b.is_prefix(&a) == same);
-    assert!(rt; a.same(&b) == same);
-    assert!(rt; compatible(&a, &b) == same);
-    assert!(rt; meet(alloc, &a, &b)?.len() == met);
-    assert!(rt; join(alloc, &a, &b)?.same(&a));
-    Ok(())
+    Ok(are_related(&a, &b, same) && are_bounded(alloc, &a, &b, met)?)
+}
+
+fn are_related<H: Hist>(a: &H, b: &H, same: bool) -> bool {
+    let prefixes = a.is_prefix(b) == same && b.is_prefix(a) == same;
+    prefixes && a.same(b) == same && compatible(a, b) == same
+}
+
+// Whether the meet has so many commands, and the join is the first of the two.
+fn are_bounded<H: Hist>(alloc: Global, a: &H, b: &H, met: usize) -> Result<bool, Fail> {
+    Ok(meet(alloc, a, b)?.len() == met && join(alloc, a, b)?.same(a))
 }
 
 #[test]
@@ -160,13 +157,35 @@ fn walk_alike(alloc: Global, shape: Shape) -> Result<bool, Fail> {
 
 fn walk_all<H: Hist>(alloc: Global, shape: Shape) -> Result<Vec<CommandId>, Fail> {
     let mut walked = Vec::new(alloc);
-    let (a, b): (H, H) = both_orders(alloc, shape)?;
-    let front: H = pushed(alloc, shape, 1, 128)?;
-    walk(alloc, &a, &mut walked)?;
-    walk(alloc, &b, &mut walked)?;
-    walk(alloc, &meet(alloc, &a, &b)?, &mut walked)?;
-    walk(alloc, &join(alloc, &front, &b)?, &mut walked)?;
+    walk_orders::<H>(alloc, shape, &mut walked)?;
     Ok(walked)
+}
+
+fn walk_orders<H: Hist>(
+    alloc: Global,
+    shape: Shape,
+    walked: &mut Vec<CommandId>,
+) -> Result<(), Fail> {
+    let (a, b): (H, H) = both_orders(alloc, shape)?;
+    walk_two(alloc, &a, &b, walked)?;
+    let front: H = pushed(alloc, shape, 1, 128)?;
+    walk_join(alloc, &front, &b, walked)
+}
+
+// Both, and their meet.
+fn walk_two<H: Hist>(alloc: Global, a: &H, b: &H, walked: &mut Vec<CommandId>) -> Result<(), Fail> {
+    walk(alloc, a, walked)?;
+    walk(alloc, b, walked)?;
+    walk(alloc, &meet(alloc, a, b)?, walked)
+}
+
+fn walk_join<H: Hist>(
+    alloc: Global,
+    front: &H,
+    b: &H,
+    walked: &mut Vec<CommandId>,
+) -> Result<(), Fail> {
+    walk(alloc, &join(alloc, front, b)?, walked)
 }
 
 // Appends the identities of the commands in canonical order.
@@ -185,13 +204,40 @@ fn walk<H: Hist>(alloc: Global, history: &H, walked: &mut Vec<CommandId>) -> Res
 // The same as `walk_all`, where each order is made by one call.
 fn order_all(alloc: Global, shape: Shape) -> Result<Vec<CommandId>, Fail> {
     let mut ordered = Vec::new(alloc);
-    let (a, b): (History, History) = both_orders(alloc, shape)?;
-    let front: History = pushed(alloc, shape, 1, 128)?;
-    push_ids(&a.in_order()?, &mut ordered)?;
-    push_ids(&b.in_order()?, &mut ordered)?;
-    push_ids(&meet(alloc, &a, &b)?.in_order()?, &mut ordered)?;
-    push_ids(&join(alloc, &front, &b)?.in_order()?, &mut ordered)?;
+    order_each(alloc, shape, &mut ordered)?;
     Ok(ordered)
+}
+
+fn order_each(alloc: Global, shape: Shape, ordered: &mut Vec<CommandId>) -> Result<(), Fail> {
+    let (a, b): (History, History) = both_orders(alloc, shape)?;
+    order_two(alloc, &a, &b, ordered)?;
+    let front: History = pushed(alloc, shape, 1, 128)?;
+    order_join(alloc, &front, &b, ordered)
+}
+
+// Both, and their meet.
+fn order_two(
+    alloc: Global,
+    a: &History,
+    b: &History,
+    ordered: &mut Vec<CommandId>,
+) -> Result<(), Fail> {
+    order(a, ordered)?;
+    order(b, ordered)?;
+    order(&meet(alloc, a, b)?, ordered)
+}
+
+fn order_join(
+    alloc: Global,
+    front: &History,
+    b: &History,
+    ordered: &mut Vec<CommandId>,
+) -> Result<(), Fail> {
+    order(&join(alloc, front, b)?, ordered)
+}
+
+fn order(history: &History, ordered: &mut Vec<CommandId>) -> Result<(), Fail> {
+    push_ids(&history.in_order()?, ordered)
 }
 
 fn push_ids(history: &History, ids: &mut Vec<CommandId>) -> Result<(), Fail> {

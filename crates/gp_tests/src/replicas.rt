@@ -141,51 +141,82 @@ fn a_replica_has_run_nothing_at_first(rt: HostRuntime) -> Result<(), Fail> {
 
 #[test]
 fn what_is_learned_is_run_in_the_canonical_order(rt: HostRuntime) -> Result<(), Fail> {
-    let alloc = rt.alloc();
-    let learned = history(alloc, &LEARNED)?;
-    let mut replica = Replica::new(alloc)?;
-    assert!(rt; caught_up(&rt, &mut replica, &learned)? == 4);
-    assert!(rt; shows(&replica, &RAN, Some(3), Some(5))?);
+    assert!(rt; runs_in_order(&rt, rt.alloc())?);
     Ok(())
 }
 
-// Whether a replica that has run all that is learned runs nothing more.
-fn runs_once(rt: &impl Abort, alloc: Global) -> Result<bool, Fail> {
-    let learned = history(alloc, &LEARNED)?;
+fn runs_in_order(rt: &impl Abort, alloc: Global) -> Result<bool, Fail> {
     let mut replica = Replica::new(alloc)?;
-    let first = caught_up(rt, &mut replica, &learned)?;
-    let second = caught_up(rt, &mut replica, &learned)?;
-    Ok((first, second) == (4, 0) && shows(&replica, &RAN, Some(3), Some(5))?)
+    let count = run(rt, alloc, &mut replica, &LEARNED)?;
+    Ok(count == 4 && shows(&replica, &RAN, Some(3), Some(5))?)
+}
+
+// How many commands a replica runs that learns these.
+fn run(
+    rt: &impl Abort,
+    alloc: Global,
+    replica: &mut Replica<KeyStore>,
+    rows: &[Row],
+) -> Result<usize, Fail> {
+    caught_up(rt, replica, &history(alloc, rows)?)
+}
+
+// Whether a replica that has run all that is learned runs nothing more.
+fn runs_once(
+    rt: &impl Abort,
+    replica: &mut Replica<KeyStore>,
+    learned: &History,
+) -> Result<bool, Fail> {
+    let first = caught_up(rt, replica, learned)?;
+    let second = caught_up(rt, replica, learned)?;
+    Ok((first, second) == (4, 0) && shows(replica, &RAN, Some(3), Some(5))?)
 }
 
 #[test]
 fn what_was_run_is_not_run_again(rt: HostRuntime) -> Result<(), Fail> {
-    assert!(rt; runs_once(&rt, rt.alloc())?);
+    assert!(rt; is_run_once(&rt, rt.alloc())?);
     Ok(())
 }
 
-// Whether a command that is learned later is run after those that were run before.
-fn runs_in_turn(rt: &impl Abort, alloc: Global) -> Result<bool, Fail> {
-    let mut learned = history(alloc, &LEARNED)?;
+fn is_run_once(rt: &impl Abort, alloc: Global) -> Result<bool, Fail> {
+    let learned = history(alloc, &LEARNED)?;
     let mut replica = Replica::new(alloc)?;
-    let first = caught_up(rt, &mut replica, &learned)?;
-    learn(&mut learned, alloc, LATER)?;
-    let second = caught_up(rt, &mut replica, &learned)?;
-    Ok((first, second) == (4, 1) && shows(&replica, &RAN_LATER, Some(3), Some(3))?)
+    runs_once(rt, &mut replica, &learned)
+}
+
+// Whether a command that is learned later is run after those that were run before.
+fn runs_in_turn(
+    rt: &impl Abort,
+    alloc: Global,
+    replica: &mut Replica<KeyStore>,
+    learned: &mut History,
+) -> Result<bool, Fail> {
+    let first = caught_up(rt, replica, learned)?;
+    learn(learned, alloc, LATER)?;
+    let second = caught_up(rt, replica, learned)?;
+    Ok((first, second) == (4, 1) && shows(replica, &RAN_LATER, Some(3), Some(3))?)
 }
 
 #[test]
 fn what_is_learned_later_is_run_after_the_rest(rt: HostRuntime) -> Result<(), Fail> {
-    assert!(rt; runs_in_turn(&rt, rt.alloc())?);
+    assert!(rt; is_run_in_turn(&rt, rt.alloc())?);
     Ok(())
+}
+
+fn is_run_in_turn(rt: &impl Abort, alloc: Global) -> Result<bool, Fail> {
+    let mut learned = history(alloc, &LEARNED)?;
+    let mut replica = Replica::new(alloc)?;
+    runs_in_turn(rt, alloc, &mut replica, &mut learned)
 }
 
 #[test]
 fn a_key_is_served(rt: HostRuntime) -> Result<(), Fail> {
-    let alloc = rt.alloc();
-    let learned = history(alloc, &SERVED)?;
-    let mut replica = Replica::new(alloc)?;
-    assert!(rt; caught_up(&rt, &mut replica, &learned)? == 8);
-    assert!(rt; shows(&replica, &SERVED_RAN, None, Some(9))?);
+    assert!(rt; is_served(&rt, rt.alloc())?);
     Ok(())
+}
+
+fn is_served(rt: &impl Abort, alloc: Global) -> Result<bool, Fail> {
+    let mut replica = Replica::new(alloc)?;
+    let count = run(rt, alloc, &mut replica, &SERVED)?;
+    Ok(count == 8 && shows(&replica, &SERVED_RAN, None, Some(9))?)
 }

@@ -66,10 +66,15 @@ fn operations_do_what_they_say(rt: HostRuntime) -> Result<(), Fail> {
 fn a_command_that_is_no_operation_changes_nothing(rt: HostRuntime) -> Result<(), Fail> {
     let alloc = rt.alloc();
     let mut store = KeyStore::opening(alloc)?;
-    let untouched = Draft::new(alloc, &[], b"put a 5")?;
-    assert!(rt; replies(&mut store, untouched, Reply::Absent)?);
-    let checkpoint = draft_of(alloc, Op::Checkpoint)?;
-    assert!(rt; replies(&mut store, checkpoint, Reply::Done)?);
+    assert!(rt; passes_over(alloc, &mut store)?);
     assert!(rt; store.pairs().is_empty());
     Ok(())
+}
+
+// Whether a command without touches finds nothing, and a checkpoint is done.
+fn passes_over(alloc: Global, store: &mut KeyStore) -> Result<bool, Fail> {
+    let untouched = Draft::new(alloc, &[], b"put a 5")?;
+    let absent = replies(store, untouched, Reply::Absent)?;
+    let checkpoint = draft_of(alloc, Op::Checkpoint)?;
+    Ok(absent && replies(store, checkpoint, Reply::Done)?)
 }
