@@ -69,11 +69,13 @@ fn run_all(alloc: Global, bank: &mut Bank) -> Result<bool, Fail> {
 
 #[test]
 fn operations_do_what_they_say(rt: HostRuntime) -> Result<(), Fail> {
-    let alloc = rt.alloc();
-    let mut bank = Bank::opening(alloc)?;
-    assert!(rt; run_all(alloc, &mut bank)?);
-    assert!(rt; is_run(&bank)?);
+    assert!(rt; does_all(rt.alloc())?);
     Ok(())
+}
+
+fn does_all(alloc: Global) -> Result<bool, Fail> {
+    let mut bank = Bank::opening(alloc)?;
+    Ok(run_all(alloc, &mut bank)? && is_run(&bank)?)
 }
 
 #[test]

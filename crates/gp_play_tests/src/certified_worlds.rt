@@ -85,7 +85,7 @@ pub fn happens(world: &mut World, alloc: Global, steps: &[Step]) -> Result<(), F
 }
 
 /// A put that two acceptors vote for, and that learner 0 learns.
-pub const ONE_PUT: [Step; 11] = [
+pub static ONE_PUT: [Step; 11] = [
     Step::Put(0, b'a', 5),
     Step::Begin(SINGLE_1),
     Step::Take(C0, 0),
@@ -100,7 +100,7 @@ pub const ONE_PUT: [Step; 11] = [
 ];
 
 /// A checkpoint between two puts that commute, which learner 0 learns.
-pub const CHECKPOINT_BETWEEN_PUTS: [Step; 15] = [
+pub static CHECKPOINT_BETWEEN_PUTS: [Step; 15] = [
     Step::Put(0, b'a', 1),
     Step::Checkpoint(1),
     Step::Put(2, b'b', 2),
@@ -119,7 +119,7 @@ pub const CHECKPOINT_BETWEEN_PUTS: [Step; 15] = [
 ];
 
 /// The steps after these, in which the put that is pending is learned in the next epoch.
-pub const THE_NEXT_EPOCH: [Step; 12] = [
+pub static THE_NEXT_EPOCH: [Step; 12] = [
     Step::Take(C0, 9),
     Step::Take(A0, 9),
     Step::Take(A1, 9),

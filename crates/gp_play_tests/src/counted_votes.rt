@@ -117,21 +117,30 @@ fn all_counted(alloc: Global, world: &World, many: usize) -> Result<bool, Fail> 
 fn members_voted_in_the_present_life(rt: HostRuntime) -> Result<(), Fail> {
     let alloc = rt.alloc();
     let mut world = two_learners(alloc)?;
-    happens(&mut world, alloc, &ONE_PUT)?;
-    assert!(rt; all_counted(alloc, &world, 1)?);
-    happens(&mut world, alloc, &[Step::Fall(L0)])?;
-    assert!(rt; all_counted(alloc, &world, 0)?);
-    happens(&mut world, alloc, &[Step::Take(L0, 5), Step::Take(L0, 6)])?;
-    assert!(rt; all_counted(alloc, &world, 1)?);
+    assert!(rt; counts_in_two_lives(alloc, &mut world)?);
     Ok(())
+}
+
+// Whether the vote counts before a crash, not right after it, and again when it was taken again.
+fn counts_in_two_lives(alloc: Global, world: &mut World) -> Result<bool, Fail> {
+    happens(world, alloc, &ONE_PUT)?;
+    let before = all_counted(alloc, world, 1)?;
+    happens(world, alloc, &[Step::Fall(L0)])?;
+    let after = all_counted(alloc, world, 0)?;
+    happens(world, alloc, &[Step::Take(L0, 5), Step::Take(L0, 6)])?;
+    Ok(before && after && all_counted(alloc, world, 1)?)
 }
 
 #[test]
 fn members_voted_in_their_epochs(rt: HostRuntime) -> Result<(), Fail> {
     let alloc = rt.alloc();
     let mut world = two_learners(alloc)?;
-    happens(&mut world, alloc, &CHECKPOINT_BETWEEN_PUTS)?;
-    happens(&mut world, alloc, &THE_NEXT_EPOCH)?;
-    assert!(rt; all_counted(alloc, &world, 3)?);
+    assert!(rt; counts_in_two_epochs(alloc, &mut world)?);
     Ok(())
+}
+
+fn counts_in_two_epochs(alloc: Global, world: &mut World) -> Result<bool, Fail> {
+    happens(world, alloc, &CHECKPOINT_BETWEEN_PUTS)?;
+    happens(world, alloc, &THE_NEXT_EPOCH)?;
+    all_counted(alloc, world, 3)
 }

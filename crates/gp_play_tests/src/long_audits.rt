@@ -31,6 +31,18 @@ fn ending(alloc: Global, more: &[u8]) -> Result<Vec<u8>, Fail> {
     Ok(lines)
 }
 
+// Whether such an input is refused at this line for this reason.
+fn refuses_after_comment(
+    alloc: Global,
+    length: usize,
+    rest: &[u8],
+    line: u64,
+    reason: AuditReason,
+) -> Result<bool, Fail> {
+    let input = after_comment(alloc, length, rest)?;
+    Ok(refuses(alloc, &input, line, reason))
+}
+
 #[test]
 fn an_input_has_1048576_bytes(rt: HostRuntime) -> Result<(), Fail> {
     let alloc = rt.alloc();
@@ -47,23 +59,9 @@ fn a_line_that_holds_one_byte_more_is_too_long(rt: HostRuntime) -> Result<(), Fa
 
     // the line feed of the last line of the report, the divider, and the comment
     let room = MOST_BYTES.saturating_sub(lines.len()).saturating_add(1);
-    assert!(rt; refuses(alloc, &after_comment(alloc, room, &lines)?, 7, TOO_LONG));
-    assert!(rt;
-        refuses(
-            alloc,
-            &after_comment(alloc, MOST_BYTES - 1, &lines)?,
-            3,
-            TOO_LONG
-        )
-    );
-    assert!(rt;
-        refuses(
-            alloc,
-            &after_comment(alloc, MOST_BYTES + 1, &lines)?,
-            2,
-            TOO_LONG
-        )
-    );
+    for (length, line) in [(room, 7), (MOST_BYTES - 1, 3), (MOST_BYTES + 1, 2)] {
+        assert!(rt; refuses_after_comment(alloc, length, &lines, line, TOO_LONG)?);
+    }
     Ok(())
 }
 
@@ -74,18 +72,11 @@ fn what_is_refused_before_it_stands(rt: HostRuntime) -> Result<(), Fail> {
 
     // the line after a whole report is wrong, and the next one too long
     let room = MOST_BYTES.saturating_sub(lines.len()).saturating_add(2);
-    assert!(rt;
-        refuses(
-            alloc,
-            &after_comment(alloc, room, &lines)?,
-            8,
-            AuditReason::WrongReport
-        )
-    );
+    assert!(rt; refuses_after_comment(alloc, room, &lines, 8, AuditReason::WrongReport)?);
 
     // it is too long itself
     let longer = room.saturating_add(1);
-    assert!(rt; refuses(alloc, &after_comment(alloc, longer, &lines)?, 8, TOO_LONG));
+    assert!(rt; refuses_after_comment(alloc, longer, &lines, 8, TOO_LONG)?);
     Ok(())
 }
 
@@ -112,17 +103,17 @@ fn a_line_is_too_long_before_something_is_missing(rt: HostRuntime) -> Result<(),
     let alloc = rt.alloc();
 
     // a configuration
-    let comments = filled(alloc, b"#", MOST_BYTES - 1, b"--\n")?;
-    assert!(rt; refuses(alloc, &comments, 2, TOO_LONG));
-
+    assert!(rt; refuses_comments(alloc)?);
     // a line `--`
-    let trace = after_comment(alloc, MOST_BYTES - 1, b"# c\n")?;
-    assert!(rt; refuses(alloc, &trace, 3, TOO_LONG));
-
+    assert!(rt; refuses_after_comment(alloc, MOST_BYTES - 1, b"# c\n", 3, TOO_LONG)?);
     // lines of a report
-    let report = after_comment(alloc, MOST_BYTES - 3, b"--\n# c\n")?;
-    assert!(rt; refuses(alloc, &report, 4, TOO_LONG));
+    assert!(rt; refuses_after_comment(alloc, MOST_BYTES - 3, b"--\n# c\n", 4, TOO_LONG)?);
     Ok(())
+}
+
+fn refuses_comments(alloc: Global) -> Result<bool, Fail> {
+    let comments = filled(alloc, b"#", MOST_BYTES - 1, b"--\n")?;
+    Ok(refuses(alloc, &comments, 2, TOO_LONG))
 }
 
 // A first line, followed by another line `count` times.
@@ -136,29 +127,20 @@ fn repeated(alloc: Global, first: &[u8], line: &[u8], count: usize) -> Result<Ve
 
 #[test]
 fn a_trace_has_the_limits_of_a_script(rt: HostRuntime) -> Result<(), Fail> {
-    let alloc = rt.alloc();
-    let offers = repeated(alloc, b"nodes 3 1 1\n", b"offer p0 put a 1\n", 1025)?;
-    assert!(rt;
-        refuses(
-            alloc,
-            &offers,
-            1026,
-            AuditReason::Script(Reason::TooManyCommands)
-        )
-    );
-    let events = repeated(
-        alloc,
-        b"nodes 3 1 1\noffer p0 get a\n",
-        b"take p0 0\n",
-        16384,
-    )?;
-    assert!(rt;
-        refuses(
-            alloc,
-            &events,
-            16386,
-            AuditReason::Script(Reason::TooManyEvents)
-        )
-    );
+    assert!(rt; refuses_offers(rt.alloc())?);
+    assert!(rt; refuses_events(rt.alloc())?);
     Ok(())
+}
+
+fn refuses_offers(alloc: Global) -> Result<bool, Fail> {
+    let offers = repeated(alloc, b"nodes 3 1 1\n", b"offer p0 put a 1\n", 1025)?;
+    let reason = AuditReason::Script(Reason::TooManyCommands);
+    Ok(refuses(alloc, &offers, 1026, reason))
+}
+
+fn refuses_events(alloc: Global) -> Result<bool, Fail> {
+    let first = b"nodes 3 1 1\noffer p0 get a\n";
+    let events = repeated(alloc, first, b"take p0 0\n", 16384)?;
+    let reason = AuditReason::Script(Reason::TooManyEvents);
+    Ok(refuses(alloc, &events, 16386, reason))
 }

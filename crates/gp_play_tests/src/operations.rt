@@ -1,7 +1,8 @@
 //! Operations, their drafts and their replies.
 use crate::stage::plays;
-use gp_command::{Command, CommandId, Key, write_command};
+use gp_command::{Command, CommandId, Draft, Key, write_command};
 use gp_store::{Op, draft_of, op_of};
+use std::alloc::Global;
 use std::test::Fail;
 
 // The first offer of proposer 0, `put a 5`: proposer, number, mark, number of touches; the key `a`
@@ -10,20 +11,28 @@ const PUT_A_5: [u8; 21] = [
     0, 0, 0, 0, 1, 0, 0, 0, 0, 1, 1, 0x61, 2, 7, 0x70, 0x75, 0x74, 0x20, 0x61, 0x20, 0x35,
 ];
 
+const FIRST: CommandId = CommandId {
+    proposer: 0,
+    number: 1,
+};
+
 #[test]
 fn a_put_writes_its_key(rt: HostRuntime) -> Result<(), Fail> {
-    let alloc = rt.alloc();
-    let op = Op::Put(Key::new(b"a")?, 5);
-    let draft = draft_of(alloc, op)?;
-    assert!(rt; op_of(&draft) == Some(op));
-    let id = CommandId {
-        proposer: 0,
-        number: 1,
-    };
-    let mut bytes = Vec::new(alloc);
-    write_command(&Command::new(id, draft), &mut bytes)?;
-    assert!(rt; bytes.as_slice() == PUT_A_5.as_slice());
+    assert!(rt; is_spelled(rt.alloc(), Op::Put(Key::new(b"a")?, 5), &PUT_A_5)?);
     Ok(())
+}
+
+// Whether the draft of an operation is read again, and its first command is written in these bytes.
+fn is_spelled(alloc: Global, op: Op, bytes: &[u8]) -> Result<bool, Fail> {
+    let draft = draft_of(alloc, op)?;
+    let read = op_of(&draft) == Some(op);
+    Ok(read && writes(alloc, draft, bytes)?)
+}
+
+fn writes(alloc: Global, draft: Draft, bytes: &[u8]) -> Result<bool, Fail> {
+    let mut written = Vec::new(alloc);
+    write_command(&Command::new(FIRST, draft), &mut written)?;
+    Ok(written.as_slice() == bytes)
 }
 
 // operations at keys that are absent, of values that differ, and of two keys in either order

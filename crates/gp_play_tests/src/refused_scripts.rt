@@ -6,7 +6,7 @@ use std::test::Fail;
 // A script, and the line that is printed.
 type Row = (&'static [u8], &'static [u8]);
 
-const ROWS: [Row; 25] = [
+static ROWS: [Row; 25] = [
     // fewer than 3 acceptors
     (b"nodes 2 1 1\n", b"line 1: bad count"),
     // more than 7
@@ -77,7 +77,8 @@ const ROWS: [Row; 25] = [
 
 #[test]
 fn a_script_is_refused_at_its_first_bad_line(rt: HostRuntime) -> Result<(), Fail> {
-    for (script, line) in ROWS {
+    for row in &ROWS {
+        let (script, line) = *row;
         assert!(rt; refuses(&rt, rt.alloc(), script, line)?);
     }
     Ok(())

@@ -102,19 +102,26 @@ fn a_replica_holds_nothing_at_first(rt: HostRuntime) -> Result<(), Fail> {
 
 #[test]
 fn a_replica_holds_what_was_not_withdrawn(rt: HostRuntime) -> Result<(), Fail> {
-    let mut replica = Replica::new(rt.alloc())?;
-    assert!(rt; caught_up(&rt, rt.alloc(), &mut replica, &TOGETHER)? == 7);
-    assert!(rt; is_together(&replica)?);
+    assert!(rt; holds_the_rest(&rt, rt.alloc())?);
     Ok(())
+}
+
+fn holds_the_rest(rt: &impl Abort, alloc: Global) -> Result<bool, Fail> {
+    let mut replica = Replica::new(alloc)?;
+    let count = caught_up(rt, alloc, &mut replica, &TOGETHER)?;
+    Ok(count == 7 && is_together(&replica)?)
 }
 
 // Whether a replica that learns some commands before the others agrees.
 fn agrees_in_another_order(rt: &impl Abort, alloc: Global) -> Result<bool, Fail> {
     let mut replica = Replica::new(alloc)?;
-    let first = caught_up(rt, alloc, &mut replica, &EARLY)?;
-    let second = caught_up(rt, alloc, &mut replica, &TOGETHER)?;
-    let is_together = is_together(&replica)?;
-    Ok((first, second) == (3, 4) && is_together)
+    learns_early(rt, alloc, &mut replica)
+}
+
+fn learns_early(rt: &impl Abort, alloc: Global, replica: &mut Replica<Bank>) -> Result<bool, Fail> {
+    let first = caught_up(rt, alloc, replica, &EARLY)?;
+    let second = caught_up(rt, alloc, replica, &TOGETHER)?;
+    Ok((first, second) == (3, 4) && is_together(replica)?)
 }
 
 #[test]
