@@ -1,16 +1,22 @@
 -- An append and a renewal of a log that a disk holds.
 use Rattle.std.proofs.Common.{◌≡◌, ◌⊎◌, ℕ, ◌+◌, ◌-◌, ◌≤◌, Bool, true, false, List, [], ◌∷◌, ◌++◌, length, inl, inr, ⊎_elim, arith, Option, Some, None, Ok, refl, sym, ap, ◌∙◌, subst}
-use Rattle.std.specs.Prelude.{not, slice_get, nat_le, ◌&&◌}
+use Rattle.std.specs.Prelude.{Result, Err, not, slice_get, nat_le, ◌&&◌}
 use Rattle.std.specs.Option.{option_map}
+use Rattle.std.specs.Result.{IsErrAnd}
 use Rattle.std.specs.Int.{w32, to_le_bytes}
 use Rattle.std.proofs.lemmas.Bool.{le-leb}
 use Rattle.std.proofs.lemmas.List.{length-append, map-append}
+use Rattle.gp_edge.specs.declared.refusal.Refused.{Refused}
+use Rattle.gp_edge.specs.declared.refusal.Refused.TheVariants as refused
 use Rattle.gp_edge.specs.Disks.{IfRevealed, RevealsAlike, IfBothRevealed, Only, put, Torn, LeavesOnly}
 use Rattle.gp_msg.specs.declared.durable.Durable.{Durable}
+use Rattle.gp_vlog.specs.declared.fault.AppendFault.{AppendFault}
+use Rattle.gp_vlog.specs.declared.fault.AppendFault.TheVariants.{Full, Disk, NoMemory}
+use Rattle.gp_vlog.specs.Causes.{fault_of}
 use Rattle.gp_vlog.specs.Bodies.{LogEntry, entry_of}
 use Rattle.gp_vlog.specs.Gates.{block}
 use Rattle.gp_vlog.specs.Files.{is_limit, is_second, first_gate, Contents, read_log}
-use Rattle.gp_vlog.specs.Logs.{LogState, IsOnDisk, Shows, HoldsEntries, OldOrAdded, OldOrRenewed, entry_for, log_entries, last}
+use Rattle.gp_vlog.specs.Logs.{LogState, StaysUnready, StaysWhole, IsOnDisk, Shows, HoldsEntries, OldOrAdded, OldOrRenewed, entry_for, log_entries, last}
 use Rattle.gp_vlog.proofs.Areas.{last_or}
 use Rattle.gp_vlog.proofs.Standing.{Stands, IsSized, stands_reads, reads_stands, append_torn, append_staged, append_opened, append_marked, MayFollow}
 use Rattle.gp_vlog.proofs.Renewing.{renew_torn, renew_staged, renew_switched, switched_over, MayStandAlone}
@@ -270,3 +276,11 @@ module _ {D : Type 0} (content : D → Option (List ℕ)) (image : D → List �
 
   pub ready_renewed : (second : Bool) (all : List Durable) (d : Durable) (need now : ℕ) → IsSized limit → all ≡ d ∷ [] → now ≡ need → 17 + need ≤ limit → Stored (not second) (entry_for false d ∷ []) need → IfRevealed (content disk) (λ t. Shows limit (log_entries false all) (17 + now) t × Only t (image disk))
   ready_renewed second all d need now sized alone now_is fits stored = shows_stored (not second) (log_entries false all) now (stored_renewed second all d need now alone now_is stored)
+
+-- a log after a write that was refused
+pub left_unready : {D T : Type 0} (old new : LogState D) (r : Result T AppendFault) (e : Refused) → IsErrAnd r (λ y. y ≡ fault_of e) → StaysUnready old new → StaysWhole old new r
+left_unready old new (Ok x) e is k = absurd is
+left_unready old new (Err (Full size need)) refused.Failed is k = absurd cc
+left_unready old new (Err (Full size need)) refused.NoMemory is k = absurd cc
+left_unready old new (Err Disk) e is k = k
+left_unready old new (Err NoMemory) e is k = k

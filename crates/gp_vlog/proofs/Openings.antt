@@ -1,8 +1,8 @@
 -- A log that is begun, and one that is read again.
 use Rattle.std.proofs.Common.{◌≡◌, ℕ, ◌+◌, ◌-◌, ◌<◌, ◌≤◌, Bool, true, false, List, [], ◌∷◌, ◌++◌, length, Option, None, Ok, Err, refl, sym, ap, ◌∙◌, subst, arith}
-use Rattle.std.specs.Prelude.{nat_eq}
+use Rattle.std.specs.Prelude.{nat_eq, nat_le, ◌&&◌}
 use Rattle.std.specs.Int.{w32, to_le_bytes}
-use Rattle.std.proofs.lemmas.Bool.{eq-eqb}
+use Rattle.std.proofs.lemmas.Bool.{eq-eqb, leb-true}
 use Rattle.std.proofs.lemmas.Nat.{from_le_bytes-to_le_bytes_4}
 use Rattle.gp_edge.specs.Disks.{IfRevealed, Only}
 use Rattle.gp_msg.specs.declared.durable.Durable.{Durable}
@@ -34,6 +34,16 @@ begun_stands limit sized =
 
 pub begun_reads : (limit : ℕ) → IsSized limit → read_log is_limit (head_bytes limit 0 ++ 0 ∷ []) ≡ Ok (log_with limit false [] 0)
 begun_reads limit sized = stands_reads is_limit limit 0 [] 0 (head_bytes limit 0 ++ 0 ∷ []) sized (limit_allowed limit sized) (begun_stands limit sized)
+
+-- a limit in range
+pub sized_in_range : (limit : ℕ) → is_limit limit ≡ true → IsSized limit
+sized_in_range limit in_range =
+    let both = both_true (nat_le 64 limit) (nat_le limit 67108864) in_range in
+    record { low = leb-true 64 limit both.0; high = leb-true limit 67108864 both.1 }
+  where
+    both_true : (a b : Bool) → (a && b) ≡ true → (a ≡ true) × (b ≡ true)
+    both_true false b e = absurd cc
+    both_true true b e = (refl, e)
 
 -- what is in range does not matter where the limit that was read is
 pub read_again : (a b : ℕ → Bool) (s : List ℕ) (c : Contents) → IsSized c.limit → b c.limit ≡ true → read_log a s ≡ Ok c → read_log b s ≡ Ok c

@@ -1,8 +1,9 @@
-use Rattle.std.proofs.Common.{◌≡◌, ◌∷◌, [], false, ◌+◌, ◌≤◌, length, ap, ◌∙◌, inl, arith, rules}
+use Rattle.std.proofs.Common.{◌≡◌, ◌∷◌, [], false, ◌+◌, ◌≤◌, length, sym, ap, ◌∙◌, inl, arith, rules}
+use Rattle.std.proofs.lemmas.Bool.{false≢true}
 use Rattle.gp_msg.specs.declared.durable.Durable.{Durable}
 use Rattle.gp_vlog.specs.Logs.{LogState, OldOrRenewed, entry_for, log_entries}
 use Rattle.gp_vlog.proofs.Standing.{IsSized}
-use Rattle.gp_vlog.proofs.Appends.{unwritten, renewing, renewed, renewed_seen, kept_renewed, ready_renewed}
+use Rattle.gp_vlog.proofs.Appends.{unwritten, renewing, renewed, renewed_seen, kept_renewed, ready_renewed, left_unready}
 use Rattle.gp_vlog.proofs.log.Log.renew.Goals as goal
 
 pub returns-in_err-plan-clause-any_moment : goal.returns-in_err-plan-clause-any_moment
@@ -98,3 +99,17 @@ returns-clause-ready g c =
     let alone : c.push.new.self.items ≡ c.in_ok-plan.plan.entry ∷ [] = search rules in
     let alone_is = alone ∙ ap (λ (d : Durable). d ∷ []) plan_is.entry_is in
     ready_renewed g.D.Disk.content g.D.Disk.image c.write_and_mark.new.disk i.limit i.second c.push.new.self.items c.args.entry.now (5 + length plan_is.body) c.in_ok-plan.plan.need sized alone_is need fits after
+
+pub invariant_of-self-in_err-write_and_mark : goal.invariant_of-self-in_err-write_and_mark
+invariant_of-self-in_err-write_and_mark g c =
+    let k = c.self.invariant in
+    let full : c.is_full-self-inside.result ≡ false = rw c.in_ok-plan.was at c.is_full-self-inside.ensures in
+    record { low = k.low; high = k.high; room = k.room; some = k.some; revealed = λ ready. absurd (false≢true (sym full ∙ ready)) }
+
+pub returns-in_err-write_and_mark-clause-left : goal.returns-in_err-write_and_mark-clause-left
+returns-in_err-write_and_mark-clause-left g c =
+    let i = c.self.inside in
+    let full : c.is_full-self-inside.result ≡ false = rw c.in_ok-plan.was at c.is_full-self-inside.ensures in
+    let old : LogState g.row.D.Denot = c.args.self.now in
+    let new : LogState g.row.D.Denot = record { disk = c.write_and_mark.new.disk; limit = i.limit; entries = i.entries.items; is_old = i.first_version; size = 17 + i.closed; ready = c.is_full-self-inside.result } in
+    left_unready old new c.from_residual-in_err-write_and_mark.result _ c.from_residual-in_err-write_and_mark.ensures.1 (λ x. let was = c.self.view_is x in record { disk = new.disk; limit = was.limit; entries = was.entries; is_old = was.is_old; size = was.size; ready = full x })
