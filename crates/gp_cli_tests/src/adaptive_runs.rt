@@ -1,6 +1,6 @@
 //! Nodes that run in threads, whose rounds adapt to collisions.
 use crate::audited_runs::is_audited;
-use crate::many_runs::config_of;
+use crate::many_runs::{config_of, script_with};
 use crate::nodes::{CHECKPOINT, EIGHT, Printed, count, parts_of, plays_again, show_eight, shows};
 use crate::stage::{Finished, disks_with, served_with};
 use gp_edge::MemDisk;
@@ -63,74 +63,87 @@ fn opens_fast(trace: &[u8]) -> bool {
 
 #[test]
 fn commands_that_commute_are_learned_by_all(rt: HostRuntime) -> Result<(), Fail> {
-    let alloc = rt.alloc();
-    match printed(&rt, alloc, EIGHT)? {
-        Some(printed) => {
-            assert!(rt; opens_fast(&printed.trace));
-            assert!(rt; show_eight(alloc, &printed.report)?);
-        }
-        None => assert!(rt; false),
-    }
+    assert!(rt; learns_eight(&rt, rt.alloc())?);
     Ok(())
+}
+
+// Whether both learners show the eight commands of a run that opens with a fast round.
+fn learns_eight<W: Threads + Wait + Sync>(rt: &W, alloc: Global) -> Result<bool, Fail> {
+    match printed(rt, alloc, EIGHT)? {
+        Some(printed) => Ok(opens_fast(&printed.trace) && show_eight(alloc, &printed.report)?),
+        None => Ok(false),
+    }
 }
 
 #[test]
 fn a_clash_of_votes_is_answered_by_a_multi_round(rt: HostRuntime) -> Result<(), Fail> {
-    let alloc = rt.alloc();
-    match printed(&rt, alloc, TWO)? {
-        Some(printed) => {
-            for line in [
-                b"begin c0 1 fast".as_slice(),
-                b"begin c0 2 multi",
-                b"take c0 8",
-            ] {
-                assert!(rt; count(&printed.trace, line) == 1);
-            }
-            let lines: [&[u8]; 2] = [b" learned 2: p0.1 p0.2", b" state: a=2"];
-            assert!(rt; shows(alloc, &printed.report, b"l0", &lines)?);
-        }
-        None => assert!(rt; false),
-    }
+    assert!(rt; answers_the_clash(&rt, rt.alloc())?);
     Ok(())
+}
+
+// Whether a multi round follows the fast one, and the learner shows both commands.
+fn answers_the_clash<W: Threads + Wait + Sync>(rt: &W, alloc: Global) -> Result<bool, Fail> {
+    let lines: [&[u8]; 2] = [b" learned 2: p0.1 p0.2", b" state: a=2"];
+    match printed(rt, alloc, TWO)? {
+        Some(printed) => {
+            Ok(turns_to_multi(&printed.trace) && shows(alloc, &printed.report, b"l0", &lines)?)
+        }
+        None => Ok(false),
+    }
+}
+
+fn turns_to_multi(trace: &[u8]) -> bool {
+    count(trace, b"begin c0 1 fast") == 1
+        && count(trace, b"begin c0 2 multi") == 1
+        && count(trace, b"take c0 8") == 1
 }
 
 #[test]
 fn each_epoch_begins_with_a_fast_round(rt: HostRuntime) -> Result<(), Fail> {
-    let alloc = rt.alloc();
-    match printed(&rt, alloc, CHECKPOINT)? {
-        Some(printed) => assert!(rt; count(&printed.trace, b"begin c0 1 fast") == 2),
-        None => assert!(rt; false),
-    }
+    assert!(rt; opens_each_epoch_fast(&rt, rt.alloc())?);
     Ok(())
+}
+
+fn opens_each_epoch_fast<W: Threads + Wait + Sync>(rt: &W, alloc: Global) -> Result<bool, Fail> {
+    match printed(rt, alloc, CHECKPOINT)? {
+        Some(printed) => Ok(count(&printed.trace, b"begin c0 1 fast") == 2),
+        None => Ok(false),
+    }
 }
 
 #[test]
 fn a_disk_that_fails_before_the_offers_ends_the_run(rt: HostRuntime) -> Result<(), Fail> {
-    let alloc = rt.alloc();
-    for (call, status) in [(0u64, 6u8), (3, 0)] {
-        let disks = disks_with(alloc, 7, b"", &[call])?;
-        let finished = served_with(&rt, alloc, &["adapt"], EIGHT, disks)?;
-        assert!(rt; finished.ran.status == status);
-    }
+    assert!(rt; status_if_fails(&rt, rt.alloc(), 0)? == 6);
+    assert!(rt; status_if_fails(&rt, rt.alloc(), 3)? == 0);
     Ok(())
+}
+
+// The status of a run in which this call of the coordinator's disk fails.
+fn status_if_fails<W: Threads + Wait + Sync>(rt: &W, alloc: Global, call: u64) -> Result<u8, Fail> {
+    let disks = disks_with(alloc, 7, b"", &[call])?;
+    let finished = served_with(rt, alloc, &["adapt"], EIGHT, disks)?;
+    Ok(finished.ran.status)
 }
 
 // Eight puts, on keys of their own or all on one key.
 fn puts(alloc: Global, seed: usize, conflicting: bool) -> Result<Vec<u8>, Fail> {
-    let config = config_of(seed)?;
-    let (acceptors, coordinators, learners) = (
-        config.acceptors(),
-        config.coordinators(),
-        config.learners(),
-    );
-    let nodes = format!(in alloc; "nodes {acceptors} {coordinators} {learners}\n")?;
-    let mut script = Vec::from_slice(alloc, nodes.as_bytes())?;
+    let mut script = script_with(alloc, seed, 0)?;
     for number in 0..OFFERS {
-        let key = if conflicting { 0 } else { number };
-        let line = format!(in alloc; "offer p{number} put k{key} {number}\n")?;
-        script.extend_from_slice(line.as_bytes())?;
+        push_put(
+            alloc,
+            &mut script,
+            number,
+            if conflicting { 0 } else { number },
+        )?;
     }
     Ok(script)
+}
+
+// Proposer `number` offers a put of its number.
+fn push_put(alloc: Global, script: &mut Vec<u8>, number: usize, key: usize) -> Result<(), Fail> {
+    let line = format!(in alloc; "offer p{number} put k{key} {number}\n")?;
+    script.extend_from_slice(line.as_bytes())?;
+    Ok(())
 }
 
 // How many multi, single and later fast rounds coordinator 0 began, if the first round was fast, a multi round followed a
@@ -168,11 +181,19 @@ fn course_of_run<W: Threads + Wait + Sync>(
     conflicting: bool,
 ) -> Result<Option<(u32, u32, u32)>, Fail> {
     let finished = adapted(rt, alloc, &puts(alloc, seed, conflicting)?)?;
-    if finished.ran.status != 0 || !is_audited(rt, alloc, config_of(seed)?, &finished)? {
+    course_if_upheld(rt, alloc, seed, &finished)
+}
+
+fn course_if_upheld<W: Threads + Wait + Sync>(
+    rt: &W,
+    alloc: Global,
+    seed: usize,
+    finished: &Finished<MemDisk>,
+) -> Result<Option<(u32, u32, u32)>, Fail> {
+    if finished.ran.status != 0 || !is_audited(rt, alloc, config_of(seed)?, finished)? {
         return Ok(None);
     }
-    let printed = parts_of(alloc, finished.sink.written())?;
-    Ok(course_of(&printed.trace))
+    Ok(course_of(&parts_of(alloc, finished.sink.written())?.trace))
 }
 
 #[test]
@@ -199,17 +220,17 @@ fn clashes_lead_to_a_multi_round_and_quiet_leads_back(rt: HostRuntime) -> Result
 // In each run the threads meet in another way, and often the proposals of the coordinators clash too.
 #[test]
 fn a_clash_in_a_multi_round_leads_to_a_single_one(rt: HostRuntime) -> Result<(), Fail> {
-    let alloc = rt.alloc();
+    assert!(rt; meets_a_clash(&rt, rt.alloc())?);
+    Ok(())
+}
+
+// Whether one of many runs begins a single round, and no run before it is refused by the audit.
+fn meets_a_clash<W: Threads + Wait + Sync>(rt: &W, alloc: Global) -> Result<bool, Fail> {
     for _ in 0..RUNS {
-        match course_of_run(&rt, alloc, FIVE_COORDINATORS, true)? {
-            Some((_, single, _)) => {
-                if single > 0 {
-                    return Ok(());
-                }
-            }
-            None => assert!(rt; false),
+        match course_of_run(rt, alloc, FIVE_COORDINATORS, true)? {
+            Some((_, 0, _)) => {}
+            course => return Ok(course.is_some()),
         }
     }
-    assert!(rt; false);
-    Ok(())
+    Ok(false)
 }

@@ -47,14 +47,16 @@ fn one_failing_call_ends_the_run_or_lets_the_acceptor_fall_once(
 // The node of the disk crashes, and its disk fails again when it recovers.
 #[test]
 fn a_recovery_that_fails_ends_the_run(rt: HostRuntime) -> Result<(), Fail> {
-    let alloc = rt.alloc();
     for number in [0u64, 7] {
-        let disks = disks_with(alloc, number, b"", &[MAKING, MAKING + 1])?;
-        let finished = served_with(&rt, alloc, &["run"], EIGHT, disks)?;
-        assert!(rt; finished.ran.status == 6);
-        assert!(rt; finished.sink.written() == b"disk fault\n".as_slice());
-        assert!(rt; is_posted(&finished.ran));
-        assert!(rt; !finished.ran.trail.records().is_empty());
+        assert!(rt; fails_twice(&rt, rt.alloc(), number)?);
     }
     Ok(())
+}
+
+fn fails_twice<W: Threads + Wait + Sync>(rt: &W, alloc: Global, number: u64) -> Result<bool, Fail> {
+    let disks = disks_with(alloc, number, b"", &[MAKING, MAKING + 1])?;
+    let finished = served_with(rt, alloc, &["run"], EIGHT, disks)?;
+    let has_records = is_posted(&finished.ran) && !finished.ran.trail.records().is_empty();
+    let is_told = finished.sink.written() == b"disk fault\n".as_slice();
+    Ok(finished.ran.status == 6 && has_records && is_told)
 }

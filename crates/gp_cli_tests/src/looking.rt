@@ -78,23 +78,29 @@ fn looks_at<R: Threads + Wait + Sync>(
     Ok((looked, last_looks(rt, alloc, key, onlookers, learned)))
 }
 
+// Whether both looked before anything was published and after all, and the order is that of the puts.
+fn is_seen(looks: &Looks, row: Row) -> bool {
+    let wanted = [NOTHING_SEEN, row.last];
+    looks.order.len() == row.puts.len()
+        && looks
+            .order
+            .iter()
+            .zip(row.puts)
+            .all(|(id, put)| id.number == put.0)
+        && *looks.first.as_slice() == *wanted.as_slice()
+        && *looks.second.as_slice() == *wanted.as_slice()
+}
+
+fn sees<R: Threads + Wait + Sync>(rt: &R, alloc: Global, row: Row) -> Result<bool, Fail> {
+    let learned = history(alloc, row.puts)?;
+    let (looked, looks) = looks_at(rt, alloc, &learned)?;
+    Ok(looked && is_seen(&looks?, row))
+}
+
 #[test]
 fn the_last_look_is_at_the_end_of_the_order(rt: HostRuntime) -> Result<(), Fail> {
     for row in ROWS {
-        let learned = history(rt.alloc(), row.puts)?;
-        let (looked, looks) = looks_at(&rt, rt.alloc(), &learned)?;
-        let looks = looks?;
-        assert!(rt; looked);
-        assert!(rt; looks.order.len() == row.puts.len());
-        assert!(rt;
-            looks
-                .order
-                .iter()
-                .zip(row.puts)
-                .all(|(id, put)| id.number == put.0)
-        );
-        assert!(rt; *looks.first.as_slice() == *[NOTHING_SEEN, row.last].as_slice());
-        assert!(rt; *looks.second.as_slice() == *[NOTHING_SEEN, row.last].as_slice());
+        assert!(rt; sees(&rt, rt.alloc(), row)?);
     }
     Ok(())
 }
@@ -108,20 +114,32 @@ fn look_twice<R: Wait>(rt: &R, onlookers: &mut Onlookers) -> bool
     once.is_ok() && twice.is_ok()
 }
 
-#[test]
-fn each_reader_has_its_own_looks(rt: HostRuntime) -> Result<(), Fail> {
+// The first looks twice before anything is published, and then both look a last time.
+fn looks_of_the_first<R: Threads + Wait + Sync>(
+    rt: &R,
+    alloc: Global,
+    learned: &History,
+) -> Result<(bool, Looks), Fail> {
     let key = Key::new(A)?;
-    let learned = history(rt.alloc(), &[(1, A, 5)])?;
-    let mut onlookers = watch(&rt, rt.alloc(), key)?;
-    let looked = look_twice(&rt, &mut onlookers);
-    let looks = last_looks(&rt, rt.alloc(), key, onlookers, &learned)?;
+    let mut onlookers = watch(rt, alloc, key)?;
+    let looked = look_twice(rt, &mut onlookers);
+    Ok((looked, last_looks(rt, alloc, key, onlookers, learned)?))
+}
+
+fn are_of_the_first(looks: &Looks) -> bool {
     let last = Look {
         seen: 1,
         value: Some(5),
     };
-    assert!(rt; looked);
-    assert!(rt; *looks.first.as_slice() == *[NOTHING_SEEN, NOTHING_SEEN, last].as_slice());
-    assert!(rt; *looks.second.as_slice() == *[last].as_slice());
+    *looks.first.as_slice() == *[NOTHING_SEEN, NOTHING_SEEN, last].as_slice()
+        && *looks.second.as_slice() == *[last].as_slice()
+}
+
+#[test]
+fn each_reader_has_its_own_looks(rt: HostRuntime) -> Result<(), Fail> {
+    let learned = history(rt.alloc(), &[(1, A, 5)])?;
+    let (looked, looks) = looks_of_the_first(&rt, rt.alloc(), &learned)?;
+    assert!(rt; looked && are_of_the_first(&looks));
     Ok(())
 }
 

@@ -1,7 +1,8 @@
 //! Runs of nodes of several configurations, each of which `play` repeats from its trace.
 use crate::audited_runs::is_audited;
 use crate::nodes::{parts_of, plays_again};
-use crate::stage::{disks_with, served_with};
+use crate::stage::{Finished, disks_with, served_with};
+use gp_edge::MemDisk;
 use gp_round::Config;
 use std::alloc::Global;
 use std::sync::Wait;
@@ -45,14 +46,19 @@ pub fn script_with(alloc: Global, seed: usize, offers: usize) -> Result<Vec<u8>,
     let nodes = format!(in alloc; "nodes {acceptors} {coordinators} {learners}\n")?;
     let mut script = Vec::from_slice(alloc, nodes.as_bytes())?;
     for number in 0..offers {
-        script.extend_from_slice(b"offer p")?;
-        script.push(b'0' + (number % PROPOSERS) as u8)?;
-        script.push(b' ')?;
-        let at = number.wrapping_mul(seed % 12 + 1).wrapping_add(seed) % OPERATIONS.len();
-        script.extend_from_slice(OPERATIONS[at])?;
-        script.push(b'\n')?;
+        push_offer(&mut script, seed, number)?;
     }
     Ok(script)
+}
+
+fn push_offer(script: &mut Vec<u8>, seed: usize, number: usize) -> Result<(), Fail> {
+    script.extend_from_slice(b"offer p")?;
+    script.push(b'0' + (number % PROPOSERS) as u8)?;
+    script.push(b' ')?;
+    let at = number.wrapping_mul(seed % 12 + 1).wrapping_add(seed) % OPERATIONS.len();
+    script.extend_from_slice(OPERATIONS[at])?;
+    script.push(b'\n')?;
+    Ok(())
 }
 
 // Whether a run ends with all learned, `play` prints its report from its trace, and an audit upholds it.
@@ -61,13 +67,24 @@ fn is_played_again<W: Threads + Wait + Sync>(
     alloc: Global,
     seed: usize,
 ) -> Result<bool, Fail> {
+    let finished = finished(rt, alloc, seed)?;
+    let is_upheld = is_audited(rt, alloc, config_of(seed)?, &finished)?;
+    let is_over = finished.ran.status == 0 && is_upheld;
+    Ok(is_over && is_same(rt, alloc, finished.sink.written())?)
+}
+
+fn finished<W: Threads + Wait + Sync>(
+    rt: &W,
+    alloc: Global,
+    seed: usize,
+) -> Result<Finished<MemDisk>, Fail> {
     let script = script_with(alloc, seed, OFFERS)?;
     let disks = disks_with(alloc, 0, b"", &[])?;
-    let finished = served_with(rt, alloc, &["run"], &script, disks)?;
-    let printed = parts_of(alloc, finished.sink.written())?;
-    let is_same = plays_again(rt, alloc, &printed)?;
-    let is_upheld = is_audited(rt, alloc, config_of(seed)?, &finished)?;
-    Ok(finished.ran.status == 0 && is_same && is_upheld)
+    served_with(rt, alloc, &["run"], &script, disks)
+}
+
+fn is_same<W: Threads + Wait + Sync>(rt: &W, alloc: Global, text: &[u8]) -> Result<bool, Fail> {
+    plays_again(rt, alloc, &parts_of(alloc, text)?)
 }
 
 #[test]

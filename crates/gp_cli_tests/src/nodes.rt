@@ -139,32 +139,37 @@ fn commands_that_commute_are_learned_by_all(rt: HostRuntime) -> Result<(), Fail>
 
 #[test]
 fn a_log_has_no_room_for_all_commands(rt: HostRuntime) -> Result<(), Fail> {
-    let alloc = rt.alloc();
-    let disks = disks_with(alloc, 0, b"", &[])?;
-    let finished = served_with(&rt, alloc, &["run", "128"], EIGHT, disks)?;
-    assert!(rt; finished.ran.status == 7);
-    assert!(rt; is_posted(&finished.ran));
-    assert!(rt;
-        finished
-            .sink
-            .written()
-            .starts_with(b"log full: size 17 need ")
-    );
+    assert!(rt; fills_a_log(&rt, rt.alloc())?);
     Ok(())
+}
+
+fn fills_a_log<W: Threads + Wait + Sync>(rt: &W, alloc: Global) -> Result<bool, Fail> {
+    let disks = disks_with(alloc, 0, b"", &[])?;
+    let finished = served_with(rt, alloc, &["run", "128"], EIGHT, disks)?;
+    let is_told = finished
+        .sink
+        .written()
+        .starts_with(b"log full: size 17 need ");
+    Ok(finished.ran.status == 7 && is_posted(&finished.ran) && is_told)
 }
 
 // All commands need 202 bytes, which fit under the limit only if no other entry is there.
 #[test]
 fn a_log_without_room_for_one_more_entry_is_renewed(rt: HostRuntime) -> Result<(), Fail> {
-    let alloc = rt.alloc();
-    let disks = disks_with(alloc, 0, b"", &[])?;
-    let finished = served_with(&rt, alloc, &["run", "220"], EIGHT, disks)?;
-    assert!(rt; finished.ran.status == 0);
-    let printed = parts_of(alloc, finished.sink.written())?;
-    assert!(rt; show_eight(alloc, &printed.report)?);
-    // an entry was written into the second area
-    assert!(rt; content_of(&finished, 0).len() > 220);
+    assert!(rt; renews_a_log(&rt, rt.alloc())?);
     Ok(())
+}
+
+// Whether both learners show the eight commands, and an entry was written into the second area.
+fn renews_a_log<W: Threads + Wait + Sync>(rt: &W, alloc: Global) -> Result<bool, Fail> {
+    let disks = disks_with(alloc, 0, b"", &[])?;
+    let finished = served_with(rt, alloc, &["run", "220"], EIGHT, disks)?;
+    let is_renewed = finished.ran.status == 0 && content_of(&finished, 0).len() > 220;
+    Ok(is_renewed && prints_eight(alloc, finished.sink.written())?)
+}
+
+fn prints_eight(alloc: Global, text: &[u8]) -> Result<bool, Fail> {
+    show_eight(alloc, &parts_of(alloc, text)?.report)
 }
 
 // Whether the offers come before the first round, a single round follows the multi round, and the
@@ -215,24 +220,28 @@ fn a_coordinator_that_falls_is_settled(rt: HostRuntime) -> Result<(), Fail> {
 
 #[test]
 fn a_disk_that_fails_while_its_log_is_made_ends_the_run(rt: HostRuntime) -> Result<(), Fail> {
-    let alloc = rt.alloc();
-    let disks = disks_with(alloc, 0, b"", &[0])?;
-    let finished = served_with(&rt, alloc, &["run"], EIGHT, disks)?;
-    assert!(rt; finished.ran.status == 6);
-    assert!(rt; !is_posted(&finished.ran));
-    assert!(rt; finished.ran.trail.records().is_empty());
-    assert!(rt; finished.sink.written() == b"disk fault\n".as_slice());
+    assert!(rt; ends_at_a_fault(&rt, rt.alloc())?);
     Ok(())
+}
+
+fn ends_at_a_fault<W: Threads + Wait + Sync>(rt: &W, alloc: Global) -> Result<bool, Fail> {
+    let disks = disks_with(alloc, 0, b"", &[0])?;
+    let finished = served_with(rt, alloc, &["run"], EIGHT, disks)?;
+    let ran_nothing = !is_posted(&finished.ran) && finished.ran.trail.records().is_empty();
+    let is_told = finished.sink.written() == b"disk fault\n".as_slice();
+    Ok(finished.ran.status == 6 && ran_nothing && is_told)
 }
 
 #[test]
 fn a_script_of_run_has_offers_alone(rt: HostRuntime) -> Result<(), Fail> {
-    let alloc = rt.alloc();
+    assert!(rt; refuses_a_beginning(&rt, rt.alloc())?);
+    Ok(())
+}
+
+fn refuses_a_beginning<W: Threads + Wait + Sync>(rt: &W, alloc: Global) -> Result<bool, Fail> {
     let disks = disks_with(alloc, 0, b"", &[])?;
     let script = b"nodes 3 1 1\nbegin c0 1 single\n";
-    let finished = served_with(&rt, alloc, &["run", "64"], script, disks)?;
-    assert!(rt; finished.ran.status == 3);
-    assert!(rt; !is_posted(&finished.ran));
-    assert!(rt; finished.sink.written() == b"line 2: bad line\n".as_slice());
-    Ok(())
+    let finished = served_with(rt, alloc, &["run", "64"], script, disks)?;
+    let is_told = finished.sink.written() == b"line 2: bad line\n".as_slice();
+    Ok(finished.ran.status == 3 && !is_posted(&finished.ran) && is_told)
 }

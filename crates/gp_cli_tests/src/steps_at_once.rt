@@ -4,9 +4,11 @@ use crate::stage::{disks_with, owned};
 use gp_cli::serve;
 use gp_edge::{CalmSink, CalmSource, Gate};
 use gp_msg::Node;
+use std::alloc::Global;
+use std::sync::Wait;
 use std::sync::atomic::{AtomicU64, Ordering};
 use std::test::Fail;
-use std::thread;
+use std::thread::{self, Threads};
 
 // How often a step looks whether the other one has begun.
 const LOOKS: u32 = 1_000_000;
@@ -66,18 +68,20 @@ impl Gate for Meeting {
 // them see the other.
 #[test]
 fn two_steps_at_once(rt: HostRuntime) -> Result<(), Fail> {
-    let alloc = rt.alloc();
     let gate = Meeting {
         first: Visitor::new(),
         second: Visitor::new(),
     };
+    assert!(rt; status_at(&rt, rt.alloc(), &gate)? == 0);
+    assert!(rt; gate.first.has_met() && gate.second.has_met());
+    Ok(())
+}
+
+// The status of a run at this gate.
+fn status_at<W: Threads + Wait + Sync>(rt: &W, alloc: Global, gate: &Meeting) -> Result<u8, Fail> {
     let mut source = CalmSource::new(alloc, EIGHT)?;
     let mut sink = CalmSink::new(alloc)?;
     let words = owned(alloc, &["run"])?;
     let disks = disks_with(alloc, 0, b"", &[])?;
-    let ran = serve(&rt, alloc, &words, &mut source, &mut sink, disks, &gate);
-    assert!(rt; ran.status == 0);
-    assert!(rt; gate.first.has_met());
-    assert!(rt; gate.second.has_met());
-    Ok(())
+    Ok(serve(rt, alloc, &words, &mut source, &mut sink, disks, gate).status)
 }

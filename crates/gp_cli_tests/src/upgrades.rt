@@ -31,15 +31,29 @@ fn upgraded<W: Threads + Wait + Sync>(
 #[test]
 fn the_last_entry_of_an_old_log_is_taken_on_once(rt: HostRuntime) -> Result<(), Fail> {
     let bytes = old_log(rt.alloc(), 128)?;
-    let first = upgraded(&rt, rt.alloc(), &bytes, &[])?;
-    assert!(rt; first.ran.status == 0 && first.sink.written() == TAKEN_ON);
-    let new = content_of(&first, 3);
-    assert!(rt; new.len() == 182 && new.get(12) == Some(&1));
-    // the second time nothing is written
-    let second = upgraded(&rt, rt.alloc(), new, &[3])?;
-    assert!(rt; second.ran.status == 0 && second.sink.written() == TAKEN_ON);
-    assert!(rt; content_of(&second, 3) == new);
+    assert!(rt; is_taken_on_once(&rt, rt.alloc(), &bytes)?);
     Ok(())
+}
+
+fn is_taken_on_once<W: Threads + Wait + Sync>(
+    rt: &W,
+    alloc: Global,
+    bytes: &[u8],
+) -> Result<bool, Fail> {
+    let first = upgraded(rt, alloc, bytes, &[])?;
+    let new = content_of(&first, 3);
+    let is_new = new.len() == 182 && new.get(12) == Some(&1);
+    Ok(is_new && is_taken_on(&first) && stays(rt, alloc, new)?)
+}
+
+fn is_taken_on(ended: &Finished<MemDisk>) -> bool {
+    ended.ran.status == 0 && ended.sink.written() == TAKEN_ON
+}
+
+// Whether a log that was taken on is shown again, and nothing is written.
+fn stays<W: Threads + Wait + Sync>(rt: &W, alloc: Global, new: &[u8]) -> Result<bool, Fail> {
+    let second = upgraded(rt, alloc, new, &[3])?;
+    Ok(is_taken_on(&second) && content_of(&second, 3) == new)
 }
 
 #[test]
@@ -47,11 +61,15 @@ fn a_log_without_room_for_its_last_entry_is_full(rt: HostRuntime) -> Result<(), 
     let alloc = rt.alloc();
     // the vote alone, in a log that has no byte to spare
     let bytes = old_log_of_a_vote(alloc, 66)?;
-    let ended = upgraded(&rt, alloc, &bytes, &[])?;
-    assert!(rt; ended.ran.status == 7);
-    assert!(rt; ended.sink.written() == b"log full: size 17 need 53\n".as_slice());
-    assert!(rt; content_of(&ended, 3) == bytes.as_slice());
+    assert!(rt; is_full(&rt, alloc, &bytes)?);
     Ok(())
+}
+
+// Whether a log is too full to be taken on, and stays as it is.
+fn is_full<W: Threads + Wait + Sync>(rt: &W, alloc: Global, bytes: &[u8]) -> Result<bool, Fail> {
+    let ended = upgraded(rt, alloc, bytes, &[])?;
+    let is_told = ended.sink.written() == b"log full: size 17 need 53\n".as_slice();
+    Ok(ended.ran.status == 7 && is_told && content_of(&ended, 3) == bytes)
 }
 
 // Whether a log is whole: `log` shows both entries, or the last one.

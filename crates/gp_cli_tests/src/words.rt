@@ -136,13 +136,18 @@ fn no_memory_for_the_arguments_ends_with_1(rt: HostRuntime) -> Result<(), Fail> 
 
 #[test]
 fn no_memory_for_the_disks_ends_with_1(rt: HostRuntime) -> Result<(), Fail> {
-    let alloc = rt.alloc();
+    assert!(rt; ends_without_disks(&rt, rt.alloc())?);
+    Ok(())
+}
+
+fn ends_without_disks<R: Eprint + Threads + Wait + Sync>(
+    rt: &R,
+    alloc: Global,
+) -> Result<bool, Fail> {
     let mut source = CalmSource::new(alloc, SCRIPT)?;
     let mut sink = CalmSink::new(alloc)?;
     let arguments = Ok(owned(alloc, &["mcgp", "play"])?.into_iter());
     let disks: Result<Vec<MemDisk>, NoMemory> = Err(NoMemory);
-    let ended = run_program(&rt, alloc, arguments, &mut source, &mut sink, disks, &Idle);
-    assert!(rt; ended.report(&rt) == ExitCode::from(1));
-    assert!(rt; sink.written().is_empty());
-    Ok(())
+    let ended = run_program(rt, alloc, arguments, &mut source, &mut sink, disks, &Idle);
+    Ok(ended.report(rt) == ExitCode::from(1) && sink.written().is_empty())
 }
