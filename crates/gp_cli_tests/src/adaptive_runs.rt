@@ -4,6 +4,7 @@ use crate::many_runs::{config_of, script_with};
 use crate::nodes::{CHECKPOINT, EIGHT, Printed, count, parts_of, plays_again, show_eight, shows};
 use crate::stage::{Finished, disks_with, served_with};
 use gp_edge::MemDisk;
+use gp_round::Mode;
 use std::alloc::Global;
 use std::sync::Wait;
 use std::test::Fail;
@@ -150,27 +151,42 @@ fn push_put(alloc: Global, script: &mut Vec<u8>, number: usize, key: usize) -> R
 // fast one, a single one followed a multi one, and a fast one followed another one.
 fn course_of(trace: &[u8]) -> Option<(u32, u32, u32)> {
     let (mut multi, mut single, mut fast) = (0u32, 0u32, 0u32);
-    let mut last = b' ';
+    let mut last = None;
     for line in trace.split(|byte| *byte == b'\n') {
         if line.starts_with(b"begin c0 ") {
-            let mode = if line.ends_with(b" multi") {
-                multi = multi.saturating_add(1);
-                b'm'
-            } else if line.ends_with(b" single") {
-                single = single.saturating_add(1);
-                b's'
-            } else {
-                fast = fast.saturating_add(1);
-                b'f'
-            };
-            match (last, mode) {
-                (b' ', b'f') | (b'f', b'm') | (b'm', b's') | (b'm', b'f') | (b's', b'f') => {}
-                _ => return None,
+            let mode = mode_of(line);
+            if !may_follow(last, mode) {
+                return None;
             }
-            last = mode;
+            match mode {
+                Mode::Multi => multi = multi.saturating_add(1),
+                Mode::Single => single = single.saturating_add(1),
+                Mode::Fast => fast = fast.saturating_add(1),
+            }
+            last = Some(mode);
         }
     }
     Some((multi, single, fast.saturating_sub(1)))
+}
+
+// The mode of the round that a line begins.
+fn mode_of(line: &[u8]) -> Mode {
+    if line.ends_with(b" multi") {
+        Mode::Multi
+    } else if line.ends_with(b" single") {
+        Mode::Single
+    } else {
+        Mode::Fast
+    }
+}
+
+// Whether a round of this mode follows one of that mode, or is the first.
+fn may_follow(last: Option<Mode>, mode: Mode) -> bool {
+    match (last, mode) {
+        (Some(Mode::Fast), Mode::Multi) | (Some(Mode::Multi), Mode::Single) => true,
+        (None | Some(Mode::Multi | Mode::Single), Mode::Fast) => true,
+        _ => false,
+    }
 }
 
 // The course of the run of a seed, if it is upheld by an audit.

@@ -24,12 +24,18 @@ const MANY: usize = 100_000;
 // The world after the events of these records, or `None` if one is refused.
 fn world_of(alloc: Global, config: Config, records: &[Record]) -> Result<Option<World>, Fail> {
     let mut world = World::new(alloc, config)?;
+    let is_legal = steps_all(&mut world, records)?;
+    Ok(is_legal.then_some(world))
+}
+
+// Whether no event of these records is refused.
+fn steps_all(world: &mut World, records: &[Record]) -> Result<bool, Fail> {
     for record in records {
         if world.records().len() >= MANY || world.step(record.event.copy()?).is_err() {
-            return Ok(None);
+            return Ok(false);
         }
     }
-    Ok(Some(world))
+    Ok(true)
 }
 
 /// Whether an audit upholds what a run of nodes printed, and each of its certificates counts.
@@ -39,16 +45,17 @@ pub fn is_audited<W: Threads + Wait + Sync>(
     config: Config,
     run: &Finished<MemDisk>,
 ) -> Result<bool, Fail> {
-    let Some(world) = world_of(alloc, config, run.ran.trail.records())? else {
-        return Ok(false);
-    };
+    match world_of(alloc, config, run.ran.trail.records())? {
+        Some(world) => Ok(is_legal(rt, alloc, run.sink.written())? && all_counted(alloc, &world)?),
+        None => Ok(false),
+    }
+}
+
+// Whether an audit upholds this.
+fn is_legal<W: Threads + Wait + Sync>(rt: &W, alloc: Global, text: &[u8]) -> Result<bool, Fail> {
     let disks = disks_with(alloc, 0, b"", &[])?;
-    let audit = served_with(rt, alloc, &["audit"], run.sink.written(), disks)?;
-    Ok(
-        audit.ran.status == 0
-            && audit.sink.written().starts_with(b"legal\n")
-            && all_counted(alloc, &world)?,
-    )
+    let audit = served_with(rt, alloc, &["audit"], text, disks)?;
+    Ok(audit.ran.status == 0 && audit.sink.written().starts_with(b"legal\n"))
 }
 
 // Whether what a script prints is upheld.
@@ -110,13 +117,22 @@ fn falls_in_runs<W: Threads + Wait + Sync>(
 ) -> Result<Option<usize>, Fail> {
     let mut fallen = 0usize;
     for seed in seeds {
-        let run = fallen_run(rt, alloc, seed)?;
-        if run.ran.status != 0 || !is_audited(rt, alloc, config_of(seed)?, &run)? {
+        let Some(falls) = falls_if_upheld(rt, alloc, seed, &fallen_run(rt, alloc, seed)?)? else {
             return Ok(None);
-        }
-        fallen = fallen.saturating_add(falls(run.ran.trail.records()));
+        };
+        fallen = fallen.saturating_add(falls);
     }
     Ok(Some(fallen))
+}
+
+fn falls_if_upheld<W: Threads + Wait + Sync>(
+    rt: &W,
+    alloc: Global,
+    seed: usize,
+    run: &Finished<MemDisk>,
+) -> Result<Option<usize>, Fail> {
+    let is_upheld = run.ran.status == 0 && is_audited(rt, alloc, config_of(seed)?, run)?;
+    Ok(is_upheld.then_some(falls(run.ran.trail.records())))
 }
 
 #[test]

@@ -164,16 +164,24 @@ fn is_upheld<W: Threads + Wait + Sync>(
 ) -> Result<bool, Fail> {
     let disks = disks_with(alloc, number, b"", failing)?;
     let run = served_with(rt, alloc, &["run"], script, disks)?;
+    let records = run.ran.trail.records().len();
+    Ok(run.ran.status == 0 && is_legal(rt, alloc, run.sink.written(), records, lines)?)
+}
+
+// Whether an audit of this input makes so many records, and prints that they are legal in so many lines.
+fn is_legal<W: Threads + Wait + Sync>(
+    rt: &W,
+    alloc: Global,
+    input: &[u8],
+    records: usize,
+    lines: usize,
+) -> Result<bool, Fail> {
     let disks = disks_with(alloc, 0, b"", &[])?;
-    let audit = served_with(rt, alloc, &["audit"], run.sink.written(), disks)?;
+    let audit = served_with(rt, alloc, &["audit"], input, disks)?;
     let text = audit.sink.written();
-    Ok(
-        run.ran.status == 0
-            && audit.ran.status == 0
-            && audit.ran.trail.records().len() == run.ran.trail.records().len()
-            && text.starts_with(b"legal\n")
-            && text.split_inclusive(|byte| *byte == b'\n').count() == lines,
-    )
+    let is_told = text.starts_with(b"legal\n")
+        && text.split_inclusive(|byte| *byte == b'\n').count() == lines;
+    Ok(audit.ran.status == 0 && audit.ran.trail.records().len() == records && is_told)
 }
 
 #[test]

@@ -6,6 +6,7 @@ use gp_command::{Key, NoMemory};
 use gp_replica::Replica;
 use gp_store::{KeyStore, Op};
 use gp_views::{Feed, Reader, Unread};
+use std::alloc::Global;
 use std::sync::Wait;
 use std::test::Fail;
 
@@ -62,15 +63,17 @@ fn a_reader_sees_what_it_was_told_of(rt: HostRuntime) -> Result<(), Fail> {
         (3, Op::Del(keys.1)),
         (4, Op::Add(keys.0, 2)),
     ];
-    let replica = replica_of(&rt, alloc, &commands)?;
-    let (mut feed, mut readers) = Feed::new(&rt, alloc, 2)?;
-    let found = match (readers.pop(), readers.pop()) {
-        (Some(mut first), Some(mut second)) => {
-            find(&rt, &mut feed, &mut first, &mut second, &replica, keys)
-        }
-        _ => None,
-    };
-    feed.close(&rt);
+    assert!(rt; finds(&rt, alloc, &replica_of(&rt, alloc, &commands)?, keys)?);
+    Ok(())
+}
+
+// Whether two readers of a new feed find what they have to.
+fn finds<R: Wait>(
+    rt: &R,
+    alloc: Global,
+    replica: &Replica<KeyStore>,
+    keys: (Key, Key),
+) -> Result<bool, Fail> {
     let want = Findings {
         before: false,
         values: (None, Some(7)),
@@ -80,19 +83,38 @@ fn a_reader_sees_what_it_was_told_of(rt: HostRuntime) -> Result<(), Fail> {
         in_order_alone: true,
         counts: (0, 4),
     };
-    assert!(rt; found == Some(want));
-    Ok(())
+    Ok(found(rt, alloc, replica, keys)? == Some(want))
+}
+
+fn found<R: Wait>(
+    rt: &R,
+    alloc: Global,
+    replica: &Replica<KeyStore>,
+    keys: (Key, Key),
+) -> Result<Option<Findings>, NoMemory> {
+    let (mut feed, mut readers) = Feed::new(rt, alloc, 2)?;
+    let found = match (readers.pop(), readers.pop()) {
+        (Some(mut first), Some(mut second)) => {
+            find(rt, &mut feed, &mut first, &mut second, replica, keys)
+        }
+        _ => None,
+    };
+    feed.close(rt);
+    Ok(found)
 }
 
 #[test]
 fn a_reader_of_a_closed_feed_reads_nothing(rt: HostRuntime) -> Result<(), Fail> {
-    let alloc = rt.alloc();
-    let key = Key::new(b"a")?;
-    let (feed, mut readers) = Feed::new(&rt, alloc, 16)?;
-    assert!(rt; readers.len() == 16);
-    feed.close(&rt);
-    let mut reader = readers.pop().ok_or(NoMemory)?;
-    assert!(rt; reader.get(key) == Err(Unread));
-    assert!(rt; reader.seen() == 0);
+    assert!(rt; reads_nothing(&rt, rt.alloc(), Key::new(b"a")?)?);
     Ok(())
+}
+
+fn reads_nothing<R: Wait>(rt: &R, alloc: Global, key: Key) -> Result<bool, Fail> {
+    let (feed, mut readers) = Feed::new(rt, alloc, 16)?;
+    let many = readers.len() == 16;
+    feed.close(rt);
+    Ok(match readers.pop() {
+        Some(mut reader) => many && reader.get(key) == Err(Unread) && reader.seen() == 0,
+        None => false,
+    })
 }

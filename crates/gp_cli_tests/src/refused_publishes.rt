@@ -8,6 +8,7 @@ use gp_replica::Replica;
 use gp_store::{KeyStore, Op};
 use gp_views::{Feed, Reader};
 use std::alloc::Global;
+use std::process::Abort;
 use std::sync::Wait;
 use std::test::Fail;
 
@@ -87,9 +88,39 @@ fn a_refused_publish_leaves_nothing_behind(rt: HostRuntime) -> Result<(), Fail> 
         (3, Op::Add(key, 4)),
     ];
     let others = [(4, Op::Add(key, 8)), (5, Op::Add(key, 16))];
-    let first = replica_of(&rt, alloc, &adds)?;
-    let second = replica_of(&rt, alloc, &others)?;
-    let seen = see(&rt, alloc, (&first, &second), key)?.ok_or(NoMemory)?;
-    assert!(rt; seen == ((true, 3), (3, Some(7))) || seen == ((false, 2), (2, Some(24))));
+    assert!(rt; sees_one(&rt, alloc, &adds, &others, key)?);
     Ok(())
+}
+
+// Whether a reader sees either the sum of the three or that of the two others.
+fn sees_one(
+    rt: &(impl Wait + Abort),
+    alloc: Global,
+    adds: &[(u32, Op)],
+    others: &[(u32, Op)],
+    key: Key,
+) -> Result<bool, Fail> {
+    let first = replica_of(rt, alloc, adds)?;
+    sees_beside(rt, alloc, &first, others, key)
+}
+
+fn sees_beside(
+    rt: &(impl Wait + Abort),
+    alloc: Global,
+    first: &Replica<KeyStore>,
+    others: &[(u32, Op)],
+    key: Key,
+) -> Result<bool, Fail> {
+    let second = replica_of(rt, alloc, others)?;
+    is_seen(rt, alloc, (first, &second), key)
+}
+
+fn is_seen(
+    rt: &impl Wait,
+    alloc: Global,
+    replicas: (&Replica<KeyStore>, &Replica<KeyStore>),
+    key: Key,
+) -> Result<bool, Fail> {
+    let seen = see(rt, alloc, replicas, key)?.ok_or(NoMemory)?;
+    Ok(seen == ((true, 3), (3, Some(7))) || seen == ((false, 2), (2, Some(24))))
 }

@@ -44,11 +44,21 @@ fn is_learned<W: Threads + Wait + Sync>(
     let seed_word = format!(in alloc; "{seed}")?;
     let commands_word = format!(in alloc; "{commands}")?;
     let words = ["sim", seed_word.as_str(), commands_word.as_str()];
-    let served = served(rt, alloc, &words, disks_with(alloc, 0, b"", &[])?)?;
     let begin = format!(in alloc;
         "sim {seed} {commands}\nlearned {commands} {commands}\nsame yes\n"
     )?;
-    Ok(served.ran.status == 0 && served.sink.written().starts_with(begin.as_bytes()))
+    begins(rt, alloc, &words, begin.as_bytes())
+}
+
+// Whether a command ends well, and what it prints begins with these bytes.
+fn begins<W: Threads + Wait + Sync>(
+    rt: &W,
+    alloc: Global,
+    words: &[&str],
+    begin: &[u8],
+) -> Result<bool, Fail> {
+    let served = served(rt, alloc, words, disks_with(alloc, 0, b"", &[])?)?;
+    Ok(served.ran.status == 0 && served.sink.written().starts_with(begin))
 }
 
 #[test]

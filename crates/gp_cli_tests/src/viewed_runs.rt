@@ -43,22 +43,27 @@ fn run_viewed<W: Threads + Wait + Sync>(
     alloc: Global,
     key: &str,
     script: &[u8],
-) -> Result<Option<Viewed>, Fail> {
+) -> Result<Viewed, Fail> {
     let disks = disks_with(alloc, 0, b"", &[])?;
     let finished = served_with(rt, alloc, &["views", key], script, disks)?;
-    if finished.ran.status != 0 {
-        return Ok(None);
+    if finished.ran.status == 0 {
+        viewed_in(alloc, finished.sink.written())
+    } else {
+        Err(Fail::from("not all is learned"))
     }
-    let whole = parts_of(alloc, finished.sink.written())?;
+}
+
+fn viewed_in(alloc: Global, text: &[u8]) -> Result<Viewed, Fail> {
+    let whole = parts_of(alloc, text)?;
     let behind = parts_of(alloc, &whole.report)?;
     let run = Printed {
         trace: whole.trace,
         report: behind.trace,
     };
-    Ok(Some(Viewed {
+    Ok(Viewed {
         run,
         looks: behind.report,
-    }))
+    })
 }
 
 // The last line that begins with these bytes.
@@ -108,99 +113,94 @@ fn are_right(looks: &[u8], reader: &[u8]) -> bool {
     before == MADE
 }
 
+// Whether these are the last lines of the two readers.
+fn end_with(viewed: &Viewed, first: &[u8], second: &[u8]) -> bool {
+    last_of(&viewed.looks, b"r0") == first && last_of(&viewed.looks, b"r1") == second
+}
+
+fn sees_all<W: Threads + Wait + Sync>(
+    rt: &W,
+    alloc: Global,
+    viewed: &Viewed,
+) -> Result<bool, Fail> {
+    let is_seen = end_with(viewed, b"r0 seen 8 value 1", b"r1 seen 8 value 1");
+    let has_order = viewed.looks.starts_with(b"order: ");
+    let shown = is_seen && has_order && show_eight(alloc, &viewed.run.report)?;
+    Ok(shown && plays_again(rt, alloc, &viewed.run)?)
+}
+
 #[test]
 fn the_last_read_of_each_reader_sees_all(rt: HostRuntime) -> Result<(), Fail> {
-    let alloc = rt.alloc();
-    match run_viewed(&rt, alloc, "a", EIGHT)? {
-        Some(viewed) => {
-            assert!(rt; show_eight(alloc, &viewed.run.report)?);
-            assert!(rt; plays_again(&rt, alloc, &viewed.run)?);
-            assert!(rt; viewed.looks.starts_with(b"order: "));
-            assert!(rt; last_of(&viewed.looks, b"r0") == b"r0 seen 8 value 1".as_slice());
-            assert!(rt; last_of(&viewed.looks, b"r1") == b"r1 seen 8 value 1".as_slice());
-        }
-        None => assert!(rt; false),
-    }
+    let viewed = run_viewed(&rt, rt.alloc(), "a", EIGHT)?;
+    assert!(rt; sees_all(&rt, rt.alloc(), &viewed)?);
     Ok(())
 }
 
 // A reader reads at least once while the nodes work, and once after that.
 #[test]
 fn each_reader_reads_while_the_nodes_work(rt: HostRuntime) -> Result<(), Fail> {
-    let alloc = rt.alloc();
-    match run_viewed(&rt, alloc, "a", PUTS)? {
-        Some(viewed) => {
-            assert!(rt; reads_of(&viewed.looks, b"r0 ") >= 2);
-            assert!(rt; reads_of(&viewed.looks, b"r1 ") >= 2);
-        }
-        None => assert!(rt; false),
-    }
+    let viewed = run_viewed(&rt, rt.alloc(), "a", PUTS)?;
+    assert!(rt; reads_of(&viewed.looks, b"r0 ") >= 2 && reads_of(&viewed.looks, b"r1 ") >= 2);
     Ok(())
+}
+
+// Whether both readers see some of what is learned before their last reads.
+fn sees_some(looks: &[u8]) -> bool {
+    reads_beyond(looks, b"r0 ", b"r0 seen 0") >= 2 && reads_beyond(looks, b"r1 ", b"r1 seen 0") >= 2
 }
 
 // What was learned is published while the nodes work in a later epoch. So each reader sees some of it before its last read.
 #[test]
 fn what_was_learned_is_published_while_the_nodes_work(rt: HostRuntime) -> Result<(), Fail> {
-    let alloc = rt.alloc();
-    match run_viewed(&rt, alloc, "a", EPOCHS)? {
-        Some(viewed) => {
-            assert!(rt; reads_beyond(&viewed.looks, b"r0 ", b"r0 seen 0") >= 2);
-            assert!(rt; reads_beyond(&viewed.looks, b"r1 ", b"r1 seen 0") >= 2);
-        }
-        None => assert!(rt; false),
-    }
+    let viewed = run_viewed(&rt, rt.alloc(), "a", EPOCHS)?;
+    assert!(rt; sees_some(&viewed.looks));
     Ok(())
 }
 
 #[test]
 fn a_key_that_no_command_writes_has_no_value(rt: HostRuntime) -> Result<(), Fail> {
-    let alloc = rt.alloc();
-    match run_viewed(&rt, alloc, "z", EIGHT)? {
-        Some(viewed) => {
-            assert!(rt; last_of(&viewed.looks, b"r0") == b"r0 seen 8 value none".as_slice());
-            assert!(rt; last_of(&viewed.looks, b"r1") == b"r1 seen 8 value none".as_slice());
-        }
-        None => assert!(rt; false),
-    }
+    let viewed = run_viewed(&rt, rt.alloc(), "z", EIGHT)?;
+    assert!(rt; end_with(&viewed, b"r0 seen 8 value none", b"r1 seen 8 value none"));
     Ok(())
+}
+
+// Whether no order is printed, and neither reader saw a command.
+fn sees_nothing(viewed: &Viewed) -> bool {
+    count(&viewed.looks, b"order: -") == 1
+        && end_with(viewed, b"r0 seen 0 value none", b"r1 seen 0 value none")
 }
 
 #[test]
 fn a_run_that_learns_nothing_has_no_order(rt: HostRuntime) -> Result<(), Fail> {
-    let alloc = rt.alloc();
-    match run_viewed(&rt, alloc, "a", b"nodes 3 1 1\n")? {
-        Some(viewed) => {
-            assert!(rt; count(&viewed.looks, b"order: -") == 1);
-            assert!(rt; last_of(&viewed.looks, b"r0") == b"r0 seen 0 value none".as_slice());
-            assert!(rt; last_of(&viewed.looks, b"r1") == b"r1 seen 0 value none".as_slice());
-        }
-        None => assert!(rt; false),
-    }
+    let viewed = run_viewed(&rt, rt.alloc(), "a", b"nodes 3 1 1\n")?;
+    assert!(rt; sees_nothing(&viewed));
     Ok(())
+}
+
+// Whether the order is that of the puts, and the reads of both readers show beginnings of it.
+fn shows_beginnings(looks: &[u8]) -> bool {
+    count(looks, b"order: p0.1 p0.2 p0.3 p0.4 p0.5") == 1
+        && are_right(looks, b"r0")
+        && are_right(looks, b"r1")
 }
 
 #[test]
 fn each_read_shows_a_beginning_of_the_order(rt: HostRuntime) -> Result<(), Fail> {
-    let alloc = rt.alloc();
     for _ in 0..RUNS {
-        match run_viewed(&rt, alloc, "a", PUTS)? {
-            Some(viewed) => {
-                assert!(rt; count(&viewed.looks, b"order: p0.1 p0.2 p0.3 p0.4 p0.5") == 1);
-                assert!(rt; are_right(&viewed.looks, b"r0"));
-                assert!(rt; are_right(&viewed.looks, b"r1"));
-            }
-            None => assert!(rt; false),
-        }
+        let viewed = run_viewed(&rt, rt.alloc(), "a", PUTS)?;
+        assert!(rt; shows_beginnings(&viewed.looks));
     }
     Ok(())
 }
 
+fn ends_with_no_looks<W: Threads + Wait + Sync>(rt: &W, alloc: Global) -> Result<bool, Fail> {
+    let disks = disks_with(alloc, 0, b"", &[0])?;
+    let finished = served_with(rt, alloc, &["views", "a"], EIGHT, disks)?;
+    Ok(finished.ran.status == 6 && finished.sink.written() == b"disk fault\n".as_slice())
+}
+
 #[test]
 fn a_disk_that_fails_ends_the_run_with_no_looks(rt: HostRuntime) -> Result<(), Fail> {
-    let alloc = rt.alloc();
-    let disks = disks_with(alloc, 0, b"", &[0])?;
-    let finished = served_with(&rt, alloc, &["views", "a"], EIGHT, disks)?;
-    assert!(rt; finished.ran.status == 6);
-    assert!(rt; finished.sink.written() == b"disk fault\n".as_slice());
+    assert!(rt; ends_with_no_looks(&rt, rt.alloc())?);
     Ok(())
 }

@@ -32,29 +32,31 @@ fn is_a_disk<D: Disk>(disk: &mut D) -> bool {
 #[test]
 fn disks_in_memory_are_disks(rt: HostRuntime) -> Result<(), Fail> {
     let mut calm = CalmDisk::new(rt.alloc(), b"")?;
-    assert!(rt; is_a_disk(&mut calm));
-    assert!(rt; calm.content() == b"\0\0a".as_slice());
+    assert!(rt; is_a_disk(&mut calm) && calm.content() == b"\0\0a".as_slice());
     let mut scheduled = MemDisk::new(rt.alloc(), b"", &[])?;
-    assert!(rt; is_a_disk(&mut scheduled));
-    assert!(rt; scheduled.content() == b"\0\0a".as_slice());
+    assert!(rt; is_a_disk(&mut scheduled) && scheduled.content() == b"\0\0a".as_slice());
     Ok(())
 }
 
 #[test]
 fn a_disk_fails_at_the_chosen_calls_and_at_no_other(rt: HostRuntime) -> Result<(), Fail> {
     let mut disk = MemDisk::new(rt.alloc(), b"abc", &[0, 2, 4, 6, 8])?;
-    assert!(rt; disk.len() == Err(Refused::Failed));
-    assert!(rt; disk.len() == Ok(3));
-    assert!(rt; disk.read_at(0, &mut [0]) == Err(Refused::Failed));
-    assert!(rt; reads(&mut disk, 0, 3, b"abc-"));
-    assert!(rt; disk.write_at(0, b"X") == Err(Refused::Failed));
-    assert!(rt; disk.write_at(1, b"Y") == Ok(()));
-    assert!(rt; disk.cut(1) == Err(Refused::Failed));
-    assert!(rt; disk.cut(2) == Ok(()));
-    assert!(rt; disk.sync() == Err(Refused::Failed));
-    assert!(rt; disk.sync() == Ok(()));
-    assert!(rt; disk.content() == b"aY".as_slice());
+    assert!(rt; fails_every_second_time(&mut disk) && disk.content() == b"aY".as_slice());
     Ok(())
+}
+
+// Whether each call fails, and does its work when it is repeated.
+fn fails_every_second_time<D: Disk>(disk: &mut D) -> bool {
+    disk.len() == Err(Refused::Failed)
+        && disk.len() == Ok(3)
+        && disk.read_at(0, &mut [0]) == Err(Refused::Failed)
+        && reads(disk, 0, 3, b"abc-")
+        && disk.write_at(0, b"X") == Err(Refused::Failed)
+        && disk.write_at(1, b"Y") == Ok(())
+        && disk.cut(1) == Err(Refused::Failed)
+        && disk.cut(2) == Ok(())
+        && disk.sync() == Err(Refused::Failed)
+        && disk.sync() == Ok(())
 }
 
 const FOLDER: &str = "gp_device_tests_disks/disks";
@@ -70,20 +72,26 @@ fn file_disk(rt: HostRuntime, path: &str) -> Result<FileDisk<HostRuntime>, Fail>
 #[test]
 fn a_file_is_made_at_the_first_call_and_is_a_disk(rt: HostRuntime) -> Result<(), Fail> {
     let _ = fs::remove_dir_all(&rt, "gp_device_tests_disks");
-    let mut disk = file_disk(rt, PATH)?;
-    assert!(rt; fs::metadata(&rt, PATH).is_err());
-    assert!(rt; is_a_disk(&mut disk));
-    assert!(rt; disk.faults() == 0);
-    assert!(rt; fs::metadata(&rt, PATH)?.len() == 3);
+    assert!(rt; is_made_at_the_first_call(rt)?);
     // another disk over the file reads what was written
     assert!(rt; reads(&mut file_disk(rt, PATH)?, 0, 3, b"\0\0a-"));
-    // a folder is not a file
-    let mut folder = file_disk(rt, FOLDER)?;
-    assert!(rt; folder.len() == Err(Refused::Failed));
-    assert!(rt; folder.sync() == Err(Refused::Failed));
-    assert!(rt; folder.faults() == 2);
+    assert!(rt; fails_over_a_folder(rt)?);
     fs::remove_dir_all(&rt, "gp_device_tests_disks")?;
     Ok(())
+}
+
+fn is_made_at_the_first_call(rt: HostRuntime) -> Result<bool, Fail> {
+    let mut disk = file_disk(rt, PATH)?;
+    let was_absent = fs::metadata(&rt, PATH).is_err();
+    let is_disk = is_a_disk(&mut disk) && disk.faults() == 0;
+    Ok(was_absent && is_disk && fs::metadata(&rt, PATH)?.len() == 3)
+}
+
+// Whether a disk over a folder, which is not a file, fails twice.
+fn fails_over_a_folder(rt: HostRuntime) -> Result<bool, Fail> {
+    let mut folder = file_disk(rt, FOLDER)?;
+    let failed = folder.len() == Err(Refused::Failed) && folder.sync() == Err(Refused::Failed);
+    Ok(failed && folder.faults() == 2)
 }
 
 #[test]

@@ -158,26 +158,70 @@ const fn places(piece: usize, end: usize, mark: usize) -> Writes {
 #[test]
 fn a_crash_in_an_append_leaves_the_old_entries_or_the_new(rt: HostRuntime) -> Result<(), Fail> {
     let alloc = rt.alloc();
-    let first = changed(alloc, 0, &[], 0, false)?;
-    assert!(rt; first.before == Ok((0, 17)) && first.after == Ok((1, 49)));
-    assert!(rt; is_safe(alloc, &first, places(17, 49, 16))?);
-    let second = changed(alloc, 1, &[], 1, false)?;
-    assert!(rt; second.before == Ok((1, 49)) && second.after == Ok((2, 102)));
-    assert!(rt; is_safe(alloc, &second, places(49, 102, 48))?);
-    let addition = changed(alloc, 2, &[], 2, false)?;
-    assert!(rt; addition.before == Ok((2, 102)) && addition.after == Ok((3, 155)));
-    assert!(rt; is_safe(alloc, &addition, places(102, 155, 101))?);
+    // the first entry, a whole one, and an addition
+    assert!(rt; appends(alloc, 0, [Ok((0, 17)), Ok((1, 49))], places(17, 49, 16))?);
+    assert!(rt; appends(alloc, 1, [Ok((1, 49)), Ok((2, 102))], places(49, 102, 48))?);
+    assert!(rt;
+        appends(
+            alloc,
+            2,
+            [Ok((2, 102)), Ok((3, 155))],
+            places(102, 155, 101)
+        )?
+    );
     Ok(())
+}
+
+// Whether the part after the first `count` ones turns a log of them from the first of these into the second, and a crash
+// in its writes leaves one of the two.
+fn appends(alloc: Global, count: usize, opens: [Opens; 2], writes: Writes) -> Result<bool, Fail> {
+    let change = changed(alloc, count, &[], count, false)?;
+    is_safe_change(alloc, &change, opens, writes)
+}
+
+fn is_safe_change(
+    alloc: Global,
+    change: &Change,
+    opens: [Opens; 2],
+    writes: Writes,
+) -> Result<bool, Fail> {
+    let is_this = change.before == opens[0] && change.after == opens[1];
+    Ok(is_this && is_safe(alloc, change, writes)?)
 }
 
 #[test]
 fn a_crash_in_a_renewal_leaves_the_old_entries_or_the_new(rt: HostRuntime) -> Result<(), Fail> {
     let alloc = rt.alloc();
-    let second_area = changed(alloc, 2, &[], 2, true)?;
-    assert!(rt; second_area.before == Ok((2, 102)) && second_area.after == Ok((1, 91)));
-    assert!(rt; is_safe(alloc, &second_area, places(200, 275, 12))?);
-    let first_area = changed(alloc, 2, &[2], 1, true)?;
-    assert!(rt; first_area.before == Ok((1, 91)) && first_area.after == Ok((1, 70)));
-    assert!(rt; is_safe(alloc, &first_area, places(16, 70, 12))?);
+    // into the second area, and back into the first one
+    assert!(rt;
+        renews(
+            alloc,
+            &[],
+            2,
+            [Ok((2, 102)), Ok((1, 91))],
+            places(200, 275, 12)
+        )?
+    );
+    assert!(rt;
+        renews(
+            alloc,
+            &[2],
+            1,
+            [Ok((1, 91)), Ok((1, 70))],
+            places(16, 70, 12)
+        )?
+    );
     Ok(())
+}
+
+// The same of a renewal of a log of two parts that was renewed before.
+fn renews(
+    alloc: Global,
+    renewed: &[usize],
+    next: usize,
+    opens: [Opens; 2],
+    writes: Writes,
+) -> Result<bool, Fail> {
+    let change = changed(alloc, 2, renewed, next, true)?;
+    is_safe_change(alloc, &change, opens, writes)
 }

@@ -18,19 +18,26 @@ fn file_disk(rt: HostRuntime) -> Result<FileDisk<HostRuntime>, Fail> {
 
 #[test]
 fn a_log_in_a_file_is_written_reopened_and_cut(rt: HostRuntime) -> Result<(), Fail> {
-    let alloc = rt.alloc();
     let _ = fs::remove_dir_all(&rt, FOLDER);
-    let Ok(mut log) = Log::create(alloc, file_disk(rt)?, 128) else {
-        return Err(Fail::from("not created"));
-    };
-    assert!(rt; is_written_and_reopened(alloc, &mut log)?);
-    drop(log);
-    assert!(rt; opens_on(alloc, file_disk(rt)?) == Ok((1, 91)));
-    let mut disk = file_disk(rt)?;
-    assert!(rt; is_cut(&mut disk));
-    assert!(rt; opens_on(alloc, disk) == broken(128));
+    assert!(rt; is_created(rt)?);
+    assert!(rt; opens_on(rt.alloc(), file_disk(rt)?) == Ok((1, 91)));
+    assert!(rt; breaks_when_cut(rt)?);
     fs::remove_dir_all(&rt, FOLDER)?;
     Ok(())
+}
+
+fn is_created(rt: HostRuntime) -> Result<bool, Fail> {
+    let Ok(mut log) = Log::create(rt.alloc(), file_disk(rt)?, 128) else {
+        return Err(Fail::from("not created"));
+    };
+    is_written_and_reopened(rt.alloc(), &mut log)
+}
+
+fn breaks_when_cut(rt: HostRuntime) -> Result<bool, Fail> {
+    let mut disk = file_disk(rt)?;
+    let cut = is_cut(&mut disk);
+    let opened = opens_on(rt.alloc(), disk);
+    Ok(cut && opened == broken(128))
 }
 
 // Whether the log has one entry after two were appended and it was renewed and opened again.

@@ -10,28 +10,49 @@ const LIMIT: u32 = 67_108_864;
 
 #[test]
 fn a_gate_that_is_not_zero_is_open_and_needs_a_whole_entry(rt: HostRuntime) -> Result<(), Fail> {
-    let alloc = rt.alloc();
-    let mut bytes = old_log(alloc, LIMIT)?;
-    assert!(rt; bytes.len() == 94);
-    assert!(rt; opens(alloc, &bytes)? == Ok((2, 94)));
-    assert!(rt; opens_cut(alloc, &bytes, 70)? == broken(44));
-    bytes[44] = 0;
-    assert!(rt; opens_cut(alloc, &bytes, 70)? == Ok((1, 45)));
-    bytes[44] = 55;
-    assert!(rt; opens_cut(alloc, &bytes, 70)? == broken(44));
-    assert!(rt; opens(alloc, &bytes)? == Ok((2, 94)));
+    let mut bytes = old_log(rt.alloc(), LIMIT)?;
+    assert!(rt; needs_a_whole_entry(rt.alloc(), &mut bytes)?);
     Ok(())
+}
+
+fn needs_a_whole_entry(alloc: Global, bytes: &mut [u8]) -> Result<bool, Fail> {
+    if bytes.len() != 94 {
+        return Ok(false);
+    }
+    let open = are_gates(alloc, bytes, Ok((2, 94)), broken(44))?;
+    bytes[44] = 0;
+    let closed = opens_cut(alloc, bytes, 70)? == Ok((1, 45));
+    bytes[44] = 55;
+    Ok(open && closed && are_gates(alloc, bytes, Ok((2, 94)), broken(44))?)
+}
+
+// Whether the bytes open to the first of these, and the first 70 bytes to the second.
+fn are_gates(alloc: Global, bytes: &[u8], whole: Opens, cut: Opens) -> Result<bool, Fail> {
+    Ok(opens(alloc, bytes)? == whole && opens_cut(alloc, bytes, 70)? == cut)
 }
 
 #[test]
 fn two_appends_write_a_log_of_version_2(rt: HostRuntime) -> Result<(), Fail> {
-    let alloc = rt.alloc();
-    let mut log = created(alloc, LIMIT)?;
-    append_part(alloc, &mut log, 0)?;
-    append_part(alloc, &mut log, 1)?;
-    let disk = log.into_disk();
-    assert!(rt; disk.content() == new_log(alloc, LIMIT)?.as_slice());
+    let disk = appended(rt.alloc())?;
+    assert!(rt; is_new_log(rt.alloc(), disk.content())?);
     Ok(())
+}
+
+// The disk of a log with two parts.
+fn appended(alloc: Global) -> Result<CalmDisk, Fail> {
+    let mut log = created(alloc, LIMIT)?;
+    append_two(alloc, &mut log)?;
+    Ok(log.into_disk())
+}
+
+fn append_two(alloc: Global, log: &mut Log<CalmDisk>) -> Result<(), Fail> {
+    append_part(alloc, log, 0)?;
+    append_part(alloc, log, 1)?;
+    Ok(())
+}
+
+fn is_new_log(alloc: Global, bytes: &[u8]) -> Result<bool, Fail> {
+    Ok(bytes == new_log(alloc, LIMIT)?.as_slice())
 }
 
 // What the first n bytes are, by the places of the second and of the last gate.
@@ -51,16 +72,20 @@ fn cut_at(n: usize, second: usize, last: usize) -> Opens {
 fn a_cut_log_breaks_at_its_end_or_at_the_last_whole_gate(rt: HostRuntime) -> Result<(), Fail> {
     let alloc = rt.alloc();
     let old = old_log(alloc, LIMIT)?;
-    assert!(rt; old.len() == 94);
-    for n in 0..=94 {
-        assert!(rt; opens_cut(alloc, &old, n)? == cut_at(n, 44, 93));
-    }
+    assert!(rt; breaks_where_cut(alloc, &old, 44, 93)?);
     let new = new_log(alloc, LIMIT)?;
-    assert!(rt; new.len() == 102);
-    for n in 0..=102 {
-        assert!(rt; opens_cut(alloc, &new, n)? == cut_at(n, 48, 101));
-    }
+    assert!(rt; breaks_where_cut(alloc, &new, 48, 101)?);
     Ok(())
+}
+
+// Whether each beginning of a log that ends with its last gate is what it has to be.
+fn breaks_where_cut(alloc: Global, log: &[u8], second: usize, last: usize) -> Result<bool, Fail> {
+    for n in 0..=log.len() {
+        if opens_cut(alloc, log, n)? != cut_at(n, second, last) {
+            return Ok(false);
+        }
+    }
+    Ok(log.len() == last.saturating_add(1))
 }
 
 // What these bytes are with one of them changed.
@@ -110,42 +135,63 @@ static NEW_CHANGES: [Change; 8] = [
 fn a_wrong_byte_is_answered_by_its_place(rt: HostRuntime) -> Result<(), Fail> {
     let alloc = rt.alloc();
     let old = old_log(alloc, LIMIT)?;
-    for (place, value, at) in OLD_CHANGES {
-        assert!(rt; opens_changed(alloc, &old, place, value)? == broken(at));
-    }
+    assert!(rt; breaks_where_changed(alloc, &old, &OLD_CHANGES)?);
     let new = new_log(alloc, LIMIT)?;
-    for (place, value, at) in NEW_CHANGES {
-        assert!(rt; opens_changed(alloc, &new, place, value)? == broken(at));
-    }
+    assert!(rt; breaks_where_changed(alloc, &new, &NEW_CHANGES)?);
     Ok(())
+}
+
+fn breaks_where_changed(alloc: Global, log: &[u8], changes: &[Change]) -> Result<bool, Fail> {
+    for (place, value, at) in changes {
+        if opens_changed(alloc, log, *place, *value)? != broken(*at) {
+            return Ok(false);
+        }
+    }
+    Ok(true)
 }
 
 #[test]
 fn a_limit_is_in_range_and_above_each_gate(rt: HostRuntime) -> Result<(), Fail> {
     let alloc = rt.alloc();
-    assert!(rt; opens(alloc, &old_log(alloc, 63)?)? == broken(8));
-    assert!(rt; opens(alloc, &new_log(alloc, 67_108_865)?)? == broken(8));
-    assert!(rt; opens(alloc, &old_log(alloc, 93)?)? == broken(44));
-    assert!(rt; opens(alloc, &old_log(alloc, 94)?)? == Ok((2, 94)));
-    assert!(rt; opens(alloc, &new_log(alloc, 101)?)? == broken(48));
-    assert!(rt; opens(alloc, &new_log(alloc, 102)?)? == Ok((2, 102)));
+    assert!(rt; old_opens(alloc, 63)? == broken(8));
+    assert!(rt; new_opens(alloc, 67_108_865)? == broken(8));
+    assert!(rt; old_opens(alloc, 93)? == broken(44));
+    assert!(rt; old_opens(alloc, 94)? == Ok((2, 94)));
+    assert!(rt; new_opens(alloc, 101)? == broken(48));
+    assert!(rt; new_opens(alloc, 102)? == Ok((2, 102)));
     Ok(())
+}
+
+fn old_opens(alloc: Global, limit: u32) -> Result<Opens, Fail> {
+    opens(alloc, &old_log(alloc, limit)?)
+}
+
+fn new_opens(alloc: Global, limit: u32) -> Result<Opens, Fail> {
+    opens(alloc, &new_log(alloc, limit)?)
 }
 
 #[test]
 fn an_old_log_is_upgraded_by_renewing_its_last_entry(rt: HostRuntime) -> Result<(), Fail> {
-    let alloc = rt.alloc();
+    let disk = upgraded(rt.alloc())?;
+    assert!(rt; is_in_second_area(rt.alloc(), disk.content())?);
+    Ok(())
+}
+
+fn upgraded(alloc: Global) -> Result<CalmDisk, Fail> {
     let disk = CalmDisk::new(alloc, &old_log(alloc, 128)?)?;
     let Ok(mut log) = Log::open(alloc, disk) else {
         return Err(Fail::from("not opened"));
     };
-    assert!(rt; is_upgraded(alloc, &mut log)?);
-    let disk = log.into_disk();
-    let bytes = disk.content();
-    assert!(rt; bytes.len() == 182);
-    assert!(rt; bytes[12] == 1 && bytes[128] == 1 && bytes[181] == 0);
-    assert!(rt; opens(alloc, bytes)? == Ok((1, 70)));
-    Ok(())
+    if is_upgraded(alloc, &mut log)? {
+        Ok(log.into_disk())
+    } else {
+        Err(Fail::from("not upgraded"))
+    }
+}
+
+fn is_in_second_area(alloc: Global, bytes: &[u8]) -> Result<bool, Fail> {
+    let is_there = bytes.len() == 182 && bytes[12] == 1 && bytes[128] == 1 && bytes[181] == 0;
+    Ok(is_there && opens(alloc, bytes)? == Ok((1, 70)))
 }
 
 // Whether an old log that is ready is one of version 2 after it was renewed, with one entry.

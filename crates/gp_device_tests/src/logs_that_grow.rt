@@ -8,65 +8,88 @@ use gp_index::History;
 use gp_msg::Durable;
 use gp_vlog::{AppendFault, Log};
 use std::alloc::Global;
-use std::process::Abort;
 use std::test::Fail;
 
 #[test]
 fn a_full_log_tells_its_size_and_the_need(rt: HostRuntime) -> Result<(), Fail> {
-    let alloc = rt.alloc();
-    let mut log = created(alloc, 90)?;
-    assert!(rt; log.size() == 17);
-    append_part(alloc, &mut log, 0)?;
-    assert!(rt; log.size() == 49);
-    let full = Err(AppendFault::Full { size: 49, need: 53 });
-    assert!(rt; append(&mut log, &part(alloc, 1)?) == full);
-    assert!(rt; log.is_ready());
-    assert!(rt; log.count() == 1);
+    let mut log = created(rt.alloc(), 90)?;
+    assert!(rt; fills(rt.alloc(), &mut log)?);
     Ok(())
 }
 
-// The disk of a log that is renewed when it is full.
-fn renewed<R: Abort>(rt: &R, alloc: Global) -> Result<CalmDisk, Fail> {
-    let mut log = created(alloc, 128)?;
-    append_part(alloc, &mut log, 0)?;
-    append_part(alloc, &mut log, 1)?;
-    assert!(rt; log.size() == 102);
+// Whether the second part does not fit, and the log tells so and stays as it is.
+fn fills(alloc: Global, log: &mut Log<CalmDisk>) -> Result<bool, Fail> {
+    let was_empty = log.size() == 17;
+    append_part(alloc, log, 0)?;
+    let has_one = log.size() == 49;
+    let full = Err(AppendFault::Full { size: 49, need: 53 });
+    let is_full = append(log, &part(alloc, 1)?) == full;
+    Ok(was_empty && has_one && is_full && log.is_ready() && log.count() == 1)
+}
+
+// Whether a log is renewed with the part for which it is too full.
+fn renew_full(alloc: Global, log: &mut Log<CalmDisk>) -> Result<bool, Fail> {
+    append_part(alloc, log, 0)?;
+    append_part(alloc, log, 1)?;
     let full = Err(AppendFault::Full {
         size: 102,
         need: 53,
     });
-    assert!(rt; append(&mut log, &part(alloc, 2)?) == full);
-    renew_part(alloc, &mut log, 2)?;
-    assert!(rt; log.count() == 1 && log.size() == 91);
-    Ok(log.into_disk())
+    let is_full = append(log, &part(alloc, 2)?) == full;
+    renew_part(alloc, log, 2)?;
+    Ok(is_full && log.count() == 1 && log.size() == 91)
+}
+
+// Whether a log is renewed again, and one entry is appended.
+fn renew_again(alloc: Global, log: &mut Log<CalmDisk>) -> Result<bool, Fail> {
+    let is_new = log.count() == 1 && !log.is_old();
+    renew_part(alloc, log, 1)?;
+    append_part(alloc, log, 2)?;
+    Ok(is_new && log.size() == 123)
+}
+
+// The disk of a log that is renewed when it is full.
+fn renewed(alloc: Global) -> Result<CalmDisk, Fail> {
+    let mut log = created(alloc, 128)?;
+    if renew_full(alloc, &mut log)? {
+        Ok(log.into_disk())
+    } else {
+        Err(Fail::from("not renewed"))
+    }
 }
 
 // The disk after it was renewed again, and one entry was appended.
-fn renewed_again<R: Abort>(rt: &R, alloc: Global, disk: CalmDisk) -> Result<CalmDisk, Fail> {
+fn renewed_again(alloc: Global, disk: CalmDisk) -> Result<CalmDisk, Fail> {
     let Ok(mut log) = Log::open(alloc, disk) else {
         return Err(Fail::from("not opened"));
     };
-    assert!(rt; log.count() == 1 && !log.is_old());
-    renew_part(alloc, &mut log, 1)?;
-    append_part(alloc, &mut log, 2)?;
-    assert!(rt; log.size() == 123);
-    Ok(log.into_disk())
+    if renew_again(alloc, &mut log)? {
+        Ok(log.into_disk())
+    } else {
+        Err(Fail::from("not renewed"))
+    }
+}
+
+fn is_in_second_area(bytes: &[u8]) -> bool {
+    bytes.len() == 203 && bytes[12] == 1 && bytes[128] == 1 && bytes[202] == 0
+}
+
+// Whether the log is in the first area again, with an addition.
+fn is_in_first_area(bytes: &[u8]) -> bool {
+    let is_open = bytes.len() == 203 && bytes[12] == 0 && bytes[16] == 1 && bytes[69] == 1;
+    is_open && bytes[74] == 19 && bytes[122] == 0
+}
+
+fn changes_its_area(alloc: Global) -> Result<bool, Fail> {
+    let disk = renewed(alloc)?;
+    let is_behind = is_in_second_area(disk.content());
+    let disk = renewed_again(alloc, disk)?;
+    Ok(is_behind && is_in_first_area(disk.content()))
 }
 
 #[test]
 fn a_renewed_log_stands_in_the_other_area(rt: HostRuntime) -> Result<(), Fail> {
-    let alloc = rt.alloc();
-    let disk = renewed(&rt, alloc)?;
-    let bytes = disk.content();
-    assert!(rt; bytes.len() == 203);
-    assert!(rt; bytes[12] == 1 && bytes[128] == 1 && bytes[202] == 0);
-    // an addition, and then back into the first area
-    let disk = renewed_again(&rt, alloc, disk)?;
-    let bytes = disk.content();
-    assert!(rt; bytes.len() == 203);
-    assert!(rt;
-        bytes[12] == 0 && bytes[16] == 1 && bytes[69] == 1 && bytes[74] == 19 && bytes[122] == 0
-    );
+    assert!(rt; changes_its_area(rt.alloc())?);
     Ok(())
 }
 
@@ -95,15 +118,19 @@ fn grown(alloc: Global) -> Result<(u64, CalmDisk), Fail> {
 
 fn grow(alloc: Global, log: &mut Log<CalmDisk>) -> Result<u64, Fail> {
     let mut vote = History::empty(alloc)?;
+    grow_with(alloc, log, &mut vote)
+}
+
+fn grow_with(alloc: Global, log: &mut Log<CalmDisk>, vote: &mut History) -> Result<u64, Fail> {
     vote.push(put(alloc, 5, "k", "")?)?;
-    append_vote(log, 0, &vote)?;
+    append_vote(log, 0, vote)?;
     let size = log.size();
     // the write of proposer 0 waits for that of proposer 5, so that of proposer 1 comes first
     vote.push(put(alloc, 0, "k", "")?)?;
     vote.push(put(alloc, 1, "j", "")?)?;
-    append_vote(log, 0, &vote)?;
+    append_vote(log, 0, vote)?;
     // of another epoch, so it is whole
-    append_vote(log, 1, &vote)?;
+    append_vote(log, 1, vote)?;
     Ok(size)
 }
 
@@ -130,13 +157,24 @@ fn ends_with_three(alloc: Global, disk: CalmDisk) -> bool {
 
 #[test]
 fn what_is_added_stands_in_the_order_of_the_whole_vote(rt: HostRuntime) -> Result<(), Fail> {
-    let alloc = rt.alloc();
-    let (size, disk) = grown(alloc)?;
-    let bytes = disk.content();
-    assert!(rt; size == 63 && bytes.len() == 197);
-    assert!(rt; bytes[62] == 1 && bytes[67] == 19 && bytes[94] == 1 && bytes[108] == 0);
-    assert!(rt; bytes[122] == 1 && bytes[127] == 17);
-    assert!(rt; opens(alloc, &swapped(alloc, bytes)?)? == broken(62));
-    assert!(rt; ends_with_three(alloc, disk));
+    assert!(rt; stands_in_order(rt.alloc())?);
     Ok(())
+}
+
+fn stands_in_order(alloc: Global) -> Result<bool, Fail> {
+    let (size, disk) = grown(alloc)?;
+    let has_addition = size == 63 && has_addition(disk.content());
+    let is_ordered = has_addition && breaks_if_swapped(alloc, disk.content())?;
+    Ok(is_ordered && ends_with_three(alloc, disk))
+}
+
+// Whether the second entry is an addition of two commands, the first of proposer 1, and the third is whole.
+fn has_addition(bytes: &[u8]) -> bool {
+    let is_added = bytes.len() == 197 && bytes[62] == 1 && bytes[67] == 19;
+    let is_ordered = is_added && bytes[94] == 1 && bytes[108] == 0;
+    is_ordered && bytes[122] == 1 && bytes[127] == 17
+}
+
+fn breaks_if_swapped(alloc: Global, bytes: &[u8]) -> Result<bool, Fail> {
+    Ok(opens(alloc, &swapped(alloc, bytes)?)? == broken(62))
 }
