@@ -1,11 +1,10 @@
 //! A coordinator whose disk fails in its first move, so that it crashes.
 use crate::alone::{Alone, make_alone};
 use gp_edge::Gate;
-use gp_msg::{Event, Kept, Node};
+use gp_msg::{Event, Kept, Node, Record};
 use gp_node::{Move, StepFault, finish};
 use gp_round::{Config, Mode, Round};
 use std::alloc::Global;
-use std::process::Abort;
 use std::sync::Wait;
 use std::sync::atomic::{AtomicU64, Ordering};
 use std::test::Fail;
@@ -51,48 +50,45 @@ impl Gate for Counting {
 fn rise_posts_a_fall(rt: HostRuntime) -> Result<(), Fail> {
     // the disk's calls 0 to 2 are those of the creation; then the entry is written and synced, and the gate before it
     for (failing, kept) in [(3, false), (4, false), (5, false), (6, true)] {
-        check_fall(&rt, rt.alloc(), failing, kept)?;
+        assert!(rt; falls_and_rises(&rt, rt.alloc(), &Counting::new(), failing, kept)?);
     }
     Ok(())
 }
 
-// The call of the disk with this number fails in the move, and the crash keeps the move or not.
-fn check_fall<R: Wait + Abort>(
+// Whether the cell falls if the call of its disk with this number fails in the move, and rises again with the move or
+// without it.
+fn falls_and_rises<R: Wait>(
     rt: &R,
     alloc: Global,
+    gate: &Counting,
     failing: u64,
     keeps: bool,
-) -> Result<(), Fail> {
+) -> Result<bool, Fail> {
     let config = Config::new(3, 1, 1).or(Err("no configuration"))?;
     let node = Node::Coordinator(0);
     let Alone { wire, mut cell } = make_alone(alloc, config, node, &[failing])?;
-    let gate = Counting::new();
-    let outcome = cell.step(rt, &wire, Move::Begin(ROUND), &gate, TURN);
-    assert!(rt; matches!(outcome, Err(StepFault::Disk)));
-    assert!(rt; gate.was_called_once());
-    assert!(rt; cell.is_down());
-    let risen = cell.rise(rt, &wire);
-    assert!(rt; matches!(risen, Ok(0)));
-    assert!(rt; !cell.is_down());
-    assert!(rt; cell.posted() == 1);
-    assert!(rt; cell.durable().is_some() == keeps);
+    let outcome = cell.step(rt, &wire, Move::Begin(ROUND), gate, TURN);
+    let fell = matches!(outcome, Err(StepFault::Disk)) && gate.was_called_once();
+    if !cell.is_down() {
+        return Ok(false);
+    }
+    let risen = matches!(cell.rise(rt, &wire), Ok(0)) && !cell.is_down();
+    let kept = cell.posted() == 1 && cell.durable().is_some() == keeps;
     let cells = vec![in alloc; cell]?;
-    let Ok(finished) = finish(alloc, wire, cells) else {
-        return Err(Fail::from("no end"));
-    };
-    let kept = match finished.posted.records() {
+    match finish(alloc, wire, cells) {
+        Ok(finished) => Ok(fell && risen && kept && are_of_fall(finished.posted.records(), keeps)),
+        Err(_) => Err(Fail::from("no end")),
+    }
+}
+
+// Whether there is one record, of a crash that keeps the move or nothing.
+fn are_of_fall(records: &[Record], keeps: bool) -> bool {
+    match records {
         [record] => match &record.event {
-            Event::Fall { kept, .. } => *kept,
-            _ => return Err(Fail::from("no fall")),
+            Event::Fall { kept, .. } if keeps => *kept == Some(Kept::Begin(ROUND)),
+            Event::Fall { kept, .. } => kept.is_none(),
+            _ => false,
         },
-        _ => return Err(Fail::from("not one record")),
-    };
-    assert!(rt;
-        kept == (if keeps {
-            Some(Kept::Begin(ROUND))
-        } else {
-            None
-        })
-    );
-    Ok(())
+        _ => false,
+    }
 }

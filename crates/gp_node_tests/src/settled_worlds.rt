@@ -19,7 +19,7 @@ type Row = (u32, u32, u32, u64, usize);
 struct Large;
 
 // One pass: four proposals, and 1 + 3 * 3 + 3 * 2 events of a round.
-const FOUR_OFFERS: [Step; 4] = [Put(0, 1), Put(0, 2), Put(1, 3), Put(7, 4)];
+static FOUR_OFFERS: [Step; 4] = [Put(0, 1), Put(0, 2), Put(1, 3), Put(7, 4)];
 
 const FOUR_OFFERS_SETTLED: Row = (3, 1, 2, 20, 4);
 
@@ -27,12 +27,12 @@ const FOUR_OFFERS_SETTLED: Row = (3, 1, 2, 20, 4);
 const NOTHING_SETTLED: Row = (3, 1, 1, 13, 0);
 
 // Two passes, and coordinator 0 and three acceptors take a Final between them.
-const CHECKPOINT_BETWEEN_PUTS: [Step; 3] = [Put(0, 1), Checkpoint(0), Put(0, 2)];
+static CHECKPOINT_BETWEEN_PUTS: [Step; 3] = [Put(0, 1), Checkpoint(0), Put(0, 2)];
 
 const CHECKPOINT_BETWEEN_PUTS_SETTLED: Row = (3, 1, 2, 39, 3);
 
 // One learner learned all, sent a Final, and forgot in a crash what it had learned. First every node takes that Final.
-const LEARNED_AND_LOST: [Step; 14] = [
+static LEARNED_AND_LOST: [Step; 14] = [
     Put(0, 1),
     Checkpoint(0),
     Take(C0, 0),
@@ -54,7 +54,7 @@ const LEARNED_AND_LOST_SETTLED: Row = (3, 1, 2, 24, 2);
 // Coordinator 1 forgets in a crash what is done, and brings the checkpoint of the closed epoch to a vote in the next one.
 // So the first pass closes that epoch with it once more, the second pass closes the next epoch with the new checkpoint, and
 // the third one is the last.
-const OLD_CHECKPOINT: [Step; 25] = [
+static OLD_CHECKPOINT: [Step; 25] = [
     Checkpoint(0),
     Take(C0, 0),
     Begin(0, 1),
