@@ -1,6 +1,7 @@
 //! Disks, call by call.
 use gp_edge::{CalmDisk, Disk, FileDisk, Gate, Idle, MemDisk, Refused};
 use gp_msg::Node;
+use std::alloc::Global;
 use std::fs;
 use std::test::Fail;
 
@@ -31,27 +32,42 @@ fn is_a_disk<D: Disk>(disk: &mut D) -> bool {
 
 #[test]
 fn disks_in_memory_are_disks(rt: HostRuntime) -> Result<(), Fail> {
-    let mut calm = CalmDisk::new(rt.alloc(), b"")?;
-    assert!(rt; is_a_disk(&mut calm) && calm.content() == b"\0\0a".as_slice());
-    let mut scheduled = MemDisk::new(rt.alloc(), b"", &[])?;
-    assert!(rt; is_a_disk(&mut scheduled) && scheduled.content() == b"\0\0a".as_slice());
+    assert!(rt; calm_is_a_disk(rt.alloc())?);
+    assert!(rt; scheduled_is_a_disk(rt.alloc())?);
     Ok(())
+}
+
+fn calm_is_a_disk(alloc: Global) -> Result<bool, Fail> {
+    let mut disk = CalmDisk::new(alloc, b"")?;
+    Ok(is_a_disk(&mut disk) && disk.content() == b"\0\0a".as_slice())
+}
+
+fn scheduled_is_a_disk(alloc: Global) -> Result<bool, Fail> {
+    let mut disk = MemDisk::new(alloc, b"", &[])?;
+    Ok(is_a_disk(&mut disk) && disk.content() == b"\0\0a".as_slice())
 }
 
 #[test]
 fn a_disk_fails_at_the_chosen_calls_and_at_no_other(rt: HostRuntime) -> Result<(), Fail> {
-    let mut disk = MemDisk::new(rt.alloc(), b"abc", &[0, 2, 4, 6, 8])?;
-    assert!(rt; fails_every_second_time(&mut disk) && disk.content() == b"aY".as_slice());
+    assert!(rt; fails_every_second_time(rt.alloc())?);
     Ok(())
 }
 
+fn fails_every_second_time(alloc: Global) -> Result<bool, Fail> {
+    let mut disk = MemDisk::new(alloc, b"abc", &[0, 2, 4, 6, 8])?;
+    Ok(is_read(&mut disk) && is_changed(&mut disk) && disk.content() == b"aY".as_slice())
+}
+
 // Whether each call fails, and does its work when it is repeated.
-fn fails_every_second_time<D: Disk>(disk: &mut D) -> bool {
+fn is_read(disk: &mut MemDisk) -> bool {
     disk.len() == Err(Refused::Failed)
         && disk.len() == Ok(3)
         && disk.read_at(0, &mut [0]) == Err(Refused::Failed)
         && reads(disk, 0, 3, b"abc-")
-        && disk.write_at(0, b"X") == Err(Refused::Failed)
+}
+
+fn is_changed(disk: &mut MemDisk) -> bool {
+    disk.write_at(0, b"X") == Err(Refused::Failed)
         && disk.write_at(1, b"Y") == Ok(())
         && disk.cut(1) == Err(Refused::Failed)
         && disk.cut(2) == Ok(())

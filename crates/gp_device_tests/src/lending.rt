@@ -8,6 +8,53 @@ use gp_vlog::Log;
 use std::alloc::Global;
 use std::test::Fail;
 
+// What the twelve disks hold after five were lent as logs of ascending limits.
+static FIVE_LENT: [Holds; 12] = [
+    L(64),
+    L(65),
+    L(66),
+    Own,
+    Own,
+    Own,
+    Own,
+    L(67),
+    L(68),
+    Own,
+    Own,
+    Own,
+];
+
+static ALL_LENT: [Holds; 12] = [
+    L(64),
+    L(65),
+    L(66),
+    L(67),
+    L(68),
+    L(69),
+    L(70),
+    L(71),
+    L(72),
+    L(73),
+    L(74),
+    L(75),
+];
+
+// After three were made to logs, and the next one failed.
+static THREE_MADE: [Holds; 12] = [
+    L(80),
+    L(80),
+    L(80),
+    Own,
+    Own,
+    Own,
+    Own,
+    Own,
+    Own,
+    Own,
+    Own,
+    Own,
+];
+
 // Whether all logs are ready and have no entries.
 fn are_new(logs: &[Log<MemDisk>]) -> bool {
     logs.iter().all(|log| log.is_ready() && log.count() == 0 && log.size() == 17)
@@ -32,50 +79,14 @@ fn lent_and_back(alloc: Global, config: Config) -> Result<Vec<MemDisk>, Fail> {
 #[test]
 fn disks_come_back_in_order(rt: HostRuntime) -> Result<(), Fail> {
     let disks = lent_and_back(rt.alloc(), Config::new(3, 2, 1)?)?;
-    assert!(rt;
-        hold(
-            &disks,
-            &[
-                L(64),
-                L(65),
-                L(66),
-                Own,
-                Own,
-                Own,
-                Own,
-                L(67),
-                L(68),
-                Own,
-                Own,
-                Own
-            ]
-        )
-    );
+    assert!(rt; hold(&disks, &FIVE_LENT));
     Ok(())
 }
 
 #[test]
 fn the_greatest_configuration_is_lent_all_disks(rt: HostRuntime) -> Result<(), Fail> {
     let disks = lent_and_back(rt.alloc(), Config::new(7, 5, 1)?)?;
-    assert!(rt;
-        hold(
-            &disks,
-            &[
-                L(64),
-                L(65),
-                L(66),
-                L(67),
-                L(68),
-                L(69),
-                L(70),
-                L(71),
-                L(72),
-                L(73),
-                L(74),
-                L(75)
-            ]
-        )
-    );
+    assert!(rt; hold(&disks, &ALL_LENT));
     Ok(())
 }
 
@@ -85,36 +96,21 @@ fn all_disks_come_back_in_order_if_one_fails(rt: HostRuntime) -> Result<(), Fail
     let Err(unlent) = lend(rt.alloc(), Config::new(3, 2, 1)?, 80, disks) else {
         return Err(Fail::from("lent"));
     };
-    assert!(rt; unlent.why == LendFault::Disk);
-    assert!(rt;
-        hold(
-            &unlent.disks,
-            &[
-                L(80),
-                L(80),
-                L(80),
-                Own,
-                Own,
-                Own,
-                Own,
-                Own,
-                Own,
-                Own,
-                Own,
-                Own
-            ]
-        )
-    );
+    assert!(rt; unlent.why == LendFault::Disk && hold(&unlent.disks, &THREE_MADE));
     Ok(())
 }
 
 #[test]
 fn a_disk_of_no_node_is_not_used(rt: HostRuntime) -> Result<(), Fail> {
-    let disks = disks_with(rt.alloc(), 6, &[0])?;
-    assert!(rt; lend(rt.alloc(), Config::new(6, 5, 1)?, 64, disks).is_ok());
-    let disks = disks_with(rt.alloc(), 6, &[0])?;
-    assert!(rt; lend(rt.alloc(), Config::new(7, 5, 1)?, 64, disks).is_err());
+    assert!(rt; is_lent_to(rt.alloc(), Config::new(6, 5, 1)?)?);
+    assert!(rt; !is_lent_to(rt.alloc(), Config::new(7, 5, 1)?)?);
     Ok(())
+}
+
+// Whether disks of which the seventh fails are lent.
+fn is_lent_to(alloc: Global, config: Config) -> Result<bool, Fail> {
+    let disks = disks_with(alloc, 6, &[0])?;
+    Ok(lend(alloc, config, 64, disks).is_ok())
 }
 
 #[test]

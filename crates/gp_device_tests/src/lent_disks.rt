@@ -23,7 +23,7 @@ pub fn disks_with(alloc: Global, number: u8, failing: &[u64]) -> Result<Vec<MemD
 }
 
 /// What a disk holds.
-#[derive(Clone, Copy, Debug, PartialEq, Eq)]
+#[derive(Clone, Copy, PartialEq, Eq)]
 pub enum Holds {
     /// It holds the byte of its place.
     Own,

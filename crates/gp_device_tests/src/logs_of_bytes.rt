@@ -1,5 +1,5 @@
 //! Logs of both versions: complete, cut and wrong.
-use crate::bytes::{new_log, old_log};
+use crate::bytes::{NEW_LOG, OLD_LOG, with_limit};
 use crate::parts::{Opens, append_part, broken, created, opens, opens_cut, renew_part};
 use gp_edge::CalmDisk;
 use gp_vlog::Log;
@@ -10,7 +10,7 @@ const LIMIT: u32 = 67_108_864;
 
 #[test]
 fn a_gate_that_is_not_zero_is_open_and_needs_a_whole_entry(rt: HostRuntime) -> Result<(), Fail> {
-    let mut bytes = old_log(rt.alloc(), LIMIT)?;
+    let mut bytes = OLD_LOG;
     assert!(rt; needs_a_whole_entry(rt.alloc(), &mut bytes)?);
     Ok(())
 }
@@ -34,7 +34,7 @@ fn are_gates(alloc: Global, bytes: &[u8], whole: Opens, cut: Opens) -> Result<bo
 #[test]
 fn two_appends_write_a_log_of_version_2(rt: HostRuntime) -> Result<(), Fail> {
     let disk = appended(rt.alloc())?;
-    assert!(rt; is_new_log(rt.alloc(), disk.content())?);
+    assert!(rt; disk.content() == NEW_LOG.as_slice());
     Ok(())
 }
 
@@ -49,10 +49,6 @@ fn append_two(alloc: Global, log: &mut Log<CalmDisk>) -> Result<(), Fail> {
     append_part(alloc, log, 0)?;
     append_part(alloc, log, 1)?;
     Ok(())
-}
-
-fn is_new_log(alloc: Global, bytes: &[u8]) -> Result<bool, Fail> {
-    Ok(bytes == new_log(alloc, LIMIT)?.as_slice())
 }
 
 // What the first n bytes are, by the places of the second and of the last gate.
@@ -70,11 +66,8 @@ fn cut_at(n: usize, second: usize, last: usize) -> Opens {
 
 #[test]
 fn a_cut_log_breaks_at_its_end_or_at_the_last_whole_gate(rt: HostRuntime) -> Result<(), Fail> {
-    let alloc = rt.alloc();
-    let old = old_log(alloc, LIMIT)?;
-    assert!(rt; breaks_where_cut(alloc, &old, 44, 93)?);
-    let new = new_log(alloc, LIMIT)?;
-    assert!(rt; breaks_where_cut(alloc, &new, 48, 101)?);
+    assert!(rt; breaks_where_cut(rt.alloc(), &OLD_LOG, 44, 93)?);
+    assert!(rt; breaks_where_cut(rt.alloc(), &NEW_LOG, 48, 101)?);
     Ok(())
 }
 
@@ -133,11 +126,8 @@ static NEW_CHANGES: [Change; 8] = [
 
 #[test]
 fn a_wrong_byte_is_answered_by_its_place(rt: HostRuntime) -> Result<(), Fail> {
-    let alloc = rt.alloc();
-    let old = old_log(alloc, LIMIT)?;
-    assert!(rt; breaks_where_changed(alloc, &old, &OLD_CHANGES)?);
-    let new = new_log(alloc, LIMIT)?;
-    assert!(rt; breaks_where_changed(alloc, &new, &NEW_CHANGES)?);
+    assert!(rt; breaks_where_changed(rt.alloc(), &OLD_LOG, &OLD_CHANGES)?);
+    assert!(rt; breaks_where_changed(rt.alloc(), &NEW_LOG, &NEW_CHANGES)?);
     Ok(())
 }
 
@@ -150,24 +140,29 @@ fn breaks_where_changed(alloc: Global, log: &[u8], changes: &[Change]) -> Result
     Ok(true)
 }
 
+// A limit, and where the format breaks with it, if it does.
+type Limited = (u32, Option<usize>);
+
+static OLD_LIMITS: [Limited; 3] = [(63, Some(8)), (93, Some(44)), (94, None)];
+
+static NEW_LIMITS: [Limited; 3] = [(67_108_865, Some(8)), (101, Some(48)), (102, None)];
+
 #[test]
 fn a_limit_is_in_range_and_above_each_gate(rt: HostRuntime) -> Result<(), Fail> {
-    let alloc = rt.alloc();
-    assert!(rt; old_opens(alloc, 63)? == broken(8));
-    assert!(rt; new_opens(alloc, 67_108_865)? == broken(8));
-    assert!(rt; old_opens(alloc, 93)? == broken(44));
-    assert!(rt; old_opens(alloc, 94)? == Ok((2, 94)));
-    assert!(rt; new_opens(alloc, 101)? == broken(48));
-    assert!(rt; new_opens(alloc, 102)? == Ok((2, 102)));
+    assert!(rt; opens_by_limit(rt.alloc(), &OLD_LOG, &OLD_LIMITS)?);
+    assert!(rt; opens_by_limit(rt.alloc(), &NEW_LOG, &NEW_LIMITS)?);
     Ok(())
 }
 
-fn old_opens(alloc: Global, limit: u32) -> Result<Opens, Fail> {
-    opens(alloc, &old_log(alloc, limit)?)
-}
-
-fn new_opens(alloc: Global, limit: u32) -> Result<Opens, Fail> {
-    opens(alloc, &new_log(alloc, limit)?)
+// Whether a log with two entries opens to these with each limit.
+fn opens_by_limit(alloc: Global, log: &[u8], limits: &[Limited]) -> Result<bool, Fail> {
+    for (limit, breaks_at) in limits {
+        let want = breaks_at.map_or(Ok((2, log.len() as u64)), broken);
+        if opens(alloc, &with_limit(alloc, log, *limit)?)? != want {
+            return Ok(false);
+        }
+    }
+    Ok(true)
 }
 
 #[test]
@@ -178,7 +173,7 @@ fn an_old_log_is_upgraded_by_renewing_its_last_entry(rt: HostRuntime) -> Result<
 }
 
 fn upgraded(alloc: Global) -> Result<CalmDisk, Fail> {
-    let disk = CalmDisk::new(alloc, &old_log(alloc, 128)?)?;
+    let disk = CalmDisk::new(alloc, &with_limit(alloc, &OLD_LOG, 128)?)?;
     let Ok(mut log) = Log::open(alloc, disk) else {
         return Err(Fail::from("not opened"));
     };

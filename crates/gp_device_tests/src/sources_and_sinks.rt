@@ -87,104 +87,131 @@ fn reads<S: Source>(source: &mut S, answer: Result<usize, Failed>, bytes: &[u8; 
 #[test]
 fn a_source_loses_no_byte_at_a_failure(rt: HostRuntime) -> Result<(), Fail> {
     let mut source = MemSource::new(rt.alloc(), b"abcde", 2, &[1])?;
-    assert!(rt; reads(&mut source, Ok(2), b"ab-"));
-    assert!(rt; reads(&mut source, Err(Failed), b"---"));
-    assert!(rt; reads(&mut source, Ok(2), b"cd-"));
-    assert!(rt; reads(&mut source, Ok(1), b"e--"));
-    assert!(rt; reads(&mut source, Ok(0), b"---"));
+    assert!(rt; loses_no_byte(&mut source));
     Ok(())
+}
+
+// Call 1 of the source fails.
+fn loses_no_byte(source: &mut MemSource) -> bool {
+    reads(source, Ok(2), b"ab-")
+        && reads(source, Err(Failed), b"---")
+        && reads(source, Ok(2), b"cd-")
+        && reads(source, Ok(1), b"e--")
+        && reads(source, Ok(0), b"---")
 }
 
 #[test]
 fn a_calm_source_fills_each_piece(rt: HostRuntime) -> Result<(), Fail> {
     let mut source = CalmSource::new(rt.alloc(), b"abcde")?;
-    assert!(rt; reads(&mut source, Ok(3), b"abc"));
-    assert!(rt; reads(&mut source, Ok(2), b"de-"));
-    assert!(rt; reads(&mut source, Ok(0), b"---"));
+    assert!(rt; fills_each_piece(&mut source));
     Ok(())
+}
+
+fn fills_each_piece(source: &mut CalmSource) -> bool {
+    reads(source, Ok(3), b"abc") && reads(source, Ok(2), b"de-") && reads(source, Ok(0), b"---")
 }
 
 #[test]
 fn a_sink_writes_nothing_at_a_failure(rt: HostRuntime) -> Result<(), Fail> {
     let mut sink = MemSink::new(rt.alloc(), 2, &[1])?;
-    assert!(rt; sink.write(b"abc") == Ok(2));
-    assert!(rt; sink.write(b"c") == Err(Refused::Failed));
-    assert!(rt; sink.write(b"c") == Ok(1));
-    assert!(rt; sink.written() == b"abc".as_slice());
+    assert!(rt; writes_nothing_at_a_failure(&mut sink));
     Ok(())
+}
+
+// Call 1 of the sink fails.
+fn writes_nothing_at_a_failure(sink: &mut MemSink) -> bool {
+    sink.write(b"abc") == Ok(2)
+        && sink.write(b"c") == Err(Refused::Failed)
+        && sink.write(b"c") == Ok(1)
+        && sink.written() == b"abc".as_slice()
 }
 
 #[test]
 fn a_calm_sink_takes_whole_pieces(rt: HostRuntime) -> Result<(), Fail> {
     let mut sink = CalmSink::new(rt.alloc())?;
-    assert!(rt; sink.write(b"abc") == Ok(3));
-    assert!(rt; sink.write(b"de") == Ok(2));
-    assert!(rt; sink.written() == b"abcde".as_slice());
+    assert!(rt; takes_whole_pieces(&mut sink));
     Ok(())
+}
+
+fn takes_whole_pieces(sink: &mut CalmSink) -> bool {
+    sink.write(b"abc") == Ok(3)
+        && sink.write(b"de") == Ok(2)
+        && sink.written() == b"abcde".as_slice()
 }
 
 #[test]
 fn a_source_over_a_reader_counts_its_failures(rt: HostRuntime) -> Result<(), Fail> {
-    let mut source = ReadSource::new(Cursor::new(*b"abcd"));
-    assert!(rt; reads(&mut source, Ok(3), b"abc"));
-    assert!(rt; reads(&mut source, Ok(1), b"d--"));
-    assert!(rt; reads(&mut source, Ok(0), b"---"));
-    assert!(rt; source.faults() == 0);
-    let mut broken = ReadSource::new(Broken);
-    assert!(rt; reads(&mut broken, Err(Failed), b"---"));
-    assert!(rt; broken.faults() == 1);
+    assert!(rt; counts_none(&mut ReadSource::new(Cursor::new(*b"abcd"))));
+    assert!(rt; counts_one(&mut ReadSource::new(Broken)));
     Ok(())
+}
+
+fn counts_none(source: &mut ReadSource<Cursor<[u8; 4]>>) -> bool {
+    reads(source, Ok(3), b"abc")
+        && reads(source, Ok(1), b"d--")
+        && reads(source, Ok(0), b"---")
+        && source.faults() == 0
+}
+
+fn counts_one(source: &mut ReadSource<Broken>) -> bool {
+    reads(source, Err(Failed), b"---") && source.faults() == 1
 }
 
 #[test]
 fn a_failed_read_is_not_tried_again(rt: HostRuntime) -> Result<(), Fail> {
-    let mut source = ReadSource::new(Hesitant { has_failed: false });
-    assert!(rt; reads(&mut source, Err(Failed), b"---"));
-    assert!(rt; source.faults() == 1);
-    assert!(rt; reads(&mut source, Ok(0), b"---"));
-    assert!(rt; source.faults() == 1);
+    assert!(rt; reads_once(&mut ReadSource::new(Hesitant { has_failed: false })));
     Ok(())
+}
+
+fn reads_once(source: &mut ReadSource<Hesitant>) -> bool {
+    let failed = reads(source, Err(Failed), b"---") && source.faults() == 1;
+    failed && reads(source, Ok(0), b"---") && source.faults() == 1
 }
 
 #[test]
 fn a_failed_write_is_not_tried_again(rt: HostRuntime) -> Result<(), Fail> {
-    let mut sink = WriteSink::new(Hesitant { has_failed: false });
-    assert!(rt; sink.write(b"ab") == Err(Refused::Failed));
-    assert!(rt; sink.faults() == 1);
-    assert!(rt; sink.write(b"ab") == Ok(2));
-    assert!(rt; sink.faults() == 1);
+    assert!(rt; writes_once(&mut WriteSink::new(Hesitant { has_failed: false })));
     Ok(())
+}
+
+fn writes_once(sink: &mut WriteSink<Hesitant>) -> bool {
+    let failed = sink.write(b"ab") == Err(Refused::Failed) && sink.faults() == 1;
+    failed && sink.write(b"ab") == Ok(2) && sink.faults() == 1
 }
 
 #[test]
 fn a_read_asks_the_reader_once(rt: HostRuntime) -> Result<(), Fail> {
-    let mut source = ReadSource::new(Slow { has_begun: false });
-    assert!(rt; reads(&mut source, Ok(0), b"---"));
-    assert!(rt; reads(&mut source, Ok(1), b"x--"));
-    assert!(rt; reads(&mut source, Ok(1), b"x--"));
-    assert!(rt; source.faults() == 0);
+    assert!(rt; asks_the_reader_once(&mut ReadSource::new(Slow { has_begun: false })));
     Ok(())
+}
+
+fn asks_the_reader_once(source: &mut ReadSource<Slow>) -> bool {
+    reads(source, Ok(0), b"---")
+        && reads(source, Ok(1), b"x--")
+        && reads(source, Ok(1), b"x--")
+        && source.faults() == 0
 }
 
 #[test]
 fn a_write_asks_the_writer_once(rt: HostRuntime) -> Result<(), Fail> {
-    let mut sink = WriteSink::new(Slow { has_begun: false });
-    assert!(rt; sink.write(b"ab") == Ok(0));
-    assert!(rt; sink.faults() == 1);
-    assert!(rt; sink.write(b"ab") == Ok(1));
-    assert!(rt; sink.write(b"ab") == Ok(1));
-    assert!(rt; sink.faults() == 1);
+    assert!(rt; asks_the_writer_once(&mut WriteSink::new(Slow { has_begun: false })));
     Ok(())
+}
+
+fn asks_the_writer_once(sink: &mut WriteSink<Slow>) -> bool {
+    let failed = sink.write(b"ab") == Ok(0) && sink.faults() == 1;
+    let taken = sink.write(b"ab") == Ok(1) && sink.write(b"ab") == Ok(1);
+    failed && taken && sink.faults() == 1
 }
 
 #[test]
 fn a_sink_over_a_writer_counts_writes_that_take_nothing(rt: HostRuntime) -> Result<(), Fail> {
-    let mut sink = WriteSink::new(Cursor::new([0u8; 3]));
-    assert!(rt; sink.write(b"ab") == Ok(2));
-    assert!(rt; sink.write(b"cd") == Ok(1));
-    assert!(rt; sink.write(b"") == Ok(0));
-    assert!(rt; sink.faults() == 0);
-    assert!(rt; sink.write(b"d") == Ok(0));
-    assert!(rt; sink.faults() == 1);
+    assert!(rt; counts_a_full_writer(&mut WriteSink::new(Cursor::new([0u8; 3]))));
     Ok(())
+}
+
+fn counts_a_full_writer(sink: &mut WriteSink<Cursor<[u8; 3]>>) -> bool {
+    let taken = sink.write(b"ab") == Ok(2) && sink.write(b"cd") == Ok(1);
+    let empty = sink.write(b"") == Ok(0) && sink.faults() == 0;
+    taken && empty && sink.write(b"d") == Ok(0) && sink.faults() == 1
 }

@@ -1,6 +1,4 @@
 //! Whole reads and whole writes, in pieces and with failing calls.
-ghost use Rattle.std.specs.Prelude.{◌≤◌};
-
 use gp_edge::{
     CalmSink, CalmSource, MemSink, MemSource, ReadSource, Refused, Source, WriteSink, read_up_to,
     write_whole,
@@ -10,15 +8,12 @@ use std::io;
 use std::io::{Cursor, ErrorKind, Read};
 use std::test::Fail;
 
-const FAILED: Result<&str, Refused> = Err(Refused::Failed);
+type Answer = Result<&'static str, Refused>;
+
+const FAILED: Answer = Err(Refused::Failed);
 
 // Whether reading up to a limit has this result.
-fn reads<S: Source>(
-    alloc: Global,
-    source: &mut S,
-    limit: usize,
-    answer: Result<&str, Refused>,
-) -> bool {
+fn reads<S: Source>(alloc: Global, source: &mut S, limit: usize, answer: Answer) -> bool {
     match (read_up_to(alloc, source, limit), answer) {
         (Ok(bytes), Ok(text)) => bytes.as_slice() == text.as_bytes(),
         (Err(refused), Err(wanted)) => refused == wanted,
@@ -26,55 +21,70 @@ fn reads<S: Source>(
     }
 }
 
-// Whether reading `abcde` up to a limit has the first result, and then reading to its end the
-// second.
-fn reads_twice(
-    alloc: Global,
-    piece: usize,
-    failing: &[u64],
-    limit: usize,
-    first: Result<&str, Refused>,
-    then: Result<&str, Refused>,
-) -> Result<bool, Fail>
-    requires { 1 ≤ piece }
-{
-    let mut source = MemSource::new(alloc, b"abcde", piece, failing)?;
-    Ok(reads(alloc, &mut source, limit, first) && reads(alloc, &mut source, 100, then))
-}
+// The most bytes that a call of a source gives, the calls that fail, a limit, and what two reads of
+// the bytes `abcde` give: up to the limit, and then to the end.
+type TwoReads = (usize, &'static [u64], usize, Answer, Answer);
+
+static TO_THE_END_OR_TO_THE_LIMIT: [TwoReads; 7] = [
+    (1, &[], 100, Ok("abcde"), Ok("")),
+    (9, &[], 6, Ok("abcde"), Ok("")),
+    (9, &[], 5, Ok("abcde"), Ok("")),
+    (9, &[], 4, Ok("abcd"), Ok("e")),
+    (2, &[], 3, Ok("abc"), Ok("de")),
+    (1, &[], 4, Ok("abcd"), Ok("e")),
+    (9, &[], 0, Ok(""), Ok("abcde")),
+];
+
+// Calls 0 to 2 give `ab`, `cd` and `e`, and call 3 the end.
+static EACH_READ_FAILS: [TwoReads; 5] = [
+    (2, &[0], 100, FAILED, Ok("abcde")),
+    (2, &[1], 100, FAILED, Ok("cde")),
+    (2, &[2], 100, FAILED, Ok("e")),
+    (2, &[3], 100, FAILED, Ok("")),
+    (2, &[4], 100, Ok("abcde"), FAILED),
+];
+
+// If the limit is reached, there is no call for the end.
+static AT_THE_LIMIT: [TwoReads; 3] = [
+    (9, &[1], 5, Ok("abcde"), FAILED),
+    (9, &[1], 6, FAILED, Ok("")),
+    (9, &[0], 0, Ok(""), FAILED),
+];
 
 #[test]
 fn a_source_is_read_to_its_end_or_to_the_limit(rt: HostRuntime) -> Result<(), Fail> {
-    let alloc = rt.alloc();
-    assert!(rt; reads_twice(alloc, 1, &[], 100, Ok("abcde"), Ok(""))?);
-    assert!(rt; reads_twice(alloc, 9, &[], 6, Ok("abcde"), Ok(""))?);
-    assert!(rt; reads_twice(alloc, 9, &[], 5, Ok("abcde"), Ok(""))?);
-    assert!(rt; reads_twice(alloc, 9, &[], 4, Ok("abcd"), Ok("e"))?);
-    assert!(rt; reads_twice(alloc, 2, &[], 3, Ok("abc"), Ok("de"))?);
-    assert!(rt; reads_twice(alloc, 1, &[], 4, Ok("abcd"), Ok("e"))?);
-    assert!(rt; reads_twice(alloc, 9, &[], 0, Ok(""), Ok("abcde"))?);
+    assert!(rt; are_read(rt.alloc(), &TO_THE_END_OR_TO_THE_LIMIT)?);
     Ok(())
 }
 
-// Calls 0 to 2 give `ab`, `cd` and `e`, and call 3 the end.
 #[test]
 fn each_read_may_fail(rt: HostRuntime) -> Result<(), Fail> {
-    let alloc = rt.alloc();
-    assert!(rt; reads_twice(alloc, 2, &[0], 100, FAILED, Ok("abcde"))?);
-    assert!(rt; reads_twice(alloc, 2, &[1], 100, FAILED, Ok("cde"))?);
-    assert!(rt; reads_twice(alloc, 2, &[2], 100, FAILED, Ok("e"))?);
-    assert!(rt; reads_twice(alloc, 2, &[3], 100, FAILED, Ok(""))?);
-    assert!(rt; reads_twice(alloc, 2, &[4], 100, Ok("abcde"), FAILED)?);
+    assert!(rt; are_read(rt.alloc(), &EACH_READ_FAILS)?);
     Ok(())
 }
 
-// If the limit is reached, there is no call for the end.
 #[test]
 fn no_read_follows_the_limit(rt: HostRuntime) -> Result<(), Fail> {
-    let alloc = rt.alloc();
-    assert!(rt; reads_twice(alloc, 9, &[1], 5, Ok("abcde"), FAILED)?);
-    assert!(rt; reads_twice(alloc, 9, &[1], 6, FAILED, Ok(""))?);
-    assert!(rt; reads_twice(alloc, 9, &[0], 0, Ok(""), FAILED)?);
+    assert!(rt; are_read(rt.alloc(), &AT_THE_LIMIT)?);
     Ok(())
+}
+
+fn are_read(alloc: Global, rows: &[TwoReads]) -> Result<bool, Fail> {
+    for row in rows {
+        if !reads_twice(alloc, row)? {
+            return Ok(false);
+        }
+    }
+    Ok(true)
+}
+
+fn reads_twice(alloc: Global, row: &TwoReads) -> Result<bool, Fail> {
+    let (piece, failing, limit, first, then) = *row;
+    if piece == 0 {
+        return Ok(false);
+    }
+    let mut source = MemSource::new(alloc, b"abcde", piece, failing)?;
+    Ok(reads(alloc, &mut source, limit, first) && reads(alloc, &mut source, 100, then))
 }
 
 #[test]
@@ -105,38 +115,52 @@ fn a_broken_reader_is_a_failed_read(rt: HostRuntime) -> Result<(), Fail> {
     Ok(())
 }
 
-// Whether writing `abcde` has this result, and the sink then holds this.
-fn writes(
-    alloc: Global,
-    piece: usize,
-    failing: &[u64],
-    answer: Result<(), Refused>,
-    written: &str,
-) -> Result<bool, Fail>
-    requires { 1 ≤ piece }
-{
-    let mut sink = MemSink::new(alloc, piece, failing)?;
-    Ok(write_whole(&mut sink, b"abcde") == answer && sink.written() == written.as_bytes())
-}
+// The most bytes that a call takes, the calls that fail, the result of writing `abcde`, and what the
+// sink then holds.
+type Row = (usize, &'static [u64], Result<(), Refused>, &'static str);
+
+static IN_PIECES: [Row; 3] = [
+    (1, &[], Ok(()), "abcde"),
+    (2, &[], Ok(()), "abcde"),
+    (9, &[], Ok(()), "abcde"),
+];
+
+// Calls 0 to 2 take `ab`, `cd` and `e`, and there is no call 3.
+static EACH_WRITE_FAILS: [Row; 4] = [
+    (2, &[0], Err(Refused::Failed), ""),
+    (2, &[1], Err(Refused::Failed), "ab"),
+    (2, &[2], Err(Refused::Failed), "abcd"),
+    (2, &[3], Ok(()), "abcde"),
+];
 
 #[test]
 fn a_text_is_written_in_pieces(rt: HostRuntime) -> Result<(), Fail> {
-    let alloc = rt.alloc();
-    assert!(rt; writes(alloc, 1, &[], Ok(()), "abcde")?);
-    assert!(rt; writes(alloc, 2, &[], Ok(()), "abcde")?);
-    assert!(rt; writes(alloc, 9, &[], Ok(()), "abcde")?);
+    assert!(rt; are_written(rt.alloc(), &IN_PIECES)?);
     Ok(())
 }
 
-// Calls 0 to 2 take `ab`, `cd` and `e`, and there is no call 3.
 #[test]
 fn each_write_may_fail(rt: HostRuntime) -> Result<(), Fail> {
-    let alloc = rt.alloc();
-    assert!(rt; writes(alloc, 2, &[0], Err(Refused::Failed), "")?);
-    assert!(rt; writes(alloc, 2, &[1], Err(Refused::Failed), "ab")?);
-    assert!(rt; writes(alloc, 2, &[2], Err(Refused::Failed), "abcd")?);
-    assert!(rt; writes(alloc, 2, &[3], Ok(()), "abcde")?);
+    assert!(rt; are_written(rt.alloc(), &EACH_WRITE_FAILS)?);
     Ok(())
+}
+
+fn are_written(alloc: Global, rows: &[Row]) -> Result<bool, Fail> {
+    for row in rows {
+        if !writes(alloc, row)? {
+            return Ok(false);
+        }
+    }
+    Ok(true)
+}
+
+fn writes(alloc: Global, row: &Row) -> Result<bool, Fail> {
+    let (piece, failing, answer, written) = *row;
+    if piece == 0 {
+        return Ok(false);
+    }
+    let mut sink = MemSink::new(alloc, piece, failing)?;
+    Ok(write_whole(&mut sink, b"abcde") == answer && sink.written() == written.as_bytes())
 }
 
 #[test]
