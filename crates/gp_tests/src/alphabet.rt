@@ -16,7 +16,7 @@ use gp_history::Hist;
 use std::alloc::Global;
 use std::test::Fail;
 
-pub const LETTERS: [u8; 9] = *b"ABRSWVYKL";
+pub static LETTERS: [u8; 9] = *b"ABRSWVYKL";
 
 /// The command of a letter. A byte that is not a letter is read as `L`.
 pub fn command(alloc: Global, letter: u8) -> Result<Command, Fail> {

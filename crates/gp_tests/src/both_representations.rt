@@ -8,7 +8,7 @@ use std::process::Abort;
 use std::test::Fail;
 
 // The result of a call. A command is given by its letter.
-#[derive(Clone, Copy, Debug, PartialEq, Eq)]
+#[derive(Clone, Copy, PartialEq, Eq)]
 enum Seen {
     Pushed(bool),
     Has(bool),
@@ -20,7 +20,7 @@ enum Seen {
     Next(Option<u8>),
 }
 
-const WORDS: [&str; 10] = [
+static WORDS: [&str; 10] = [
     "",
     "W",
     "WKYK",
@@ -34,11 +34,11 @@ const WORDS: [&str; 10] = [
 ];
 
 // What each word is compared with.
-const OTHERS: [&str; 6] = ["", "WK", "WKY", "YWK", "AKBL", "VYKAB"];
+static OTHERS: [&str; 6] = ["", "WK", "WKY", "YWK", "AKBL", "VYKAB"];
 
 #[test]
 fn both_answer_alike(rt: HostRuntime) -> Result<(), Fail> {
-    for word in WORDS {
+    for word in &WORDS {
         are_alike(&rt, rt.alloc(), word)?;
     }
     Ok(())
@@ -108,7 +108,7 @@ fn see_places<H: Hist>(history: &H, seen: &mut Vec<Seen>) -> Result<(), Fail> {
 }
 
 fn see_letters<H: Hist>(alloc: Global, history: &H, seen: &mut Vec<Seen>) -> Result<(), Fail> {
-    for letter in LETTERS {
+    for &letter in &LETTERS {
         see_letter(history, &command(alloc, letter)?, seen)?;
     }
     Ok(())
@@ -124,7 +124,7 @@ fn see_letter<H: Hist>(history: &H, c: &Command, seen: &mut Vec<Seen>) -> Result
 }
 
 fn see_others<H: Hist>(alloc: Global, of: &H, seen: &mut Vec<Seen>) -> Result<(), Fail> {
-    for word in OTHERS {
+    for word in &OTHERS {
         see_other(of, &history(alloc, word)?, seen)?;
     }
     Ok(())

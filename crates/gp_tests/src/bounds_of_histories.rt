@@ -13,7 +13,7 @@ type Pair = (&'static str, &'static str, bool, &'static str, &'static str);
 // it in both. The join is the first history, followed by what only the second has, in its canonical
 // order. The two are compatible if each common command has the same before it in both, and no
 // command of the one alone conflicts with one of the other alone.
-const PAIRS: [Pair; 24] = [
+static PAIRS: [Pair; 24] = [
     // the empty history is a prefix of all
     ("", "W", true, "", "W"),
     ("W", "W", true, "W", "W"),

@@ -8,7 +8,7 @@ use std::test::Fail;
 
 // The first offer of proposer 0, `put a 5`: proposer, number, mark, number of touches; the key `a`
 // with its length and a write; the body with its length.
-const PUT_A_5: [u8; 21] = [
+static PUT_A_5: [u8; 21] = [
     0, 0, 0, 0, 1, 0, 0, 0, 0, 1, 1, 0x61, 2, 7, 0x70, 0x75, 0x74, 0x20, 0x61, 0x20, 0x35,
 ];
 
@@ -36,11 +36,18 @@ fn a_put_has_21_bytes(rt: HostRuntime) -> Result<(), Fail> {
 // The bytes of a command after others.
 fn written(rt: &impl Abort, alloc: Global, command: &Command) -> Result<Vec<u8>, Fail> {
     let mut bytes = [9].to_vec(alloc)?;
+    write(rt, command, &mut bytes)?;
+    match bytes.split_first() {
+        Some((9, written)) => Ok(written.to_vec(alloc)?),
+        _ => Err(Fail::from("what was there is lost")),
+    }
+}
+
+fn write(rt: &impl Abort, command: &Command, bytes: &mut Vec<u8>) -> Result<(), Fail> {
     let id = command.id();
     assert!(rt; id.proposer < 8 && 1 <= id.number);
-    write_command(command, &mut bytes)?;
-    assert!(rt; bytes.first() == Some(&9));
-    Ok(bytes[1..].to_vec(alloc)?)
+    write_command(command, bytes)?;
+    Ok(())
 }
 
 #[test]

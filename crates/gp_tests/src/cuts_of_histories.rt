@@ -9,7 +9,7 @@ use std::test::Fail;
 // A history, its first checkpoint, and its cut.
 type Cut = (&'static str, Option<u8>, &'static str);
 
-const CUTS: [Cut; 10] = [
+static CUTS: [Cut; 10] = [
     // no checkpoint
     ("", None, ""),
     ("WVA", None, "WVA"),
@@ -45,7 +45,7 @@ fn is_cut<H: Hist>(alloc: Global, row: &Cut) -> Result<bool, Fail> {
 // Values, and the commands that are done after them.
 type Closed = (&'static [&'static str], &'static str);
 
-const CLOSED: [Closed; 7] = [
+static CLOSED: [Closed; 7] = [
     (&[], ""),
     (&[""], ""),
     (&["WK"], "WK"),
@@ -58,7 +58,7 @@ const CLOSED: [Closed; 7] = [
 
 #[test]
 fn what_values_have_is_done(rt: HostRuntime) -> Result<(), Fail> {
-    for (values, want) in CLOSED {
+    for &(values, want) in &CLOSED {
         assert!(rt; has_done(rt.alloc(), values, want)?);
     }
     Ok(())
@@ -86,7 +86,7 @@ fn clears_one(alloc: Global, done: &mut Done, want: &str) -> Result<bool, Fail> 
 
 // Whether these letters are done, and no other.
 fn is_done(alloc: Global, done: &Done, want: &str) -> Result<bool, Fail> {
-    for letter in LETTERS {
+    for &letter in &LETTERS {
         if done.has(&command(alloc, letter)?) != want.as_bytes().contains(&letter) {
             return Ok(false);
         }

@@ -7,7 +7,9 @@ use std::process::Abort;
 use std::test::Fail;
 
 // A letter, whether it is pushed, and how many commands there are then.
-const PUSHES: [(u8, bool, usize); 5] = [
+type Push = (u8, bool, usize);
+
+static PUSHES: [Push; 5] = [
     (b'W', true, 1),
     (b'V', true, 2),
     (b'W', false, 2),
@@ -17,19 +19,26 @@ const PUSHES: [(u8, bool, usize); 5] = [
 
 #[test]
 fn a_history_has_what_was_pushed_once(rt: HostRuntime) -> Result<(), Fail> {
-    push_all::<SeqHistory, _>(&rt, rt.alloc())?;
-    push_all::<History, _>(&rt, rt.alloc())
+    assert!(rt; are_pushed_once::<SeqHistory>(rt.alloc())?);
+    assert!(rt; are_pushed_once::<History>(rt.alloc())?);
+    Ok(())
 }
 
-fn push_all<H: Hist, R: Abort>(rt: &R, alloc: Global) -> Result<(), Fail> {
+fn are_pushed_once<H: Hist>(alloc: Global) -> Result<bool, Fail> {
     let mut history = H::empty(alloc)?;
-    for (letter, pushed, len) in PUSHES {
-        let command = command(alloc, letter)?;
-        assert!(rt; history.has(&command) == !pushed);
-        assert!(rt; history.push(command)? == pushed);
-        assert!(rt; history.len() == len);
+    for push in &PUSHES {
+        if !is_pushed_once(alloc, &mut history, push)? {
+            return Ok(false);
+        }
     }
-    Ok(())
+    Ok(true)
+}
+
+fn is_pushed_once<H: Hist>(alloc: Global, history: &mut H, push: &Push) -> Result<bool, Fail> {
+    let (letter, pushed, len) = *push;
+    let command = command(alloc, letter)?;
+    let was_there = history.has(&command);
+    Ok(was_there == !pushed && history.push(command)? == pushed && history.len() == len)
 }
 
 #[test]
@@ -133,7 +142,7 @@ fn find_from_all<H: Hist, R: Abort>(
 // Two histories, whether the first is a prefix of the second, and whether they are equal.
 type Comparison = (&'static str, &'static str, bool, bool);
 
-const COMPARISONS: [Comparison; 24] = [
+static COMPARISONS: [Comparison; 24] = [
     ("", "", true, true),
     ("", "W", true, false),
     ("W", "WV", true, false),
@@ -197,7 +206,7 @@ fn is_compared_by_epochs(alloc: Global, of: &Comparison) -> Result<bool, Fail> {
 }
 
 // A word, and its letters in canonical order.
-const ORDERS: [(&str, &str); 8] = [
+static ORDERS: [(&str, &str); 8] = [
     ("", ""),
     ("BA", "AB"), // commuting commands by their order
     ("WA", "WA"), // the addition comes after the write
@@ -210,7 +219,7 @@ const ORDERS: [(&str, &str); 8] = [
 
 #[test]
 fn the_next_least_commands_walk_the_canonical_order(rt: HostRuntime) -> Result<(), Fail> {
-    for (word, want) in ORDERS {
+    for &(word, want) in &ORDERS {
         assert!(rt; walks::<SeqHistory, _>(&rt, rt.alloc(), word, want)?);
         assert!(rt; walks::<History, _>(&rt, rt.alloc(), word, want)?);
     }

@@ -50,7 +50,7 @@ fn a_checkpoint_starts_an_epoch(rt: HostRuntime) -> Result<(), Fail> {
 // A word, and where its epochs start.
 type Starts = (&'static str, &'static [usize]);
 
-const STARTS: [Starts; 10] = [
+static STARTS: [Starts; 10] = [
     ("", &[0]),
     ("WY", &[0]),
     ("K", &[0, 1]),
@@ -66,7 +66,7 @@ const STARTS: [Starts; 10] = [
 
 #[test]
 fn epochs_start_after_the_checkpoints(rt: HostRuntime) -> Result<(), Fail> {
-    for (word, want) in STARTS {
+    for &(word, want) in &STARTS {
         assert!(rt; starts_at(rt.alloc(), word, want)?, "of {word}");
     }
     Ok(())
@@ -103,7 +103,7 @@ fn a_command_is_found_by_the_index(rt: HostRuntime) -> Result<(), Fail> {
 fn finds_all(alloc: Global, word: &str) -> Result<bool, Fail> {
     let history: History = history(alloc, word)?;
     let letters = letters(alloc, &history)?;
-    for letter in LETTERS {
+    for &letter in &LETTERS {
         let want = letters.iter().position(|at| *at == letter);
         if history.find(&command(alloc, letter)?) != want {
             return Ok(false);
@@ -143,7 +143,7 @@ fn finds(alloc: Global, history: &History, letter: u8, at: Option<usize>) -> Res
 
 // A word, the letters that were taken, and all letters: first these, and then the others in
 // canonical order.
-const ORDERS: [(&str, &str, &str); 8] = [
+static ORDERS: [(&str, &str, &str); 8] = [
     ("", "", ""),
     ("SRBA", "", "RSAB"),
     ("SRBA", "S", "SRAB"), // what was taken stays in front
@@ -156,7 +156,7 @@ const ORDERS: [(&str, &str, &str); 8] = [
 
 #[test]
 fn what_was_not_taken_follows_in_canonical_order(rt: HostRuntime) -> Result<(), Fail> {
-    for (word, taken, want) in ORDERS {
+    for &(word, taken, want) in &ORDERS {
         assert!(rt;
             is_ordered_after(rt.alloc(), word, taken, want)?,
             "of {word}"

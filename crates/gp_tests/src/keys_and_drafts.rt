@@ -50,28 +50,36 @@ fn writes(alloc: Global, keys: &str) -> Result<Vec<Touch>, Fail> {
     Ok(touches)
 }
 
+// The keys of a draft, the length of its body, and why it is refused.
+type Made = (&'static str, usize, Option<DraftRefused>);
+
+static DRAFTS: [Made; 10] = [
+    ("", 0, None),
+    ("abcdefgh", 64, None),
+    ("abcdefgh", 65, Some(DraftRefused::TooLong { given: 65 })),
+    ("abcdefghi", 64, Some(DraftRefused::TooMany { given: 9 })),
+    ("abcdefghi", 65, Some(DraftRefused::TooMany { given: 9 })),
+    ("ba", 0, Some(DraftRefused::Unsorted { at: 1 })),
+    ("aa", 0, Some(DraftRefused::Unsorted { at: 1 })),
+    ("abcb", 0, Some(DraftRefused::Unsorted { at: 3 })),
+    ("acbba", 0, Some(DraftRefused::Unsorted { at: 2 })),
+    ("abcdefghia", 65, Some(DraftRefused::Unsorted { at: 9 })),
+];
+
 #[test]
 fn drafts_are_refused_for_their_first_cause(rt: HostRuntime) -> Result<(), Fail> {
-    let alloc = rt.alloc();
-    // the keys, the length of the body, and the cause
-    for (keys, len, want) in [
-        ("", 0, None),
-        ("abcdefgh", 64, None),
-        ("abcdefgh", 65, Some(DraftRefused::TooLong { given: 65 })),
-        ("abcdefghi", 64, Some(DraftRefused::TooMany { given: 9 })),
-        ("abcdefghi", 65, Some(DraftRefused::TooMany { given: 9 })),
-        ("ba", 0, Some(DraftRefused::Unsorted { at: 1 })),
-        ("aa", 0, Some(DraftRefused::Unsorted { at: 1 })),
-        ("abcb", 0, Some(DraftRefused::Unsorted { at: 3 })),
-        ("acbba", 0, Some(DraftRefused::Unsorted { at: 2 })),
-        ("abcdefghia", 65, Some(DraftRefused::Unsorted { at: 9 })),
-    ] {
-        let touches = writes(alloc, keys)?;
-        let body = vec![in alloc; 7; len]?;
-        let draft = Draft::new(alloc, &touches, &body);
-        assert!(rt; draft.err() == want, "{keys}");
+    for made in &DRAFTS {
+        assert!(rt; is_made(rt.alloc(), made)?, "of {}", made.0);
     }
     Ok(())
+}
+
+// Whether the draft is made, or is refused for this cause.
+fn is_made(alloc: Global, made: &Made) -> Result<bool, Fail> {
+    let (keys, len, want) = *made;
+    let touches = writes(alloc, keys)?;
+    let body = vec![in alloc; 7; len]?;
+    Ok(Draft::new(alloc, &touches, &body).err() == want)
 }
 
 #[test]

@@ -8,7 +8,7 @@ use std::alloc::Global;
 use std::test::Fail;
 
 // What the 256 commands do.
-#[derive(Clone, Copy, Debug)]
+#[derive(Clone, Copy)]
 enum Shape {
     /// Each writes one key.
     OneKey,
@@ -84,7 +84,7 @@ type Row = (Shape, bool, usize);
 // Of one key, command 0 comes first in both orders, and 1 comes after it in the one and after 77 in
 // the other. Before the first checkpoint come 0 to 14 in the one order and the first eleven numbers
 // in the other; 0 and 2 are common.
-const ROWS: [Row; 4] = [
+static ROWS: [Row; 4] = [
     (Shape::OneKey, false, 1),
     (Shape::OwnKeys, true, 256),
     (Shape::Additions, true, 256),
@@ -93,7 +93,7 @@ const ROWS: [Row; 4] = [
 
 #[test]
 fn long_histories_are_compared(rt: HostRuntime) -> Result<(), Fail> {
-    for (shape, same, met) in ROWS {
+    for &(shape, same, met) in &ROWS {
         assert!(rt; is_compared::<SeqHistory>(rt.alloc(), shape, same, met)?);
         assert!(rt; is_compared::<History>(rt.alloc(), shape, same, met)?);
     }

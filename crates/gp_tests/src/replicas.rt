@@ -17,7 +17,7 @@ type Row = (u32, u32, Step);
 type Run = (u32, u32, Reply);
 
 // Commands of two proposers. The first command is not the least, and conflicts with no other.
-const LEARNED: [Row; 4] = [
+static LEARNED: [Row; 4] = [
     (1, 1, Step::Put(B, 5)),
     (0, 1, Step::Put(A, 1)),
     (1, 2, Step::Add(A, 2)),
@@ -25,7 +25,7 @@ const LEARNED: [Row; 4] = [
 ];
 
 // The same in the canonical order.
-const RAN: [Run; 4] = [
+static RAN: [Run; 4] = [
     (0, 1, Reply::Done),
     (1, 1, Reply::Done),
     (1, 2, Reply::Done),
@@ -36,7 +36,7 @@ const RAN: [Run; 4] = [
 const LATER: Row = (0, 3, Step::Copy(A, B));
 
 // It is run after those that were run before.
-const RAN_LATER: [Run; 5] = [
+static RAN_LATER: [Run; 5] = [
     (0, 1, Reply::Done),
     (1, 1, Reply::Done),
     (1, 2, Reply::Done),
@@ -45,7 +45,7 @@ const RAN_LATER: [Run; 5] = [
 ];
 
 // The commands of a key service, one after another.
-const SERVED: [Row; 8] = [
+static SERVED: [Row; 8] = [
     (0, 1, Step::Put(A, 1)),
     (0, 2, Step::Add(A, 3)),
     (0, 3, Step::Get(A)),
@@ -56,7 +56,7 @@ const SERVED: [Row; 8] = [
     (0, 8, Step::Copy(A, B)),
 ];
 
-const SERVED_RAN: [Run; 8] = [
+static SERVED_RAN: [Run; 8] = [
     (0, 1, Reply::Done),
     (0, 2, Reply::Done),
     (0, 3, Reply::Value(4)),
@@ -146,19 +146,21 @@ fn what_is_learned_is_run_in_the_canonical_order(rt: HostRuntime) -> Result<(), 
 }
 
 fn runs_in_order(rt: &impl Abort, alloc: Global) -> Result<bool, Fail> {
+    let learned = history(alloc, &LEARNED)?;
     let mut replica = Replica::new(alloc)?;
-    let count = run(rt, alloc, &mut replica, &LEARNED)?;
-    Ok(count == 4 && shows(&replica, &RAN, Some(3), Some(5))?)
+    runs_all(rt, &mut replica, &learned, &RAN, (Some(3), Some(5)))
 }
 
-// How many commands a replica runs that learns these.
-fn run(
+// Whether a replica runs all that is learned, as these runs, and the two keys have these values then.
+fn runs_all(
     rt: &impl Abort,
-    alloc: Global,
     replica: &mut Replica<KeyStore>,
-    rows: &[Row],
-) -> Result<usize, Fail> {
-    caught_up(rt, replica, &history(alloc, rows)?)
+    learned: &History,
+    runs: &[Run],
+    values: (Option<u64>, Option<u64>),
+) -> Result<bool, Fail> {
+    let count = caught_up(rt, replica, learned)?;
+    Ok(count == runs.len() && shows(replica, runs, values.0, values.1)?)
 }
 
 // Whether a replica that has run all that is learned runs nothing more.
@@ -216,7 +218,7 @@ fn a_key_is_served(rt: HostRuntime) -> Result<(), Fail> {
 }
 
 fn is_served(rt: &impl Abort, alloc: Global) -> Result<bool, Fail> {
+    let learned = history(alloc, &SERVED)?;
     let mut replica = Replica::new(alloc)?;
-    let count = run(rt, alloc, &mut replica, &SERVED)?;
-    Ok(count == 8 && shows(&replica, &SERVED_RAN, None, Some(9))?)
+    runs_all(rt, &mut replica, &learned, &SERVED_RAN, (None, Some(9)))
 }

@@ -11,7 +11,7 @@ pub const B: &[u8] = b"b";
 pub const C: &[u8] = b"c";
 
 /// An operation with its keys and values.
-#[derive(Clone, Copy, Debug)]
+#[derive(Clone, Copy)]
 pub enum Step {
     Put(&'static [u8], u64),
     Add(&'static [u8], u64),

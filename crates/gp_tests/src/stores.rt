@@ -12,7 +12,7 @@ const FIRST: CommandId = CommandId {
 };
 
 // Operations one after another, each with its reply.
-const RUN: [(Step, Reply); 12] = [
+static RUN: [(Step, Reply); 12] = [
     (Step::Get(A), Reply::Absent),
     (Step::Put(A, 5), Reply::Done),
     // modulo 2^64
@@ -45,7 +45,7 @@ fn is_run(store: &KeyStore) -> Result<bool, Fail> {
 }
 
 fn run_all(alloc: Global, store: &mut KeyStore) -> Result<bool, Fail> {
-    for (step, reply) in RUN {
+    for &(step, reply) in &RUN {
         if !replies(store, draft(alloc, step)?, reply)? {
             return Ok(false);
         }
