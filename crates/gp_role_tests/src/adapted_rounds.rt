@@ -21,10 +21,70 @@ type Text = Option<(u32, Mode)>;
 // The highest round, whether it has collided, and the round that is to begin next.
 type Call = (Text, bool, Text);
 
-fn round(text: (u32, Mode), coordinator: u32) -> Round {
-    let (count, mode) = text;
+static BACK_AFTER_A_CALM: [Call; 5] = [
+    (None, false, Some((1, Mode::Fast))),
+    (Some((1, Mode::Fast)), true, Some((2, Mode::Multi))),
+    (Some((2, Mode::Multi)), true, Some((3, Mode::Single))),
+    (Some((3, Mode::Single)), false, None),
+    (Some((3, Mode::Single)), false, Some((4, Mode::Fast))),
+];
+
+static OF_ANOTHER_COORDINATOR: [Call; 4] = [
+    (None, true, Some((1, Mode::Fast))),
+    (Some((1, Mode::Fast)), true, Some((2, Mode::Multi))),
+    (Some((2, Mode::Multi)), false, Some((3, Mode::Fast))),
+    (Some((3, Mode::Fast)), false, None),
+];
+
+static QUIET_AND_A_CLASH: [Call; 6] = [
+    (None, false, Some((1, Mode::Fast))),
+    (Some((1, Mode::Fast)), true, Some((2, Mode::Multi))),
+    (Some((2, Mode::Multi)), false, None),
+    (Some((2, Mode::Multi)), true, Some((3, Mode::Single))),
+    (Some((3, Mode::Single)), false, None),
+    (Some((3, Mode::Single)), false, Some((4, Mode::Fast))),
+];
+
+const LAST: Text = Some((LAST_COUNT, Mode::Single));
+
+static AT_THE_GREATEST_COUNT: [Call; 5] = [
+    // the first call begins a round, but no count is left
+    (LAST, false, None),
+    (LAST, true, None),
+    (Some((LAST_COUNT - 1, Mode::Single)), true, LAST),
+    (LAST, false, None),
+    // the number of collisions went back to none while no count was left
+    (Some((7, Mode::Single)), true, Some((8, Mode::Multi))),
+];
+
+static BEFORE_A_RESET: [Call; 2] = [
+    (None, false, Some((1, Mode::Fast))),
+    (Some((1, Mode::Fast)), true, Some((2, Mode::Multi))),
+];
+
+static AFTER_A_RESET: [Call; 1] = [(None, true, Some((1, Mode::Fast)))];
+
+// The round of a text, which a coordinator leads.
+fn round(text: Text, coordinator: u32) -> Option<Round> {
+    let (count, mode) = text?;
     let lead = if mode == Mode::Multi { 0 } else { coordinator };
-    Round { count, mode, lead }
+    Some(Round { count, mode, lead })
+}
+
+fn is_answered(adapt: &mut Adapt, coordinator: u32, call: Call) -> bool {
+    let (highest, clashed, next) = call;
+    let highest = round(highest, coordinator).unwrap_or(ZERO);
+    adapt.next(highest, clashed) == round(next, coordinator)
+}
+
+// Whether the calls, one after another, are answered with these rounds.
+fn are_answered(adapt: &mut Adapt, coordinator: u32, calls: &[Call]) -> bool {
+    for call in calls {
+        if !is_answered(adapt, coordinator, *call) {
+            return false;
+        }
+    }
+    true
 }
 
 // Asks for the next round, call by call.
@@ -39,6 +99,7 @@ fn asks(
     requires some_calm { 1 ≤ calm }
     requires most_calm { calm ≤ 1000 }
 {
+    let config = Config::new(3, 3, 1)?;
     let choose: ChooseMode = Box::new(
         alloc,
         |scene: &Scene| -> Mode
@@ -51,76 +112,41 @@ fn asks(
             }
         },
     )?;
-    let mut adapt = Adapt::new(Config::new(3, 3, 1)?, coordinator, calm, choose);
-    for (highest, clashed, next) in calls {
-        let highest = match *highest {
-            Some(text) => round(text, coordinator),
-            None => ZERO,
-        };
-        let next = match *next {
-            Some(text) => Some(round(text, coordinator)),
-            None => None,
-        };
-        assert!(rt; adapt.next(highest, *clashed) == next, "after {highest:?}");
-    }
+    let mut adapt = Adapt::new(config, coordinator, calm, choose);
+    assert!(rt; are_answered(&mut adapt, coordinator, calls));
     Ok(())
 }
 
 #[test]
 fn clashes_lead_to_single_rounds_and_a_calm_leads_back(rt: HostRuntime) -> Result<(), Fail> {
-    const CALLS: [Call; 5] = [
-        (None, false, Some((1, Mode::Fast))),
-        (Some((1, Mode::Fast)), true, Some((2, Mode::Multi))),
-        (Some((2, Mode::Multi)), true, Some((3, Mode::Single))),
-        (Some((3, Mode::Single)), false, None),
-        (Some((3, Mode::Single)), false, Some((4, Mode::Fast))),
-    ];
-    asks(&rt, rt.alloc(), 0, 2, &CALLS)
+    asks(&rt, rt.alloc(), 0, 2, &BACK_AFTER_A_CALM)
 }
 
 #[test]
 fn another_coordinator_leads_its_rounds(rt: HostRuntime) -> Result<(), Fail> {
-    const CALLS: [Call; 4] = [
-        (None, true, Some((1, Mode::Fast))),
-        (Some((1, Mode::Fast)), true, Some((2, Mode::Multi))),
-        (Some((2, Mode::Multi)), false, Some((3, Mode::Fast))),
-        (Some((3, Mode::Fast)), false, None),
-    ];
-    asks(&rt, rt.alloc(), 2, 1, &CALLS)
+    asks(&rt, rt.alloc(), 2, 1, &OF_ANOTHER_COORDINATOR)
 }
 
 #[test]
 fn a_clash_ends_what_was_quiet(rt: HostRuntime) -> Result<(), Fail> {
-    const CALLS: [Call; 6] = [
-        (None, false, Some((1, Mode::Fast))),
-        (Some((1, Mode::Fast)), true, Some((2, Mode::Multi))),
-        (Some((2, Mode::Multi)), false, None),
-        (Some((2, Mode::Multi)), true, Some((3, Mode::Single))),
-        (Some((3, Mode::Single)), false, None),
-        (Some((3, Mode::Single)), false, Some((4, Mode::Fast))),
-    ];
-    asks(&rt, rt.alloc(), 1, 2, &CALLS)
+    asks(&rt, rt.alloc(), 1, 2, &QUIET_AND_A_CLASH)
 }
 
 #[test]
 fn no_round_follows_the_greatest_count(rt: HostRuntime) -> Result<(), Fail> {
-    const LAST: Text = Some((LAST_COUNT, Mode::Single));
-    const CALLS: [Call; 5] = [
-        // the first call begins a round, but no count is left
-        (LAST, false, None),
-        (LAST, true, None),
-        (Some((LAST_COUNT - 1, Mode::Single)), true, LAST),
-        (LAST, false, None),
-        // the number of collisions went back to none while no count was left
-        (Some((7, Mode::Single)), true, Some((8, Mode::Multi))),
-    ];
-    asks(&rt, rt.alloc(), 0, 1, &CALLS)
+    asks(&rt, rt.alloc(), 0, 1, &AT_THE_GREATEST_COUNT)
 }
 
 #[test]
 fn after_a_reset_the_next_call_is_the_first_one(rt: HostRuntime) -> Result<(), Fail> {
+    assert!(rt; begins_anew(rt.alloc())?);
+    Ok(())
+}
+
+fn begins_anew(alloc: Global) -> Result<bool, Fail> {
+    let config = Config::new(3, 3, 1)?;
     let choose: ChooseMode = Box::new(
-        rt.alloc(),
+        alloc,
         |scene: &Scene| -> Mode
             ensures { result ≡ mode_after scene.now.clashes }
         {
@@ -131,11 +157,14 @@ fn after_a_reset_the_next_call_is_the_first_one(rt: HostRuntime) -> Result<(), F
             }
         },
     )?;
-    let mut adapt = Adapt::new_by_clashes(Config::new(3, 3, 1)?, 0, 2, choose);
-    assert!(rt; adapt.next(ZERO, false) == Some(round((1, Mode::Fast), 0)));
-    let clashed = round((1, Mode::Fast), 0);
-    assert!(rt; adapt.next(clashed, true) == Some(round((2, Mode::Multi), 0)));
+    let mut adapt = Adapt::new_by_clashes(config, 0, 2, choose);
+    Ok(are_answered_over_a_reset(&mut adapt))
+}
+
+fn are_answered_over_a_reset(adapt: &mut Adapt) -> bool {
+    if !are_answered(adapt, 0, &BEFORE_A_RESET) {
+        return false;
+    }
     adapt.reset();
-    assert!(rt; adapt.next(ZERO, true) == Some(round((1, Mode::Fast), 0)));
-    Ok(())
+    are_answered(adapt, 0, &AFTER_A_RESET)
 }

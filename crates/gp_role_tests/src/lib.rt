@@ -8,8 +8,6 @@ mod acceptors;
 #[cfg(test)]
 mod adapted_rounds;
 #[cfg(test)]
-mod collision_scene;
-#[cfg(test)]
 mod coordinators;
 #[cfg(test)]
 mod learners;

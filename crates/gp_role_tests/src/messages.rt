@@ -1,10 +1,9 @@
 //! Kinds of messages, who reads them, and copies.
-use crate::scene::{FAST_1, SINGLE_1, Text, ZERO, are_alike, draft, history, message};
-use gp_history::Hist;
-use gp_index::History;
+use crate::scene::{
+    FAST_1, SINGLE_1, Text, ZERO, are_alike, draft, history, is_of_acceptor, message,
+};
 use gp_msg::{Durable, Event, Kept, Msg, MsgKind, Node, Outs, Record, Records, reads};
 use std::alloc::Global;
-use std::process::Abort;
 use std::test::Fail;
 
 // A message, its epoch and its kind.
@@ -19,29 +18,32 @@ static KINDS: [(Text, u32, MsgKind); 6] = [
 
 #[test]
 fn a_message_has_a_kind_and_copies(rt: HostRuntime) -> Result<(), Fail> {
-    for (text, epoch, kind) in &KINDS {
-        check(&rt, rt.alloc(), *text, *epoch, *kind)?;
-    }
+    assert!(rt; all_have_kinds_and_copies(rt.alloc())?);
     Ok(())
 }
 
-fn check(
-    rt: &impl Abort,
+fn all_have_kinds_and_copies(alloc: Global) -> Result<bool, Fail> {
+    for (text, epoch, kind) in &KINDS {
+        if !has_a_kind_and_a_copy(alloc, *text, *epoch, *kind)? {
+            return Ok(false);
+        }
+    }
+    Ok(true)
+}
+
+fn has_a_kind_and_a_copy(
     alloc: Global,
     text: Text,
     epoch: u32,
     kind: MsgKind,
-) -> Result<(), Fail> {
-    if let Some(m) = message(alloc, epoch, text)? {
-        check_message(rt, &m, kind)?;
-    }
-    Ok(())
+) -> Result<bool, Fail> {
+    let m = message(alloc, epoch, text)?;
+    is_of_kind_and_copies(&m, kind)
 }
 
-fn check_message(rt: &impl Abort, m: &Msg, kind: MsgKind) -> Result<(), Fail> {
-    assert!(rt; m.kind() == kind);
-    assert!(rt; are_alike(&m.copy()?, m));
-    Ok(())
+fn is_of_kind_and_copies(m: &Msg, kind: MsgKind) -> Result<bool, Fail> {
+    let copy = m.copy()?;
+    Ok(m.kind() == kind && are_alike(&copy, m))
 }
 
 // A kind, and whether a proposer, a coordinator, an acceptor and a learner read it.
@@ -56,25 +58,36 @@ static READS: [(MsgKind, bool, bool, bool, bool); 6] = [
 
 #[test]
 fn nodes_read_these_kinds(rt: HostRuntime) {
+    assert!(rt; all_are_read());
+}
+
+fn all_are_read() -> bool {
     for (kind, proposer, coordinator, acceptor, learner) in &READS {
-        assert!(rt; reads(Node::Proposer(1), *kind) == *proposer);
-        assert!(rt; reads(Node::Coordinator(0), *kind) == *coordinator);
-        assert!(rt; reads(Node::Acceptor(2), *kind) == *acceptor);
-        assert!(rt; reads(Node::Learner(0), *kind) == *learner);
+        if reads(Node::Proposer(1), *kind) != *proposer
+            || reads(Node::Coordinator(0), *kind) != *coordinator
+            || reads(Node::Acceptor(2), *kind) != *acceptor
+            || reads(Node::Learner(0), *kind) != *learner
+        {
+            return false;
+        }
     }
+    true
 }
 
 #[test]
 fn durable_parts_have_copies(rt: HostRuntime) -> Result<(), Fail> {
-    let alloc = rt.alloc();
+    assert!(rt; copies_a_vote(rt.alloc())?);
+    Ok(())
+}
+
+fn copies_a_vote(alloc: Global) -> Result<bool, Fail> {
     let acceptor = Durable::Acceptor {
         epoch: 7,
         round: FAST_1,
         voted: SINGLE_1,
         vote: history(alloc, "aX")?,
     };
-    assert!(rt; is_that_part(&acceptor.copy()?, &history(alloc, "aX")?));
-    Ok(())
+    is_of_acceptor(alloc, &acceptor.copy()?, 7, FAST_1, SINGLE_1, "aX")
 }
 
 #[test]
@@ -87,19 +100,6 @@ fn a_part_without_a_vote_has_copies(rt: HostRuntime) -> Result<(), Fail> {
         matches!(coordinator.copy()?, Durable::Coordinator { epoch: 7, round } if round == FAST_1)
     );
     Ok(())
-}
-
-// Whether it is the part of that acceptor, with this vote.
-fn is_that_part(durable: &Durable, v: &History) -> bool {
-    match durable {
-        Durable::Acceptor {
-            epoch,
-            round,
-            voted,
-            vote,
-        } => *epoch == 7 && *round == FAST_1 && *voted == SINGLE_1 && vote.same(v),
-        Durable::Coordinator { .. } => false,
-    }
 }
 
 #[test]
@@ -151,12 +151,15 @@ fn record(alloc: Global) -> Result<Record, Fail> {
 
 fn sent(alloc: Global) -> Result<Outs, Fail> {
     let mut out = Outs::new(alloc);
-    for (text, epoch, _) in &KINDS {
-        if let Some(m) = message(alloc, *epoch, *text)? {
-            out.push(m)?;
-        }
-    }
+    push_all(alloc, &mut out)?;
     Ok(out)
+}
+
+fn push_all(alloc: Global, out: &mut Outs) -> Result<(), Fail> {
+    for (text, epoch, _) in &KINDS {
+        out.push(message(alloc, *epoch, *text)?)?;
+    }
+    Ok(())
 }
 
 // Whether these are the same messages.
@@ -174,20 +177,34 @@ fn is_that_record(record: &Record, sent: &Outs) -> bool {
 
 #[test]
 fn records_hold_messages_in_their_order(rt: HostRuntime) -> Result<(), Fail> {
-    let alloc = rt.alloc();
+    assert!(rt; holds_two(rt.alloc())?);
+    Ok(())
+}
+
+fn holds_two(alloc: Global) -> Result<bool, Fail> {
     let mut records = Records::new(alloc);
     push_two(alloc, &mut records)?;
+    are_that_record(alloc, records.as_slice())
+}
+
+// Whether both are the record.
+fn are_that_record(alloc: Global, records: &[Record]) -> Result<bool, Fail> {
     let want = sent(alloc)?;
-    assert!(rt; records.as_slice().len() == 2);
-    assert!(rt; want.as_slice().len() == 6);
-    assert!(rt; records.as_slice().iter().all(|r| is_that_record(r, &want)));
-    Ok(())
+    Ok(
+        records.len() == 2
+            && want.as_slice().len() == 6
+            && records.iter().all(|r| is_that_record(r, &want)),
+    )
 }
 
 // Appends a copy of the record, and the record.
 fn push_two(alloc: Global, records: &mut Records) -> Result<(), Fail> {
-    let copy = record(alloc)?.copy()?;
-    records.push(copy)?;
+    records.push(copied_record(alloc)?)?;
     records.push(record(alloc)?)?;
     Ok(())
+}
+
+fn copied_record(alloc: Global) -> Result<Record, Fail> {
+    let record = record(alloc)?;
+    Ok(record.copy()?)
 }

@@ -3,7 +3,7 @@ ghost use Rattle.std.specs.Prelude.{◌≡◌, true, IfSome};
 ghost use Rattle.gp_round.specs.Configs.{is_owner};
 ghost use Rattle.gp_round.specs.Rounds.{earlier};
 
-use crate::collision_scene::{FAST_1, SINGLE_2};
+use crate::scene::{FAST_1, SINGLE_2_OF_0};
 use gp_collide::{Choose, Notice, Policy};
 use gp_round::{Config, Mode, Round};
 use std::test::Fail;
@@ -25,8 +25,8 @@ const SINGLE_LAST: Round = Round {
 // The highest round, whether it has collided, and the round that is to begin next.
 type Case = (Round, bool, Option<Round>);
 
-const CASES: [Case; 5] = [
-    (FAST_1, true, Some(SINGLE_2)),
+static CASES: [Case; 5] = [
+    (FAST_1, true, Some(SINGLE_2_OF_0)),
     (FAST_1, false, None),
     (SINGLE_BEFORE_LAST, true, Some(SINGLE_LAST)),
     (SINGLE_LAST, true, None),
@@ -54,14 +54,27 @@ fn a_single_round_follows_a_clash(rt: HostRuntime) -> Result<(), Fail> {
         },
     )?;
     let policy = Policy::new(Config::new(3, 1, 1)?, 0, choose);
-    for (highest, clashed, next) in CASES {
-        let notice = Notice {
-            coordinator: 0,
-            highest,
-            clashed,
-            begun: 1,
-        };
-        assert!(rt; policy.next(&notice) == next, "after {highest:?}");
-    }
+    assert!(rt; follows_all(&policy));
     Ok(())
+}
+
+fn follows_all(policy: &Policy) -> bool {
+    for case in &CASES {
+        if !follows(policy, *case) {
+            return false;
+        }
+    }
+    true
+}
+
+// Whether this round is to begin next.
+fn follows(policy: &Policy, case: Case) -> bool {
+    let (highest, clashed, next) = case;
+    let notice = Notice {
+        coordinator: policy.coordinator,
+        highest,
+        clashed,
+        begun: 1,
+    };
+    policy.next(&notice) == next
 }

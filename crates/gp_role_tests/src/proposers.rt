@@ -6,42 +6,45 @@ use gp_command::CommandId;
 use gp_msg::{Msg, Outs};
 use gp_proposer::Proposer;
 use std::alloc::Global;
-use std::process::Abort;
 use std::test::Fail;
 
 #[test]
 fn offers_are_numbered_from_1(rt: HostRuntime) -> Result<(), Fail> {
-    let alloc = rt.alloc();
-    let mut proposer = Proposer::new(3);
-    offers(&rt, alloc, &mut proposer, b'a', 1)?;
-    offers(&rt, alloc, &mut proposer, b'X', 2)?;
-    offers(&rt, alloc, &mut proposer, b'1', 3)
+    assert!(rt; are_numbered(rt.alloc())?);
+    Ok(())
 }
 
-fn offers(
-    rt: &impl Abort,
-    alloc: Global,
-    proposer: &mut Proposer,
-    letter: u8,
-    number: u32,
-) -> Result<(), Fail>
+fn are_numbered(alloc: Global) -> Result<bool, Fail> {
+    let mut proposer = Proposer::new(3);
+    Ok(
+        offers(alloc, &mut proposer, b'a', 1)?
+            && offers(alloc, &mut proposer, b'X', 2)?
+            && offers(alloc, &mut proposer, b'1', 3)?,
+    )
+}
+
+fn offers(alloc: Global, proposer: &mut Proposer, letter: u8, number: u32) -> Result<bool, Fail>
     requires { proposer.old.offers < 3 }
     ensures { proposer.new.offers ≤ proposer.old.offers + 1 }
 {
-    let outs = proposer.offer(alloc, draft(alloc, letter)?)?;
-    assert!(rt; is_offer(alloc, &outs, letter, number)?);
-    Ok(())
+    is_offer(
+        alloc,
+        &proposer.offer(alloc, draft(alloc, letter)?)?,
+        letter,
+        number,
+    )
 }
 
 // Whether a step sent the proposal of what a letter does, with this number.
 fn is_offer(alloc: Global, outs: &Outs, letter: u8, number: u32) -> Result<bool, Fail> {
-    let want = draft(alloc, letter)?;
     let id = CommandId {
         proposer: 3,
         number,
     };
     Ok(match outs.as_slice() {
-        [Msg::Propose { command }] => command.id() == id && *command.draft() == want,
+        [Msg::Propose { command }] => {
+            command.id() == id && *command.draft() == draft(alloc, letter)?
+        }
         _ => false,
     })
 }

@@ -1,10 +1,8 @@
 //! The safe choice, worked out by hand.
-use crate::scene::{FAST_1, SINGLE_1, SINGLE_2, ZERO, history};
-use gp_history::Hist;
+use crate::scene::{FAST_1, SINGLE_1, SINGLE_2, ZERO, history, is_word};
 use gp_round::{Config, Round};
 use gp_safe::{Answer, pick};
 use std::alloc::Global;
-use std::process::Abort;
 use std::test::Fail;
 
 // What an acceptor answered: its number, the round of its vote, and the vote.
@@ -58,11 +56,15 @@ static AMONG_FOUR: [Row; 3] = [
 fn is_picked(alloc: Global, config: &Config, row: Row) -> Result<bool, Fail> {
     let (replies, want) = row;
     let mut answers = Vec::new(alloc);
+    push_all(alloc, replies, &mut answers)?;
+    is_word(alloc, &pick(alloc, config, &answers)?, want)
+}
+
+fn push_all(alloc: Global, replies: &[Reply], answers: &mut Vec<Answer>) -> Result<(), Fail> {
     for reply in replies {
-        push_answer(alloc, *reply, &mut answers)?;
+        push_answer(alloc, *reply, answers)?;
     }
-    let picked = pick(alloc, config, &answers)?;
-    Ok(picked.same(&history(alloc, want)?))
+    Ok(())
 }
 
 fn push_answer(alloc: Global, reply: Reply, answers: &mut Vec<Answer>) -> Result<(), Fail> {
@@ -76,20 +78,24 @@ fn push_answer(alloc: Global, reply: Reply, answers: &mut Vec<Answer>) -> Result
     Ok(())
 }
 
-fn are_picked(rt: &impl Abort, alloc: Global, acceptors: u32, rows: &[Row]) -> Result<(), Fail> {
+fn are_picked(alloc: Global, acceptors: u32, rows: &[Row]) -> Result<bool, Fail> {
     let config = Config::new(acceptors, 1, 1)?;
     for row in rows {
-        assert!(rt; is_picked(alloc, &config, *row)?, "for {row:?}");
+        if !is_picked(alloc, &config, *row)? {
+            return Ok(false);
+        }
     }
-    Ok(())
+    Ok(true)
 }
 
 #[test]
 fn among_three_acceptors(rt: HostRuntime) -> Result<(), Fail> {
-    are_picked(&rt, rt.alloc(), 3, &AMONG_THREE)
+    assert!(rt; are_picked(rt.alloc(), 3, &AMONG_THREE)?);
+    Ok(())
 }
 
 #[test]
 fn among_four_acceptors(rt: HostRuntime) -> Result<(), Fail> {
-    are_picked(&rt, rt.alloc(), 4, &AMONG_FOUR)
+    assert!(rt; are_picked(rt.alloc(), 4, &AMONG_FOUR)?);
+    Ok(())
 }

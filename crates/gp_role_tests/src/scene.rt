@@ -10,7 +10,7 @@ ghost use Rattle.gp_msg.specs.Messages.{message_of, epoch_of, closed_by};
 use gp_command::{Access, Command, CommandId, Draft, Key, Touch};
 use gp_history::Hist;
 use gp_index::History;
-use gp_msg::{Msg, Outs};
+use gp_msg::{Durable, Msg, Outs};
 use gp_round::{Config, Mode, Round};
 use std::alloc::Global;
 use std::test::Fail;
@@ -34,6 +34,13 @@ pub const SINGLE_2: Round = Round {
     count: 2,
     mode: Mode::Single,
     lead: 1,
+};
+
+/// The second single round of coordinator 0.
+pub const SINGLE_2_OF_0: Round = Round {
+    count: 2,
+    mode: Mode::Single,
+    lead: 0,
 };
 
 /// The first multi round, above the first single rounds.
@@ -70,10 +77,8 @@ pub fn three() -> Result<Config, Fail> {
 }
 
 /// A message whose values are words. Its epoch is given with it.
-#[derive(Clone, Copy, Debug)]
+#[derive(Clone, Copy)]
 pub enum Text {
-    /// No message.
-    Nothing,
     Propose(u8),
     P1a(Round),
     P1b(Round, u32, Round, &'static str),
@@ -114,38 +119,37 @@ pub fn history(alloc: Global, word: &str) -> Result<History, Fail> {
     Ok(history)
 }
 
-/// The message of a text in an epoch, if the text is one. A proposal belongs to no epoch.
-pub fn message(alloc: Global, epoch: u32, text: Text) -> Result<Option<Msg>, Fail> {
+/// The message of a text in an epoch. A proposal belongs to no epoch.
+pub fn message(alloc: Global, epoch: u32, text: Text) -> Result<Msg, Fail> {
     Ok(match text {
-        Text::Nothing => None,
-        Text::Propose(letter) => Some(Msg::Propose {
+        Text::Propose(letter) => Msg::Propose {
             command: command(alloc, letter)?,
-        }),
-        Text::P1a(round) => Some(Msg::P1a { epoch, round }),
-        Text::P1b(round, acceptor, voted, word) => Some(Msg::P1b {
+        },
+        Text::P1a(round) => Msg::P1a { epoch, round },
+        Text::P1b(round, acceptor, voted, word) => Msg::P1b {
             epoch,
             round,
             acceptor,
             voted,
             vote: history(alloc, word)?,
-        }),
-        Text::P2a(round, coordinator, word) => Some(Msg::P2a {
+        },
+        Text::P2a(round, coordinator, word) => Msg::P2a {
             epoch,
             round,
             coordinator,
             value: history(alloc, word)?,
-        }),
-        Text::P2b(round, acceptor, word) => Some(Msg::P2b {
+        },
+        Text::P2b(round, acceptor, word) => Msg::P2b {
             epoch,
             round,
             acceptor,
             vote: history(alloc, word)?,
-        }),
-        Text::Final(learner, word) => Some(Msg::Final {
+        },
+        Text::Final(learner, word) => Msg::Final {
             epoch,
             learner,
             value: history(alloc, word)?,
-        }),
+        },
     })
 }
 
@@ -234,11 +238,50 @@ pub fn are_alike(a: &Msg, b: &Msg) -> bool {
         && are_equal(value(a), value(b))
 }
 
-/// Whether a step sent the message of a text in an epoch, and no other.
-pub fn is_sent(alloc: Global, outs: &Outs, epoch: u32, text: Text) -> Result<bool, Fail> {
-    let sent = outs.as_slice();
-    Ok(match message(alloc, epoch, text)? {
-        None => sent.is_empty(),
-        Some(want) => sent.len() == 1 && are_alike(&sent[0], &want),
+/// Whether a step sent the message of a text in an epoch, and no other, or nothing.
+pub fn is_sent(alloc: Global, outs: &Outs, epoch: u32, text: Option<Text>) -> Result<bool, Fail> {
+    match (outs.as_slice(), text) {
+        ([], None) => Ok(true),
+        ([sent], Some(text)) => is_text(alloc, sent, epoch, text),
+        _ => Ok(false),
+    }
+}
+
+fn is_text(alloc: Global, m: &Msg, epoch: u32, text: Text) -> Result<bool, Fail> {
+    let want = message(alloc, epoch, text)?;
+    Ok(are_alike(m, &want))
+}
+
+/// Whether a history is that of a word.
+pub fn is_word(alloc: Global, some: &History, word: &str) -> Result<bool, Fail> {
+    Ok(some.same(&history(alloc, word)?))
+}
+
+/// Whether a durable part is that of an acceptor, with this epoch, round, round of the last vote and
+/// vote.
+pub fn is_of_acceptor(
+    alloc: Global,
+    durable: &Durable,
+    e: u32,
+    r: Round,
+    q: Round,
+    word: &str,
+) -> Result<bool, Fail> {
+    Ok(match durable {
+        Durable::Acceptor {
+            epoch,
+            round,
+            voted,
+            vote,
+        } => *epoch == e && *round == r && *voted == q && is_word(alloc, vote, word)?,
+        Durable::Coordinator { .. } => false,
     })
+}
+
+/// Whether a durable part is that of a coordinator, with this epoch and round.
+pub fn is_of_coordinator(durable: &Durable, e: u32, r: Round) -> bool {
+    match durable {
+        Durable::Coordinator { epoch, round } => *epoch == e && *round == r,
+        Durable::Acceptor { .. } => false,
+    }
 }
