@@ -1,4 +1,5 @@
 //! Runs and their reports, and whether an input is upheld or refused.
+use crate::long_texts::joined;
 use gp_verdict::{AuditReason, Unaudited, audit};
 use std::alloc::Global;
 use std::test::Fail;
@@ -41,8 +42,7 @@ events 0 messages 0
 
 /// A trace, a line `--`, and a report.
 pub fn printed(alloc: Global, trace: &[u8], report: &[u8]) -> Result<Vec<u8>, Fail> {
-    let mut input = Vec::from_slice(alloc, trace)?;
-    input.extend_from_slice(b"--\n")?;
+    let mut input = joined(alloc, trace, b"--\n")?;
     input.extend_from_slice(report)?;
     Ok(input)
 }

@@ -1,4 +1,5 @@
 //! What operations do to accounts and what they reply.
+use crate::stage::holds;
 use crate::steps::{A, B, C, Step, draft};
 use gp_bank::Bank;
 use gp_command::{Command, CommandId, Draft, Key};
@@ -35,7 +36,9 @@ static RUN: [(Step, Reply); 16] = [
 
 // Whether the bank has this reply to the command with this draft.
 fn replies(bank: &mut Bank, draft: Draft, reply: Reply) -> Result<bool, Fail> {
-    Ok(bank.apply(&Command::new(FIRST, draft))? == reply)
+    let command = Command::new(FIRST, draft);
+    let answer = bank.apply(&command)?;
+    Ok(answer == reply)
 }
 
 fn does(alloc: Global, bank: &mut Bank, row: (Step, Reply)) -> Result<bool, Fail> {
@@ -69,21 +72,29 @@ fn run_all(alloc: Global, bank: &mut Bank) -> Result<bool, Fail> {
 
 #[test]
 fn operations_do_what_they_say(rt: HostRuntime) -> Result<(), Fail> {
-    assert!(rt; does_all(rt.alloc())?);
-    Ok(())
+    holds(&rt, does_all(rt.alloc()))
 }
 
 fn does_all(alloc: Global) -> Result<bool, Fail> {
     let mut bank = Bank::opening(alloc)?;
-    Ok(run_all(alloc, &mut bank)? && is_run(&bank)?)
+    runs(alloc, &mut bank)
+}
+
+fn runs(alloc: Global, bank: &mut Bank) -> Result<bool, Fail> {
+    Ok(run_all(alloc, bank)? && is_run(bank)?)
 }
 
 #[test]
 fn a_command_that_is_no_operation_changes_nothing(rt: HostRuntime) -> Result<(), Fail> {
-    let alloc = rt.alloc();
+    holds(&rt, passes_over(rt.alloc()))
+}
+
+fn passes_over(alloc: Global) -> Result<bool, Fail> {
     let mut bank = Bank::opening(alloc)?;
+    stays_empty(alloc, &mut bank)
+}
+
+fn stays_empty(alloc: Global, bank: &mut Bank) -> Result<bool, Fail> {
     let untouched = Draft::new(alloc, &[], b"deposit a 5")?;
-    assert!(rt; replies(&mut bank, untouched, Reply::Absent)?);
-    assert!(rt; bank.accounts().is_empty());
-    Ok(())
+    Ok(replies(bank, untouched, Reply::Absent)? && bank.accounts().is_empty())
 }

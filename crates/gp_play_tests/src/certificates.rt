@@ -1,15 +1,13 @@
 //! Certificates, as tables.
-ghost use Rattle.std.specs.Prelude.{◌<◌};
-
 use crate::certified_worlds::{
     A2, CHECKPOINT_BETWEEN_PUTS, L0, L1, ONE_PUT, SINGLE_1, Step, THE_NEXT_EPOCH, happens,
     two_learners,
 };
+use crate::stage::holds;
 use gp_audit::{Cause, Proof, certify};
 use gp_command::CommandId;
 use gp_world::World;
 use std::alloc::Global;
-use std::process::Abort;
 use std::test::Fail;
 
 // A proposer, whose first command has the certificate, the record, and the cause.
@@ -60,46 +58,69 @@ static LEARNED_IN_TWO: [Row; 3] = [
     (0, 26, BY_A0_AND_A1_NEXT),
 ];
 
+// Learner 0 crashes, and takes the votes again.
+static FALL: [Step; 1] = [Step::Fall(L0)];
+
+static TAKEN_AGAIN: [Step; 2] = [Step::Take(L0, 6), Step::Take(L0, 5)];
+
+static LEARNED_AGAIN: [Row; 1] = [(0, 13, BY_A0_AND_A1)];
+
 // Whether these are the certificates of a learner.
 fn certifies(alloc: Global, world: &World, learner: u32, rows: &[Row]) -> Result<bool, Fail> {
     if learner >= world.config().learners() {
         return Ok(false);
     }
     let proofs = certify(alloc, world, learner)?;
-    let mut want = Vec::new(alloc);
-    for (proposer, at, cause) in rows {
-        let id = CommandId {
-            proposer: *proposer,
-            number: 1,
-        };
-        want.push(Proof {
-            id,
-            at: *at,
-            cause: *cause,
-        })?;
-    }
-    Ok(proofs.as_slice() == want.as_slice())
+    Ok(are_rows(proofs.as_slice(), rows))
+}
+
+fn are_rows(proofs: &[Proof], rows: &[Row]) -> bool {
+    proofs.len() == rows.len()
+        && proofs
+            .iter()
+            .zip(rows)
+            .all(|(proof, row)| is_row(proof, *row))
+}
+
+fn is_row(proof: &Proof, row: Row) -> bool {
+    let (proposer, at, cause) = row;
+    let number = 1;
+    let id = CommandId { proposer, number };
+    *proof == Proof { id, at, cause }
 }
 
 #[test]
 fn a_put_is_learned_by_a_quorum(rt: HostRuntime) -> Result<(), Fail> {
-    let alloc = rt.alloc();
-    let mut world = two_learners(alloc)?;
-    assert!(rt; certifies_one_put(alloc, &mut world)?);
-    Ok(())
+    holds(&rt, certifies_one_put(rt.alloc()))
 }
 
-fn certifies_one_put(alloc: Global, world: &mut World) -> Result<bool, Fail> {
+fn certifies_one_put(alloc: Global) -> Result<bool, Fail> {
+    let mut world = two_learners(alloc)?;
+    certifies_before_and_after(alloc, &mut world)
+}
+
+fn certifies_before_and_after(alloc: Global, world: &mut World) -> Result<bool, Fail> {
     let nothing = certifies(alloc, world, 0, &[])?;
     happens(world, alloc, &ONE_PUT)?;
-    let one = certifies(alloc, world, 0, &[(0, 10, BY_A0_AND_A1)])?;
-    Ok(nothing && one && certifies(alloc, world, 1, &[])?)
+    Ok(nothing && certifies_both(alloc, world, &FIRST, &[])?)
+}
+
+// Whether these are the certificates of two learners.
+fn certifies_both(
+    alloc: Global,
+    world: &World,
+    first: &[Row],
+    second: &[Row],
+) -> Result<bool, Fail> {
+    Ok(certifies(alloc, world, 0, first)? && certifies(alloc, world, 1, second)?)
 }
 
 #[test]
 fn the_quorum_is_that_of_the_votes_that_were_taken(rt: HostRuntime) -> Result<(), Fail> {
-    assert!(rt; certifies_two(rt.alloc(), &ONE_PUT, &MORE, &FIRST, &SECOND)?);
-    Ok(())
+    holds(
+        &rt,
+        certifies_two(rt.alloc(), &ONE_PUT, &MORE, &FIRST, &SECOND),
+    )
 }
 
 // Whether these are the certificates of two learners after some steps and others.
@@ -112,50 +133,62 @@ fn certifies_two(
 ) -> Result<bool, Fail> {
     let mut world = two_learners(alloc)?;
     happens(&mut world, alloc, steps)?;
-    happens(&mut world, alloc, more)?;
-    Ok(certifies(alloc, &world, 0, first)? && certifies(alloc, &world, 1, second)?)
+    certifies_after(alloc, &mut world, more, first, second)
+}
+
+fn certifies_after(
+    alloc: Global,
+    world: &mut World,
+    steps: &[Step],
+    first: &[Row],
+    second: &[Row],
+) -> Result<bool, Fail> {
+    happens(world, alloc, steps)?;
+    certifies_both(alloc, world, first, second)
 }
 
 #[test]
 fn a_final_brings_what_another_learned(rt: HostRuntime) -> Result<(), Fail> {
-    assert!(rt;
+    holds(
+        &rt,
         certifies_two(
             rt.alloc(),
             &CHECKPOINT_BETWEEN_PUTS,
             &FINAL,
             &LEARNED,
-            &BROUGHT
-        )?
-    );
-    Ok(())
+            &BROUGHT,
+        ),
+    )
 }
 
 #[test]
 fn each_epoch_has_its_own_quorums(rt: HostRuntime) -> Result<(), Fail> {
-    assert!(rt;
+    holds(
+        &rt,
         certifies_two(
             rt.alloc(),
             &CHECKPOINT_BETWEEN_PUTS,
             &THE_NEXT_EPOCH,
             &LEARNED_IN_TWO,
-            &[]
-        )?
-    );
-    Ok(())
+            &[],
+        ),
+    )
 }
 
 #[test]
 fn a_fall_ends_what_was_certified(rt: HostRuntime) -> Result<(), Fail> {
-    let alloc = rt.alloc();
+    holds(&rt, certifies_two_lives(rt.alloc()))
+}
+
+fn certifies_two_lives(alloc: Global) -> Result<bool, Fail> {
     let mut world = two_learners(alloc)?;
-    assert!(rt; certifies_a_later_life(alloc, &mut world)?);
-    Ok(())
+    certifies_a_later_life(alloc, &mut world)
 }
 
 fn certifies_a_later_life(alloc: Global, world: &mut World) -> Result<bool, Fail> {
     happens(world, alloc, &ONE_PUT)?;
-    happens(world, alloc, &[Step::Fall(L0)])?;
+    happens(world, alloc, &FALL)?;
     let nothing = certifies(alloc, world, 0, &[])?;
-    happens(world, alloc, &[Step::Take(L0, 6), Step::Take(L0, 5)])?;
-    Ok(nothing && certifies(alloc, world, 0, &[(0, 13, BY_A0_AND_A1)])?)
+    happens(world, alloc, &TAKEN_AGAIN)?;
+    Ok(nothing && certifies(alloc, world, 0, &LEARNED_AGAIN)?)
 }

@@ -2,6 +2,7 @@
 use crate::certified_worlds::{
     CHECKPOINT_BETWEEN_PUTS, L0, ONE_PUT, Step, THE_NEXT_EPOCH, happens, two_learners,
 };
+use crate::stage::holds;
 use gp_audit::{Cause, Proof, certify};
 use gp_command::CommandId;
 use gp_history::Hist;
@@ -105,42 +106,60 @@ fn all_counted(alloc: Global, world: &World, many: usize) -> Result<bool, Fail> 
         return Ok(false);
     }
     let proofs = certify(alloc, world, 0)?;
-    for proof in proofs.as_slice() {
+    Ok(are_counted(world, proofs.as_slice()) && proofs.as_slice().len() == many)
+}
+
+fn are_counted(world: &World, proofs: &[Proof]) -> bool {
+    for proof in proofs {
         if !is_counted(world, proof) {
-            return Ok(false);
+            return false;
         }
     }
-    Ok(proofs.as_slice().len() == many)
+    true
 }
+
+// Learner 0 crashes, and takes the votes again.
+static FALL: [Step; 1] = [Step::Fall(L0)];
+
+static TAKEN_AGAIN: [Step; 2] = [Step::Take(L0, 5), Step::Take(L0, 6)];
 
 #[test]
 fn members_voted_in_the_present_life(rt: HostRuntime) -> Result<(), Fail> {
-    let alloc = rt.alloc();
+    holds(&rt, counts_two_lives(rt.alloc()))
+}
+
+fn counts_two_lives(alloc: Global) -> Result<bool, Fail> {
     let mut world = two_learners(alloc)?;
-    assert!(rt; counts_in_two_lives(alloc, &mut world)?);
-    Ok(())
+    counts_in_two_lives(alloc, &mut world)
 }
 
 // Whether the vote counts before a crash, not right after it, and again when it was taken again.
 fn counts_in_two_lives(alloc: Global, world: &mut World) -> Result<bool, Fail> {
-    happens(world, alloc, &ONE_PUT)?;
-    let before = all_counted(alloc, world, 1)?;
-    happens(world, alloc, &[Step::Fall(L0)])?;
-    let after = all_counted(alloc, world, 0)?;
-    happens(world, alloc, &[Step::Take(L0, 5), Step::Take(L0, 6)])?;
-    Ok(before && after && all_counted(alloc, world, 1)?)
+    Ok(
+        counts_after(alloc, world, &ONE_PUT, 1)?
+            && counts_after(alloc, world, &FALL, 0)?
+            && counts_after(alloc, world, &TAKEN_AGAIN, 1)?,
+    )
+}
+
+// Whether each certificate of learner 0 counts after these steps, and there are this many.
+fn counts_after(
+    alloc: Global,
+    world: &mut World,
+    steps: &[Step],
+    many: usize,
+) -> Result<bool, Fail> {
+    happens(world, alloc, steps)?;
+    all_counted(alloc, world, many)
 }
 
 #[test]
 fn members_voted_in_their_epochs(rt: HostRuntime) -> Result<(), Fail> {
-    let alloc = rt.alloc();
-    let mut world = two_learners(alloc)?;
-    assert!(rt; counts_in_two_epochs(alloc, &mut world)?);
-    Ok(())
+    holds(&rt, counts_two_epochs(rt.alloc()))
 }
 
-fn counts_in_two_epochs(alloc: Global, world: &mut World) -> Result<bool, Fail> {
-    happens(world, alloc, &CHECKPOINT_BETWEEN_PUTS)?;
-    happens(world, alloc, &THE_NEXT_EPOCH)?;
-    all_counted(alloc, world, 3)
+fn counts_two_epochs(alloc: Global) -> Result<bool, Fail> {
+    let mut world = two_learners(alloc)?;
+    happens(&mut world, alloc, &CHECKPOINT_BETWEEN_PUTS)?;
+    counts_after(alloc, &mut world, &THE_NEXT_EPOCH, 3)
 }

@@ -1,6 +1,6 @@
 //! Scripts whose nodes crash in every way there is.
 use crate::epochs::CHECKPOINT_BETWEEN_PUTS;
-use crate::stage::{goes_on, plays};
+use crate::stage::{Continued, all_go_on, holds};
 use std::test::Fail;
 
 // An acceptor crashes and keeps its vote; another keeps one that it never sends. A coordinator
@@ -125,44 +125,21 @@ l0 replies: p0.1=ok
 events 24 messages 17
 ";
 
-#[test]
-fn every_kind_of_fall(rt: HostRuntime) -> Result<(), Fail> {
-    assert!(rt;
-        plays(
-            &rt,
-            rt.alloc(),
-            EVERY_KIND_OF_FALL,
-            0,
-            EVERY_KIND_OF_FALL_PRINTS
-        )?
-    );
-    Ok(())
-}
+static SCRIPTS: [Continued; 3] = [
+    (EVERY_KIND_OF_FALL, b"", EVERY_KIND_OF_FALL_PRINTS),
+    (
+        CHECKPOINT_BETWEEN_PUTS,
+        KEPT_STEPS_OF_EACH_KIND,
+        KEPT_STEPS_OF_EACH_KIND_PRINTS,
+    ),
+    (
+        KEPT_VOTE_FOR_A_PROPOSAL,
+        b"",
+        KEPT_VOTE_FOR_A_PROPOSAL_PRINTS,
+    ),
+];
 
 #[test]
-fn kept_steps_of_each_kind_of_message(rt: HostRuntime) -> Result<(), Fail> {
-    assert!(rt;
-        goes_on(
-            &rt,
-            rt.alloc(),
-            CHECKPOINT_BETWEEN_PUTS,
-            KEPT_STEPS_OF_EACH_KIND,
-            KEPT_STEPS_OF_EACH_KIND_PRINTS
-        )?
-    );
-    Ok(())
-}
-
-#[test]
-fn kept_vote_for_a_proposal(rt: HostRuntime) -> Result<(), Fail> {
-    assert!(rt;
-        plays(
-            &rt,
-            rt.alloc(),
-            KEPT_VOTE_FOR_A_PROPOSAL,
-            0,
-            KEPT_VOTE_FOR_A_PROPOSAL_PRINTS
-        )?
-    );
-    Ok(())
+fn nodes_crash_and_keep_steps(rt: HostRuntime) -> Result<(), Fail> {
+    holds(&rt, all_go_on(&rt, rt.alloc(), &SCRIPTS))
 }

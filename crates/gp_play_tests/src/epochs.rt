@@ -1,5 +1,5 @@
 //! Scripts with a checkpoint, which closes its epoch when it is learned.
-use crate::stage::{goes_on, plays};
+use crate::stage::{Continued, all_go_on, holds};
 use gp_msg::Msg;
 use gp_text::play;
 use std::alloc::Global;
@@ -170,20 +170,6 @@ l1 replies: p2.1=ok p1.1=ok
 events 33 messages 10
 ";
 
-#[test]
-fn what_follows_a_checkpoint_is_not_learned_with_it(rt: HostRuntime) -> Result<(), Fail> {
-    assert!(rt;
-        plays(
-            &rt,
-            rt.alloc(),
-            CHECKPOINT_BETWEEN_PUTS,
-            0,
-            CHECKPOINT_BETWEEN_PUTS_PRINTS
-        )?
-    );
-    Ok(())
-}
-
 // Whether message 9 of the script is the Final of epoch 0 that learner 0 sent.
 fn closes_its_epoch(alloc: Global) -> bool {
     match play(alloc, CHECKPOINT_BETWEEN_PUTS) {
@@ -201,76 +187,40 @@ fn closes_its_epoch(alloc: Global) -> bool {
 
 #[test]
 fn a_checkpoint_that_is_learned_is_sent_in_a_final(rt: HostRuntime) -> Result<(), Fail> {
-    assert!(rt; closes_its_epoch(rt.alloc()));
-    Ok(())
+    holds(&rt, Ok(closes_its_epoch(rt.alloc())))
 }
 
-#[test]
-fn a_learner_takes_the_final_of_another(rt: HostRuntime) -> Result<(), Fail> {
-    assert!(rt;
-        goes_on(
-            &rt,
-            rt.alloc(),
-            CHECKPOINT_FOR_TWO,
-            THE_OTHER_LEARNER_TAKES_THE_FINAL,
-            BOTH_LEARNED
-        )?
-    );
-    Ok(())
-}
+static SCRIPTS: [Continued; 6] = [
+    // what follows a checkpoint is not learned with it
+    (CHECKPOINT_BETWEEN_PUTS, b"", CHECKPOINT_BETWEEN_PUTS_PRINTS),
+    (
+        CHECKPOINT_FOR_TWO,
+        THE_OTHER_LEARNER_TAKES_THE_FINAL,
+        BOTH_LEARNED,
+    ),
+    (
+        CHECKPOINT_BETWEEN_PUTS,
+        THE_NEXT_EPOCH,
+        THE_NEXT_EPOCH_PRINTS,
+    ),
+    (
+        CHECKPOINT_BETWEEN_PUTS,
+        A_COORDINATOR_TAKES,
+        A_COORDINATOR_TAKES_PRINTS,
+    ),
+    (
+        CHECKPOINT_BETWEEN_PUTS,
+        AN_ACCEPTOR_TAKES,
+        AN_ACCEPTOR_TAKES_PRINTS,
+    ),
+    (
+        CHECKPOINT_FOR_TWO,
+        A_PROPOSER_AND_A_LEARNER_TAKE,
+        A_PROPOSER_AND_A_LEARNER_TAKE_PRINTS,
+    ),
+];
 
 #[test]
-fn the_next_epoch_learns_what_was_left(rt: HostRuntime) -> Result<(), Fail> {
-    assert!(rt;
-        goes_on(
-            &rt,
-            rt.alloc(),
-            CHECKPOINT_BETWEEN_PUTS,
-            THE_NEXT_EPOCH,
-            THE_NEXT_EPOCH_PRINTS
-        )?
-    );
-    Ok(())
-}
-
-#[test]
-fn a_coordinator_takes_each_kind_of_message(rt: HostRuntime) -> Result<(), Fail> {
-    assert!(rt;
-        goes_on(
-            &rt,
-            rt.alloc(),
-            CHECKPOINT_BETWEEN_PUTS,
-            A_COORDINATOR_TAKES,
-            A_COORDINATOR_TAKES_PRINTS
-        )?
-    );
-    Ok(())
-}
-
-#[test]
-fn an_acceptor_takes_each_kind_of_message(rt: HostRuntime) -> Result<(), Fail> {
-    assert!(rt;
-        goes_on(
-            &rt,
-            rt.alloc(),
-            CHECKPOINT_BETWEEN_PUTS,
-            AN_ACCEPTOR_TAKES,
-            AN_ACCEPTOR_TAKES_PRINTS
-        )?
-    );
-    Ok(())
-}
-
-#[test]
-fn a_proposer_and_a_learner_take_each_kind_of_message(rt: HostRuntime) -> Result<(), Fail> {
-    assert!(rt;
-        goes_on(
-            &rt,
-            rt.alloc(),
-            CHECKPOINT_FOR_TWO,
-            A_PROPOSER_AND_A_LEARNER_TAKE,
-            A_PROPOSER_AND_A_LEARNER_TAKE_PRINTS
-        )?
-    );
-    Ok(())
+fn a_checkpoint_closes_its_epoch(rt: HostRuntime) -> Result<(), Fail> {
+    holds(&rt, all_go_on(&rt, rt.alloc(), &SCRIPTS))
 }

@@ -1,46 +1,69 @@
 //! Sources and sinks that fail.
-use crate::stage::play_over;
+use crate::stage::{Played, holds, play_over, plays_from};
 use crate::whole_scripts::{
     FOUR_ACCEPTORS_CHOSEN_PREFIX, FOUR_ACCEPTORS_CHOSEN_PREFIX_PRINTS, ONE_PUT, ONE_PUT_PRINTS,
 };
-use gp_edge::{CalmSink, CalmSource, MemSink, MemSource, WriteSink};
+use gp_edge::{CalmSource, MemSink, MemSource, Source, WriteSink};
 use std::alloc::Global;
 use std::io::Cursor;
 use std::sync::Wait;
 use std::test::Fail;
 use std::thread::Threads;
 
+// Whether `play` ends with this status over a source, and this is written to a sink then.
+fn ends<S: Source>(
+    rt: &(impl Threads + Wait + Sync),
+    alloc: Global,
+    source: &mut S,
+    sink: &mut MemSink,
+    status: u8,
+    written: &[u8],
+) -> Result<bool, Fail> {
+    Ok(play_over(rt, alloc, source, sink)? == status && sink.written() == written)
+}
+
 // Whether a failure of the n-th read, each of 64 bytes, ends in a read fault.
 fn read_fails(rt: &(impl Threads + Wait + Sync), alloc: Global, n: u64) -> Result<bool, Fail> {
     let mut source = MemSource::new(alloc, ONE_PUT, 64, &[n])?;
-    let mut sink = CalmSink::new(alloc)?;
-    let status = play_over(rt, alloc, &mut source, &mut sink)?;
-    Ok(status == 4 && sink.written() == b"read fault\n".as_slice())
+    plays_from(rt, alloc, &mut source, 4, b"read fault\n")
 }
 
-// Whether a failure of the n-th write, each of 16 bytes, ends in a write fault after what was written before.
-fn write_fails(rt: &(impl Threads + Wait + Sync), alloc: Global, n: u8) -> Result<bool, Fail> {
-    let mut source = CalmSource::new(alloc, ONE_PUT)?;
-    let mut sink = MemSink::new(alloc, 16, &[u64::from(n)])?;
-    let status = play_over(rt, alloc, &mut source, &mut sink)?;
-    let written = ONE_PUT_PRINTS.get(..16 * usize::from(n));
-    Ok(status == 5 && Some(sink.written()) == written)
+fn each_read_fails(rt: &(impl Threads + Wait + Sync), alloc: Global) -> Result<bool, Fail> {
+    for n in 0..4 {
+        if !read_fails(rt, alloc, n)? {
+            return Ok(false);
+        }
+    }
+    Ok(true)
 }
 
 #[test]
 fn each_read_may_fail(rt: HostRuntime) -> Result<(), Fail> {
-    for n in 0..4 {
-        assert!(rt; read_fails(&rt, rt.alloc(), n)?);
+    holds(&rt, each_read_fails(&rt, rt.alloc()))
+}
+
+// Whether a failure of the n-th write, each of 16 bytes, ends in a write fault after what was written before.
+fn write_fails(rt: &(impl Threads + Wait + Sync), alloc: Global, n: u8) -> Result<bool, Fail> {
+    let Some(written) = ONE_PUT_PRINTS.get(..16 * usize::from(n)) else {
+        return Ok(false);
+    };
+    let mut source = CalmSource::new(alloc, ONE_PUT)?;
+    let mut sink = MemSink::new(alloc, 16, &[u64::from(n)])?;
+    ends(rt, alloc, &mut source, &mut sink, 5, written)
+}
+
+fn each_write_fails(rt: &(impl Threads + Wait + Sync), alloc: Global) -> Result<bool, Fail> {
+    for n in 0..8 {
+        if !write_fails(rt, alloc, n)? {
+            return Ok(false);
+        }
     }
-    Ok(())
+    Ok(true)
 }
 
 #[test]
 fn each_write_may_fail(rt: HostRuntime) -> Result<(), Fail> {
-    for n in 0..8 {
-        assert!(rt; write_fails(&rt, rt.alloc(), n)?);
-    }
-    Ok(())
+    holds(&rt, each_write_fails(&rt, rt.alloc()))
 }
 
 // Whether a script prints this if each read and each write is of one byte.
@@ -52,32 +75,47 @@ fn prints_in_pieces(
 ) -> Result<bool, Fail> {
     let mut source = MemSource::new(alloc, script, 1, &[])?;
     let mut sink = MemSink::new(alloc, 1, &[])?;
-    let status = play_over(rt, alloc, &mut source, &mut sink)?;
-    Ok(status == 0 && sink.written() == prints)
+    ends(rt, alloc, &mut source, &mut sink, 0, prints)
+}
+
+static SCRIPTS: [Played; 2] = [
+    (ONE_PUT, ONE_PUT_PRINTS),
+    (
+        FOUR_ACCEPTORS_CHOSEN_PREFIX,
+        FOUR_ACCEPTORS_CHOSEN_PREFIX_PRINTS,
+    ),
+];
+
+fn all_print_in_pieces(rt: &(impl Threads + Wait + Sync), alloc: Global) -> Result<bool, Fail> {
+    for (script, prints) in &SCRIPTS {
+        if !prints_in_pieces(rt, alloc, script, prints)? {
+            return Ok(false);
+        }
+    }
+    Ok(true)
 }
 
 #[test]
 fn pieces_may_be_of_one_byte(rt: HostRuntime) -> Result<(), Fail> {
-    let alloc = rt.alloc();
-    assert!(rt; prints_in_pieces(&rt, rt.alloc(), ONE_PUT, ONE_PUT_PRINTS)?);
-    assert!(rt;
-        prints_in_pieces(
-            &rt,
-            rt.alloc(),
-            FOUR_ACCEPTORS_CHOSEN_PREFIX,
-            FOUR_ACCEPTORS_CHOSEN_PREFIX_PRINTS
-        )?
-    );
-    Ok(())
+    holds(&rt, all_print_in_pieces(&rt, rt.alloc()))
+}
+
+// The status with which `play` ends if its sink has this room alone.
+fn status_in(
+    rt: &(impl Threads + Wait + Sync),
+    alloc: Global,
+    room: &mut [u8],
+) -> Result<u8, Fail> {
+    let mut source = CalmSource::new(alloc, ONE_PUT)?;
+    let mut sink = WriteSink::new(Cursor::new(room));
+    play_over(rt, alloc, &mut source, &mut sink)
 }
 
 #[test]
 fn a_sink_that_takes_nothing_more_is_a_write_fault(rt: HostRuntime) -> Result<(), Fail> {
-    let alloc = rt.alloc();
-    let mut source = CalmSource::new(alloc, ONE_PUT)?;
     let mut room = [0u8; 10];
-    let mut sink = WriteSink::new(Cursor::new(room.as_mut_slice()));
-    assert!(rt; play_over(&rt, rt.alloc(), &mut source, &mut sink)? == 5);
+    let status = status_in(&rt, rt.alloc(), room.as_mut_slice())?;
+    assert!(rt; status == 5);
     assert!(rt; room == *b"l0 learned");
     Ok(())
 }
@@ -89,8 +127,7 @@ fn refusal_keeps_its_status(
 ) -> Result<bool, Fail> {
     let mut source = CalmSource::new(alloc, b"")?;
     let mut sink = MemSink::new(alloc, 5, &[1])?;
-    let status = play_over(rt, alloc, &mut source, &mut sink)?;
-    Ok(status == 3 && sink.written() == b"line ".as_slice())
+    ends(rt, alloc, &mut source, &mut sink, 3, b"line ")
 }
 
 // Whether a read fault has its own status if each write fails too.
@@ -100,8 +137,7 @@ fn read_fault_keeps_its_status(
 ) -> Result<bool, Fail> {
     let mut source = MemSource::new(alloc, b"", 1, &[0])?;
     let mut sink = MemSink::new(alloc, 5, &[0])?;
-    let status = play_over(rt, alloc, &mut source, &mut sink)?;
-    Ok(status == 4 && sink.written().is_empty())
+    ends(rt, alloc, &mut source, &mut sink, 4, b"")
 }
 
 #[test]

@@ -1,5 +1,5 @@
 //! Scripts in which a value grows in its round.
-use crate::stage::plays;
+use crate::stage::{Played, all_play, holds};
 use std::test::Fail;
 
 // a command is proposed after the value was sent, and what is older comes again
@@ -64,30 +64,12 @@ l0 replies: p0.1=ok
 events 21 messages 12
 ";
 
-#[test]
-fn single_value_grows(rt: HostRuntime) -> Result<(), Fail> {
-    assert!(rt;
-        plays(
-            &rt,
-            rt.alloc(),
-            SINGLE_VALUE_GROWS,
-            0,
-            SINGLE_VALUE_GROWS_PRINTS
-        )?
-    );
-    Ok(())
-}
+static SCRIPTS: [Played; 2] = [
+    (SINGLE_VALUE_GROWS, SINGLE_VALUE_GROWS_PRINTS),
+    (MULTI_VALUES_GROW, MULTI_VALUES_GROW_PRINTS),
+];
 
 #[test]
-fn multi_values_grow(rt: HostRuntime) -> Result<(), Fail> {
-    assert!(rt;
-        plays(
-            &rt,
-            rt.alloc(),
-            MULTI_VALUES_GROW,
-            0,
-            MULTI_VALUES_GROW_PRINTS
-        )?
-    );
-    Ok(())
+fn a_value_grows_in_its_round(rt: HostRuntime) -> Result<(), Fail> {
+    holds(&rt, all_play(&rt, rt.alloc(), &SCRIPTS))
 }

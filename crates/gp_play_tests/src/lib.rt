@@ -29,6 +29,8 @@ mod limits;
 #[cfg(test)]
 mod long_audits;
 #[cfg(test)]
+mod long_texts;
+#[cfg(test)]
 mod operations;
 #[cfg(test)]
 mod refused_audits;

@@ -1,5 +1,7 @@
 //! Inputs as long as they may be, and inputs that are longer.
-use crate::audited_inputs::{NOTHING_REPORT, records_before, refuses, upholds};
+use crate::audited_inputs::{NOTHING_REPORT, printed, records_before, refuses, upholds};
+use crate::long_texts::{filled, repeated};
+use crate::stage::holds;
 use gp_text::MOST_BYTES;
 use gp_verdict::{AuditReason, Reason};
 use std::alloc::Global;
@@ -7,26 +9,27 @@ use std::test::Fail;
 
 const TOO_LONG: AuditReason = AuditReason::Script(Reason::TooLong);
 
-// A `nodes` line and a comment, `length` bytes in all, followed by `rest`.
-fn after_comment(alloc: Global, length: usize, rest: &[u8]) -> Result<Vec<u8>, Fail> {
-    filled(alloc, b"nodes 3 1 1\n#", length, rest)
+// `first`, then a comment that fills it up to `length` bytes with its line feed, and then `rest`.
+fn commented(alloc: Global, first: &[u8], length: usize, rest: &[u8]) -> Result<Vec<u8>, Fail> {
+    let mut input = filled(alloc, first, length.saturating_sub(1))?;
+    end_line(&mut input, rest)?;
+    Ok(input)
 }
 
-// `first`, then a comment that fills it up to `length` bytes with its line feed, and then `rest`.
-fn filled(alloc: Global, first: &[u8], length: usize, rest: &[u8]) -> Result<Vec<u8>, Fail> {
-    let mut input = Vec::from_slice(alloc, first)?;
-    for _ in input.len()..length.saturating_sub(1) {
-        input.push(b'x')?;
-    }
+fn end_line(input: &mut Vec<u8>, rest: &[u8]) -> Result<(), Fail> {
     input.push(b'\n')?;
     input.extend_from_slice(rest)?;
-    Ok(input)
+    Ok(())
+}
+
+// A `nodes` line and a comment, `length` bytes in all, followed by `rest`.
+fn after_comment(alloc: Global, length: usize, rest: &[u8]) -> Result<Vec<u8>, Fail> {
+    commented(alloc, b"nodes 3 1 1\n#", length, rest)
 }
 
 // A line `--`, the report in which nothing happened, and then this.
 fn ending(alloc: Global, more: &[u8]) -> Result<Vec<u8>, Fail> {
-    let mut lines = Vec::from_slice(alloc, b"--\n")?;
-    lines.extend_from_slice(NOTHING_REPORT)?;
+    let mut lines = printed(alloc, b"", NOTHING_REPORT)?;
     lines.extend_from_slice(more)?;
     Ok(lines)
 }
@@ -45,44 +48,61 @@ fn refuses_after_comment(
 
 #[test]
 fn an_input_has_1048576_bytes(rt: HostRuntime) -> Result<(), Fail> {
-    let alloc = rt.alloc();
+    holds(&rt, upholds_the_longest(rt.alloc()))
+}
+
+fn upholds_the_longest(alloc: Global) -> Result<bool, Fail> {
     let lines = ending(alloc, b"")?;
+    upholds_up_to_the_limit(alloc, &lines)
+}
+
+fn upholds_up_to_the_limit(alloc: Global, lines: &[u8]) -> Result<bool, Fail> {
     let room = MOST_BYTES.saturating_sub(lines.len());
-    assert!(rt; upholds(alloc, &after_comment(alloc, room, &lines)?, b"legal\n"));
-    Ok(())
+    let input = after_comment(alloc, room, lines)?;
+    Ok(upholds(alloc, &input, b"legal\n"))
 }
 
 #[test]
 fn a_line_that_holds_one_byte_more_is_too_long(rt: HostRuntime) -> Result<(), Fail> {
-    let alloc = rt.alloc();
-    let lines = ending(alloc, b"")?;
+    holds(&rt, refuses_one_byte_more(rt.alloc()))
+}
 
-    // the line feed of the last line of the report, the divider, and the comment
+fn refuses_one_byte_more(alloc: Global) -> Result<bool, Fail> {
+    let lines = ending(alloc, b"")?;
+    refuses_a_byte_before(alloc, &lines)
+}
+
+// Whether the byte is in the last line of the report, in the divider, or in the comment.
+fn refuses_a_byte_before(alloc: Global, lines: &[u8]) -> Result<bool, Fail> {
     let room = MOST_BYTES.saturating_sub(lines.len()).saturating_add(1);
-    for (length, line) in [(room, 7), (MOST_BYTES - 1, 3), (MOST_BYTES + 1, 2)] {
-        assert!(rt; refuses_after_comment(alloc, length, &lines, line, TOO_LONG)?);
-    }
-    Ok(())
+    Ok(
+        refuses_after_comment(alloc, room, lines, 7, TOO_LONG)?
+            && refuses_after_comment(alloc, MOST_BYTES - 1, lines, 3, TOO_LONG)?
+            && refuses_after_comment(alloc, MOST_BYTES + 1, lines, 2, TOO_LONG)?,
+    )
 }
 
 #[test]
 fn what_is_refused_before_it_stands(rt: HostRuntime) -> Result<(), Fail> {
-    let alloc = rt.alloc();
-    let lines = ending(alloc, b"x\ny\n")?;
-
-    // the line after a whole report is wrong, and the next one too long
-    let room = MOST_BYTES.saturating_sub(lines.len()).saturating_add(2);
-    assert!(rt; refuses_after_comment(alloc, room, &lines, 8, AuditReason::WrongReport)?);
-
-    // it is too long itself
-    let longer = room.saturating_add(1);
-    assert!(rt; refuses_after_comment(alloc, longer, &lines, 8, TOO_LONG)?);
-    Ok(())
+    holds(&rt, refuses_what_follows(rt.alloc()))
 }
 
-#[test]
-fn a_line_that_is_too_long_comes_with_the_records_before_it(rt: HostRuntime) -> Result<(), Fail> {
-    const ONE_OFFER: &[u8] = b"\
+fn refuses_what_follows(alloc: Global) -> Result<bool, Fail> {
+    let lines = ending(alloc, b"x\ny\n")?;
+    refuses_a_line_after(alloc, &lines)
+}
+
+// The line after a whole report is wrong and the next one too long, or it is too long itself.
+fn refuses_a_line_after(alloc: Global, lines: &[u8]) -> Result<bool, Fail> {
+    let room = MOST_BYTES.saturating_sub(lines.len()).saturating_add(2);
+    let longer = room.saturating_add(1);
+    Ok(
+        refuses_after_comment(alloc, room, lines, 8, AuditReason::WrongReport)?
+            && refuses_after_comment(alloc, longer, lines, 8, TOO_LONG)?,
+    )
+}
+
+const ONE_OFFER: &[u8] = b"\
 nodes 3 1 1
 offer p0 get a
 --
@@ -91,38 +111,34 @@ l0 state: -
 l0 replies: -
 events 1 messages 1
 #";
-    let alloc = rt.alloc();
-    let input = filled(alloc, ONE_OFFER, MOST_BYTES + 1, b"")?;
-    assert!(rt; refuses(alloc, &input, 8, TOO_LONG));
-    assert!(rt; records_before(alloc, &input) == Some(1));
-    Ok(())
+
+#[test]
+fn a_line_that_is_too_long_comes_with_the_records_before_it(rt: HostRuntime) -> Result<(), Fail> {
+    holds(&rt, comes_with_one_record(rt.alloc()))
+}
+
+fn comes_with_one_record(alloc: Global) -> Result<bool, Fail> {
+    let input = commented(alloc, ONE_OFFER, MOST_BYTES + 1, b"")?;
+    Ok(refuses(alloc, &input, 8, TOO_LONG) && records_before(alloc, &input) == Some(1))
 }
 
 #[test]
 fn a_line_is_too_long_before_something_is_missing(rt: HostRuntime) -> Result<(), Fail> {
-    let alloc = rt.alloc();
+    holds(&rt, refuses_before_something_is_missing(rt.alloc()))
+}
 
-    // a configuration
-    assert!(rt; refuses_comments(alloc)?);
-    // a line `--`
-    assert!(rt; refuses_after_comment(alloc, MOST_BYTES - 1, b"# c\n", 3, TOO_LONG)?);
-    // lines of a report
-    assert!(rt; refuses_after_comment(alloc, MOST_BYTES - 3, b"--\n# c\n", 4, TOO_LONG)?);
-    Ok(())
+// What is missing is a configuration, a line `--`, or lines of a report.
+fn refuses_before_something_is_missing(alloc: Global) -> Result<bool, Fail> {
+    Ok(
+        refuses_comments(alloc)?
+            && refuses_after_comment(alloc, MOST_BYTES - 1, b"# c\n", 3, TOO_LONG)?
+            && refuses_after_comment(alloc, MOST_BYTES - 3, b"--\n# c\n", 4, TOO_LONG)?,
+    )
 }
 
 fn refuses_comments(alloc: Global) -> Result<bool, Fail> {
-    let comments = filled(alloc, b"#", MOST_BYTES - 1, b"--\n")?;
+    let comments = commented(alloc, b"#", MOST_BYTES - 1, b"--\n")?;
     Ok(refuses(alloc, &comments, 2, TOO_LONG))
-}
-
-// A first line, followed by another line `count` times.
-fn repeated(alloc: Global, first: &[u8], line: &[u8], count: usize) -> Result<Vec<u8>, Fail> {
-    let mut input = Vec::from_slice(alloc, first)?;
-    for _ in 0..count {
-        input.extend_from_slice(line)?;
-    }
-    Ok(input)
 }
 
 #[test]

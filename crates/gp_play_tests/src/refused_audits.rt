@@ -2,6 +2,7 @@
 use crate::audited_inputs::{
     NOTHING, NOTHING_REPORT, ONE_PUT, ONE_PUT_REPORT, printed, records_before, refuses,
 };
+use crate::stage::holds;
 use gp_verdict::{AuditReason, Reason};
 use std::alloc::Global;
 use std::test::Fail;
@@ -86,26 +87,34 @@ static TRACES: [Row; 18] = [
     ),
 ];
 
+// Whether each input is refused so.
+fn are_refused(alloc: Global, rows: &[Row]) -> bool {
+    for (input, line, reason) in rows {
+        if !refuses(alloc, input, *line, *reason) {
+            return false;
+        }
+    }
+    true
+}
+
 #[test]
 fn a_trace_is_refused_as_a_script(rt: HostRuntime) -> Result<(), Fail> {
-    for row in &TRACES {
-        let (input, line, reason) = *row;
-        assert!(rt; refuses(rt.alloc(), input, line, reason));
-    }
-    Ok(())
+    holds(&rt, Ok(are_refused(rt.alloc(), &TRACES)))
 }
+
+static WITHOUT_A_REPORT: [Row; 3] = [
+    (NOTHING, 2, AuditReason::NoReport),
+    (b"nodes 3 1 1", 2, AuditReason::NoReport),
+    (ONE_PUT, 13, AuditReason::NoReport),
+];
 
 #[test]
 fn a_trace_has_a_report(rt: HostRuntime) -> Result<(), Fail> {
-    let alloc = rt.alloc();
-    assert!(rt; refuses(alloc, NOTHING, 2, AuditReason::NoReport));
-    assert!(rt; refuses(alloc, b"nodes 3 1 1", 2, AuditReason::NoReport));
-    assert!(rt; refuses(alloc, ONE_PUT, 13, AuditReason::NoReport));
-    Ok(())
+    holds(&rt, Ok(are_refused(rt.alloc(), &WITHOUT_A_REPORT)))
 }
 
 // A report, and the number of its first wrong line after a trace of one line.
-const REPORTS: [(&[u8], u64); 9] = [
+static REPORTS: [(&'static [u8], u64); 9] = [
     // no line
     (b"", 3),
     // a line is missing at the end
@@ -140,18 +149,28 @@ const REPORTS: [(&[u8], u64); 9] = [
     ),
 ];
 
+// Whether a report of a trace is refused at this line.
+fn is_wrong(alloc: Global, trace: &[u8], report: &[u8], line: u64) -> Result<bool, Fail> {
+    let input = printed(alloc, trace, report)?;
+    Ok(refuses(alloc, &input, line, AuditReason::WrongReport))
+}
+
+fn are_wrong(alloc: Global) -> Result<bool, Fail> {
+    for (report, line) in &REPORTS {
+        if !is_wrong(alloc, NOTHING, report, *line)? {
+            return Ok(false);
+        }
+    }
+    Ok(true)
+}
+
 #[test]
 fn a_report_is_refused_at_its_first_wrong_line(rt: HostRuntime) -> Result<(), Fail> {
-    let alloc = rt.alloc();
-    for (report, line) in REPORTS {
-        let input = printed(alloc, NOTHING, report)?;
-        assert!(rt; refuses(alloc, &input, line, AuditReason::WrongReport));
-    }
-    Ok(())
+    holds(&rt, are_wrong(rt.alloc()))
 }
 
 // The number of a line of what one put prints, the line, and a wrong one in its place.
-const EXCHANGED: [(u64, &[u8], &[u8]); 5] = [
+static EXCHANGED: [(u64, &'static [u8], &'static [u8]); 5] = [
     (14, b"l0 learned 1: p0.1\n", b"l0 learned 0: -\n"),
     (15, b"l0 state: a=5\n", b"l0 state: a=6\n"),
     (16, b"l0 replies: p0.1=ok\n", b"l0 replies: p0.1=yes\n"),
@@ -169,27 +188,33 @@ fn with_line(alloc: Global, text: &[u8], old: &[u8], new: &[u8]) -> Result<Vec<u
     Ok(changed)
 }
 
+// Whether what one put prints is refused with a new line in place of the old one, at this line.
+fn is_changed(alloc: Global, number: u64, old: &[u8], new: &[u8]) -> Result<bool, Fail> {
+    let report = with_line(alloc, ONE_PUT_REPORT, old, new)?;
+    is_wrong(alloc, ONE_PUT, &report, number)
+}
+
+fn are_changed(alloc: Global) -> Result<bool, Fail> {
+    for (number, old, new) in &EXCHANGED {
+        if !is_changed(alloc, *number, old, new)? {
+            return Ok(false);
+        }
+    }
+    Ok(true)
+}
+
 #[test]
 fn one_changed_line_is_the_wrong_one(rt: HostRuntime) -> Result<(), Fail> {
-    let alloc = rt.alloc();
-    for (number, old, new) in EXCHANGED {
-        let report = with_line(alloc, ONE_PUT_REPORT, old, new)?;
-        let input = printed(alloc, ONE_PUT, &report)?;
-        assert!(rt; refuses(alloc, &input, number, AuditReason::WrongReport));
-    }
-    Ok(())
+    holds(&rt, are_changed(rt.alloc()))
 }
 
 #[test]
 fn a_report_is_that_of_its_trace(rt: HostRuntime) -> Result<(), Fail> {
-    let alloc = rt.alloc();
-    let input = printed(alloc, ONE_PUT, NOTHING_REPORT)?;
-    assert!(rt; refuses(alloc, &input, 14, AuditReason::WrongReport));
-    Ok(())
+    holds(&rt, is_wrong(rt.alloc(), ONE_PUT, NOTHING_REPORT, 14))
 }
 
 // An input, and how many records come with its first refused line.
-const RECORDS: [(&[u8], usize); 5] = [
+static RECORDS: [(&'static [u8], usize); 5] = [
     // no configuration
     (b"", 0),
     // the second event is refused
@@ -202,10 +227,16 @@ const RECORDS: [(&[u8], usize); 5] = [
     (b"nodes 3 1 1\noffer p0 get a\n--\nx\n", 1),
 ];
 
+fn come_with_records(alloc: Global) -> bool {
+    for (input, count) in &RECORDS {
+        if records_before(alloc, input) != Some(*count) {
+            return false;
+        }
+    }
+    true
+}
+
 #[test]
 fn a_refused_line_comes_with_the_records_before_it(rt: HostRuntime) -> Result<(), Fail> {
-    for (input, count) in RECORDS {
-        assert!(rt; records_before(rt.alloc(), input) == Some(count));
-    }
-    Ok(())
+    holds(&rt, Ok(come_with_records(rt.alloc())))
 }

@@ -1,7 +1,11 @@
 //! Scripts that are refused at a line.
-use crate::stage::refuses;
+use crate::long_texts::joined;
+use crate::stage::{holds, refuses};
 use crate::whole_scripts::ONE_PUT;
+use std::alloc::Global;
+use std::sync::Wait;
 use std::test::Fail;
+use std::thread::Threads;
 
 // A script, and the line that is printed.
 type Row = (&'static [u8], &'static [u8]);
@@ -75,19 +79,26 @@ static ROWS: [Row; 25] = [
     (b"nodes 3 1 2\n\xff\n", b"line 2: bad line"),
 ];
 
+fn are_refused(rt: &(impl Threads + Wait + Sync), alloc: Global) -> Result<bool, Fail> {
+    for (script, line) in &ROWS {
+        if !refuses(rt, alloc, script, line)? {
+            return Ok(false);
+        }
+    }
+    Ok(true)
+}
+
 #[test]
 fn a_script_is_refused_at_its_first_bad_line(rt: HostRuntime) -> Result<(), Fail> {
-    for row in &ROWS {
-        let (script, line) = *row;
-        assert!(rt; refuses(&rt, rt.alloc(), script, line)?);
-    }
-    Ok(())
+    holds(&rt, are_refused(&rt, rt.alloc()))
+}
+
+fn refuses_one_more_take(rt: &(impl Threads + Wait + Sync), alloc: Global) -> Result<bool, Fail> {
+    let script = joined(alloc, ONE_PUT, b"take l1 7\n")?;
+    refuses(rt, alloc, &script, b"line 13: no message")
 }
 
 #[test]
 fn a_message_is_there_before_it_is_taken(rt: HostRuntime) -> Result<(), Fail> {
-    let mut script = Vec::from_slice(rt.alloc(), ONE_PUT)?;
-    script.extend_from_slice(b"take l1 7\n")?;
-    assert!(rt; refuses(&rt, rt.alloc(), &script, b"line 13: no message")?);
-    Ok(())
+    holds(&rt, refuses_one_more_take(&rt, rt.alloc()))
 }

@@ -108,8 +108,17 @@ fn a_replica_holds_what_was_not_withdrawn(rt: HostRuntime) -> Result<(), Fail> {
 
 fn holds_the_rest(rt: &impl Abort, alloc: Global) -> Result<bool, Fail> {
     let mut replica = Replica::new(alloc)?;
-    let count = caught_up(rt, alloc, &mut replica, &TOGETHER)?;
-    Ok(count == 7 && is_together(&replica)?)
+    learns_all(rt, alloc, &mut replica, 7)
+}
+
+// Whether all commands are run together after this many more.
+fn learns_all(
+    rt: &impl Abort,
+    alloc: Global,
+    replica: &mut Replica<Bank>,
+    count: usize,
+) -> Result<bool, Fail> {
+    Ok(caught_up(rt, alloc, replica, &TOGETHER)? == count && is_together(replica)?)
 }
 
 // Whether a replica that learns some commands before the others agrees.
@@ -119,9 +128,8 @@ fn agrees_in_another_order(rt: &impl Abort, alloc: Global) -> Result<bool, Fail>
 }
 
 fn learns_early(rt: &impl Abort, alloc: Global, replica: &mut Replica<Bank>) -> Result<bool, Fail> {
-    let first = caught_up(rt, alloc, replica, &EARLY)?;
-    let second = caught_up(rt, alloc, replica, &TOGETHER)?;
-    Ok((first, second) == (3, 4) && is_together(replica)?)
+    let early = caught_up(rt, alloc, replica, &EARLY)?;
+    Ok(early == 3 && learns_all(rt, alloc, replica, 4)?)
 }
 
 #[test]

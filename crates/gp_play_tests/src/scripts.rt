@@ -1,4 +1,5 @@
 //! Scripts whose operations are those on accounts.
+use crate::stage::{Played, holds};
 use gp_text::{Reason, Unplayed, play_bank};
 use std::alloc::Global;
 use std::test::Fail;
@@ -295,44 +296,32 @@ fn are_refused(alloc: Global) -> bool {
     true
 }
 
-#[test]
-fn operations_one_after_another(rt: HostRuntime) -> Result<(), Fail> {
-    assert!(rt; prints(rt.alloc(), ONE_AFTER_ANOTHER, ONE_AFTER_ANOTHER_PRINTS));
-    Ok(())
+static SCRIPTS: [Played; 5] = [
+    (ONE_AFTER_ANOTHER, ONE_AFTER_ANOTHER_PRINTS),
+    (EIGHT_OPERATIONS, EIGHT_OPERATIONS_PRINTS),
+    (TRANSFERS_COLLIDE, TRANSFERS_COLLIDE_PRINTS),
+    (RING_OF_TRANSFERS, RING_OF_TRANSFERS_PRINTS),
+    (
+        CHECKPOINT_BETWEEN_DEPOSITS,
+        CHECKPOINT_BETWEEN_DEPOSITS_PRINTS,
+    ),
+];
+
+fn all_print(alloc: Global) -> bool {
+    for (script, text) in &SCRIPTS {
+        if !prints(alloc, script, text) {
+            return false;
+        }
+    }
+    true
 }
 
 #[test]
-fn every_operation_with_every_reply(rt: HostRuntime) -> Result<(), Fail> {
-    assert!(rt; prints(rt.alloc(), EIGHT_OPERATIONS, EIGHT_OPERATIONS_PRINTS));
-    Ok(())
-}
-
-#[test]
-fn transfers_that_collide_keep_the_total(rt: HostRuntime) -> Result<(), Fail> {
-    assert!(rt; prints(rt.alloc(), TRANSFERS_COLLIDE, TRANSFERS_COLLIDE_PRINTS));
-    Ok(())
-}
-
-#[test]
-fn transfers_in_a_ring_keep_the_total(rt: HostRuntime) -> Result<(), Fail> {
-    assert!(rt; prints(rt.alloc(), RING_OF_TRANSFERS, RING_OF_TRANSFERS_PRINTS));
-    Ok(())
-}
-
-#[test]
-fn a_checkpoint_is_done(rt: HostRuntime) -> Result<(), Fail> {
-    assert!(rt;
-        prints(
-            rt.alloc(),
-            CHECKPOINT_BETWEEN_DEPOSITS,
-            CHECKPOINT_BETWEEN_DEPOSITS_PRINTS
-        )
-    );
-    Ok(())
+fn scripts_print_what_accounts_hold(rt: HostRuntime) -> Result<(), Fail> {
+    holds(&rt, Ok(all_print(rt.alloc())))
 }
 
 #[test]
 fn a_script_is_refused_at_its_first_bad_line(rt: HostRuntime) -> Result<(), Fail> {
-    assert!(rt; are_refused(rt.alloc()));
-    Ok(())
+    holds(&rt, Ok(are_refused(rt.alloc())))
 }

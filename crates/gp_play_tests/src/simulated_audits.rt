@@ -1,11 +1,13 @@
 //! Runs that are made from numbers, with crashes and checkpoints.
+use crate::audited_inputs::upholds;
+use crate::stage::holds;
 use gp_audit::{Cause, Proof, certify};
 use gp_round::Mode;
 use gp_sim::simulate;
 use gp_text::{report, trace};
-use gp_verdict::audit;
 use gp_world::World;
 use std::alloc::Global;
+use std::sync::Wait;
 use std::test::Fail;
 
 const RUNS: u64 = 100;
@@ -22,52 +24,81 @@ fn mode_name(mode: Mode) -> &'static str {
 
 // The line of a certificate.
 fn proof_line(alloc: Global, learner: u32, proof: &Proof) -> Result<String, Fail> {
-    let head = format!(in alloc;
-        "l{learner} p{}.{} at {}",
-        proof.id.proposer, proof.id.number, proof.at
-    )?;
+    let proposer = proof.id.proposer;
+    let number = proof.id.number;
+    let at = proof.at;
     Ok(match proof.cause {
         Cause::Quorum { epoch, round, mask } => {
             let name = mode_name(round.mode);
             format!(in alloc;
-                "{head} epoch {epoch} round {}.{name}.{} quorum {mask}\n",
+                "l{learner} p{proposer}.{number} at {at} epoch {epoch} round {}.{name}.{} quorum {mask}\n",
                 round.count, round.lead
             )?
         }
-        Cause::Final { message } => format!(in alloc; "{head} final {message}\n")?,
+        Cause::Final { message } => {
+            format!(in alloc; "l{learner} p{proposer}.{number} at {at} final {message}\n")?
+        }
     })
 }
 
-// The text of the certificates of a world.
-fn certified(alloc: Global, world: &World) -> Result<Vec<u8>, Fail> {
-    let mut text = Vec::from_slice(alloc, b"legal\n")?;
-    for learner in 0..world.config().learners() {
-        for proof in certify(alloc, world, learner)?.as_slice() {
-            text.extend_from_slice(proof_line(alloc, learner, proof)?.as_bytes())?;
-        }
+fn write_proofs(
+    alloc: Global,
+    learner: u32,
+    proofs: &[Proof],
+    text: &mut Vec<u8>,
+) -> Result<(), Fail> {
+    for proof in proofs {
+        let line = proof_line(alloc, learner, proof)?;
+        text.extend_from_slice(line.as_bytes())?;
     }
-    Ok(text)
+    Ok(())
+}
+
+fn write_certified(alloc: Global, world: &World, text: &mut Vec<u8>) -> Result<(), Fail> {
+    text.extend_from_slice(b"legal\n")?;
+    for learner in 0..world.config().learners() {
+        let proofs = certify(alloc, world, learner)?;
+        write_proofs(alloc, learner, proofs.as_slice(), text)?;
+    }
+    Ok(())
+}
+
+// What a world prints.
+fn print(alloc: Global, world: &World, input: &mut Vec<u8>) -> Result<(), Fail> {
+    trace(alloc, world.config(), world.records(), input)?;
+    input.extend_from_slice(b"--\n")?;
+    report(alloc, world, input)?;
+    Ok(())
 }
 
 // Whether what the world prints is upheld, with its certificates.
 fn is_upheld(alloc: Global, world: &World) -> Result<bool, Fail> {
     let mut input = Vec::new(alloc);
-    trace(alloc, world.config(), world.records(), &mut input)?;
-    input.extend_from_slice(b"--\n")?;
-    report(alloc, world, &mut input)?;
-    let text = certified(alloc, world)?;
-    match audit(alloc, &input) {
-        Ok(audited) => Ok(audited.text.as_slice() == text.as_slice()),
-        Err(_) => Ok(false),
+    print(alloc, world, &mut input)?;
+    is_certified(alloc, world, &input)
+}
+
+fn is_certified(alloc: Global, world: &World, input: &[u8]) -> Result<bool, Fail> {
+    let mut text = Vec::new(alloc);
+    write_certified(alloc, world, &mut text)?;
+    Ok(upholds(alloc, input, &text))
+}
+
+fn run_is_upheld(rt: &impl Wait, alloc: Global, seed: u64) -> Result<bool, Fail> {
+    let world = simulate(rt, alloc, seed, COMMANDS)?;
+    is_upheld(alloc, &world)
+}
+
+fn all_are_upheld(rt: &impl Wait, alloc: Global) -> Result<bool, Fail> {
+    for seed in 0..RUNS {
+        if !run_is_upheld(rt, alloc, seed)? {
+            return Ok(false);
+        }
     }
+    Ok(true)
 }
 
 #[test]
 fn runs_from_numbers_are_upheld(rt: HostRuntime) -> Result<(), Fail> {
-    let alloc = rt.alloc();
-    for seed in 0..RUNS {
-        let world = simulate(&rt, alloc, seed, COMMANDS)?;
-        assert!(rt; is_upheld(alloc, &world)?);
-    }
-    Ok(())
+    holds(&rt, all_are_upheld(&rt, rt.alloc()))
 }

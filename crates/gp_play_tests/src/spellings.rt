@@ -1,13 +1,16 @@
 //! The spelling of operations, and what is read of it.
+use crate::stage::holds;
 use crate::steps::{A, B, Step, draft, op};
-use gp_bank::{bank_form, bank_op, bank_op_of_form, write_bank_op};
+use gp_bank::{BankOp, bank_form, bank_op, bank_op_of_form, write_bank_op};
 use gp_store::OpFault;
 use gp_words::tokens_of;
 use std::alloc::Global;
 use std::test::Fail;
 
 // An operation, its spelling, whether it is a checkpoint, and how many keys it touches.
-static SPELLED: [(Step, &'static [u8], bool, usize); 6] = [
+type Row = (Step, &'static [u8], bool, usize);
+
+static SPELLED: [Row; 6] = [
     (Step::Deposit(A, 10), b"deposit a 10", false, 1),
     (
         Step::Withdraw(B, 4294967295),
@@ -32,27 +35,36 @@ static REFUSED: [(&'static [u8], OpFault); 4] = [
 // Texts without a valid form.
 static FORMLESS: [&'static [u8]; 4] = [b"deposit a", b"transfer a b", b"put a 5", b"balance"];
 
-fn is_spelled(alloc: Global, row: (Step, &[u8], bool, usize)) -> Result<bool, Fail> {
+fn is_spelled(alloc: Global, row: Row) -> Result<bool, Fail> {
+    let (step, text, _, _) = row;
+    let spelled = op(step)?;
+    Ok(is_written(alloc, spelled, text)? && is_drafted(alloc, spelled, row)?)
+}
+
+fn is_written(alloc: Global, spelled: BankOp, text: &[u8]) -> Result<bool, Fail> {
+    let mut written = Vec::new(alloc);
+    write_bank_op(&spelled, &mut written)?;
+    Ok(written.as_slice() == text)
+}
+
+fn is_drafted(alloc: Global, spelled: BankOp, row: Row) -> Result<bool, Fail> {
     let (step, text, checkpoint, touches) = row;
     let made = draft(alloc, step)?;
-    let mut written = Vec::new(alloc);
-    write_bank_op(&op(step)?, &mut written)?;
     Ok(
-        written.as_slice() == text
-            && made.body() == text
+        made.body() == text
             && made.is_checkpoint() == checkpoint
             && made.foot().len() == touches
-            && bank_op(&made) == Some(op(step)?),
+            && bank_op(&made) == Some(spelled),
     )
 }
 
 fn is_refused(alloc: Global, row: (&[u8], OpFault)) -> Result<bool, Fail> {
     let (text, fault) = row;
     let tokens = tokens_of(alloc, text)?;
-    let Some(form) = bank_form(&tokens) else {
-        return Ok(false);
-    };
-    Ok(bank_op_of_form(form) == Err(fault))
+    Ok(match bank_form(&tokens) {
+        Some(form) => bank_op_of_form(form) == Err(fault),
+        None => false,
+    })
 }
 
 fn is_formless(alloc: Global, text: &[u8]) -> Result<bool, Fail> {
@@ -88,8 +100,7 @@ fn are_formless(alloc: Global) -> Result<bool, Fail> {
 
 #[test]
 fn operations_are_spelled_and_read_again(rt: HostRuntime) -> Result<(), Fail> {
-    assert!(rt; are_spelled(rt.alloc())?);
-    Ok(())
+    holds(&rt, are_spelled(rt.alloc()))
 }
 
 #[test]

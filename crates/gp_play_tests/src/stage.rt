@@ -1,12 +1,20 @@
 //! Runs of the program in memory.
 ghost use Rattle.std.specs.Prelude.{◌≡◌, IfOk, length};
 
+use crate::long_texts::joined;
 use gp_cli::{DISKS, serve};
 use gp_edge::{CalmDisk, CalmSink, CalmSource, Idle, Sink, Source};
 use std::alloc::Global;
+use std::process::Abort;
 use std::sync::Wait;
 use std::test::Fail;
 use std::thread::Threads;
+
+/// Fails the test in which this does not hold.
+pub fn holds(rt: &impl Abort, what: Result<bool, Fail>) -> Result<(), Fail> {
+    assert!(rt; what?);
+    Ok(())
+}
 
 // Twelve disks in memory without bytes.
 fn disks(alloc: Global) -> Result<Vec<CalmDisk>, Fail>
@@ -39,21 +47,65 @@ pub fn plays(
     prints: &[u8],
 ) -> Result<bool, Fail> {
     let mut source = CalmSource::new(alloc, script)?;
+    plays_from(rt, alloc, &mut source, status, prints)
+}
+
+/// Whether `play` ends with this status over a source, and prints this.
+pub fn plays_from<S: Source>(
+    rt: &(impl Threads + Wait + Sync),
+    alloc: Global,
+    source: &mut S,
+    status: u8,
+    prints: &[u8],
+) -> Result<bool, Fail> {
     let mut sink = CalmSink::new(alloc)?;
-    let ended = play_over(rt, alloc, &mut source, &mut sink)?;
+    let ended = play_over(rt, alloc, source, &mut sink)?;
     Ok(ended == status && sink.written() == prints)
 }
 
-/// Whether a script that goes on with these lines is played to its end, and prints this.
-pub fn goes_on(
+/// A script, and what it prints.
+pub type Played = (&'static [u8], &'static [u8]);
+
+/// Whether each of these scripts is played to its end, and prints this.
+pub fn all_play(
+    rt: &(impl Threads + Wait + Sync),
+    alloc: Global,
+    rows: &[Played],
+) -> Result<bool, Fail> {
+    for (script, prints) in rows {
+        if !plays(rt, alloc, script, 0, prints)? {
+            return Ok(false);
+        }
+    }
+    Ok(true)
+}
+
+/// A script, the lines with which it goes on, and what it prints then.
+pub type Continued = (&'static [u8], &'static [u8], &'static [u8]);
+
+/// Whether each of these scripts is played to its end if it goes on so, and prints this.
+pub fn all_go_on(
+    rt: &(impl Threads + Wait + Sync),
+    alloc: Global,
+    rows: &[Continued],
+) -> Result<bool, Fail> {
+    for (script, more, prints) in rows {
+        if !goes_on(rt, alloc, script, more, prints)? {
+            return Ok(false);
+        }
+    }
+    Ok(true)
+}
+
+// Whether a script that goes on with these lines is played to its end, and prints this.
+fn goes_on(
     rt: &(impl Threads + Wait + Sync),
     alloc: Global,
     script: &[u8],
     more: &[u8],
     prints: &[u8],
 ) -> Result<bool, Fail> {
-    let mut all = Vec::from_slice(alloc, script)?;
-    all.extend_from_slice(more)?;
+    let all = joined(alloc, script, more)?;
     plays(rt, alloc, &all, 0, prints)
 }
 
@@ -64,7 +116,6 @@ pub fn refuses(
     script: &[u8],
     line: &[u8],
 ) -> Result<bool, Fail> {
-    let mut prints = Vec::from_slice(alloc, line)?;
-    prints.push(b'\n')?;
+    let prints = joined(alloc, line, b"\n")?;
     plays(rt, alloc, script, 3, &prints)
 }

@@ -11,7 +11,7 @@ pub const B: &[u8] = b"b";
 pub const C: &[u8] = b"c";
 
 /// An operation with its keys and its amount.
-#[derive(Clone, Copy, Debug)]
+#[derive(Clone, Copy)]
 pub enum Step {
     Deposit(&'static [u8], u32),
     Withdraw(&'static [u8], u32),

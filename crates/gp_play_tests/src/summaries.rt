@@ -1,9 +1,26 @@
 //! The summary of a world whose learners differ.
 use crate::certified_worlds::{ONE_PUT, happens, two_learners};
+use crate::stage::holds;
 use gp_report::summary;
 use gp_world::World;
 use std::alloc::Global;
 use std::test::Fail;
+
+const NOTHING_HAPPENED: &[u8] = b"\
+sim 0 1
+learned 0 0
+same yes
+sum 0
+events 0 messages 0
+";
+
+const ONE_LEARNED: &[u8] = b"\
+sim 0 1
+learned 1 0
+same no
+sum 5
+events 11 messages 7
+";
 
 // Whether this is the summary of a world, as one that was drawn from seed 0 for 1 command.
 fn sums_up(alloc: Global, world: &World, lines: &[u8]) -> Result<bool, Fail> {
@@ -15,24 +32,18 @@ fn sums_up(alloc: Global, world: &World, lines: &[u8]) -> Result<bool, Fail> {
     Ok(text.as_slice() == lines)
 }
 
+fn sums_up_before_and_after(alloc: Global, world: &mut World) -> Result<bool, Fail> {
+    let before = sums_up(alloc, world, NOTHING_HAPPENED)?;
+    happens(world, alloc, &ONE_PUT)?;
+    Ok(before && sums_up(alloc, world, ONE_LEARNED)?)
+}
+
+fn tells_learners_apart(alloc: Global) -> Result<bool, Fail> {
+    let mut world = two_learners(alloc)?;
+    sums_up_before_and_after(alloc, &mut world)
+}
+
 #[test]
 fn learners_with_other_commands_are_not_the_same(rt: HostRuntime) -> Result<(), Fail> {
-    let alloc = rt.alloc();
-    let mut world = two_learners(alloc)?;
-    assert!(rt;
-        sums_up(
-            alloc,
-            &world,
-            b"sim 0 1\nlearned 0 0\nsame yes\nsum 0\nevents 0 messages 0\n"
-        )?
-    );
-    happens(&mut world, alloc, &ONE_PUT)?;
-    assert!(rt;
-        sums_up(
-            alloc,
-            &world,
-            b"sim 0 1\nlearned 1 0\nsame no\nsum 5\nevents 11 messages 7\n"
-        )?
-    );
-    Ok(())
+    holds(&rt, tells_learners_apart(rt.alloc()))
 }

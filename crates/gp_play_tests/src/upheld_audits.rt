@@ -1,5 +1,7 @@
 //! Inputs that are upheld, and their certificates.
 use crate::audited_inputs::{NOTHING, NOTHING_REPORT, ONE_PUT, ONE_PUT_REPORT, printed, upholds};
+use crate::stage::holds;
+use std::alloc::Global;
 use std::test::Fail;
 
 // A trace, its report, and the text of the audit.
@@ -119,7 +121,7 @@ l1 p2.1 at 15 final 9
 l1 p1.1 at 15 final 9
 ";
 
-const ROWS: [Row; 5] = [
+static ROWS: [Row; 6] = [
     (
         ONE_PUT,
         ONE_PUT_REPORT,
@@ -133,31 +135,40 @@ const ROWS: [Row; 5] = [
     ),
     (FAST_TWO_KEYS, FAST_TWO_KEYS_REPORT, FAST_TWO_KEYS_CERTIFIED),
     (FINAL_FOR_ONE, FINAL_FOR_ONE_REPORT, FINAL_FOR_ONE_CERTIFIED),
+    // a trace may have comments
+    (
+        b"# c\n\nnodes 3 1 1\n# show l0\n\n",
+        NOTHING_REPORT,
+        b"legal\n",
+    ),
 ];
 
-#[test]
-fn a_run_with_its_report_is_upheld(rt: HostRuntime) -> Result<(), Fail> {
-    let alloc = rt.alloc();
-    for (trace, report, text) in ROWS {
-        let input = printed(alloc, trace, report)?;
-        assert!(rt; upholds(alloc, &input, text));
+fn is_upheld(alloc: Global, row: Row) -> Result<bool, Fail> {
+    let (trace, report, text) = row;
+    let input = printed(alloc, trace, report)?;
+    Ok(upholds(alloc, &input, text))
+}
+
+fn are_upheld(alloc: Global) -> Result<bool, Fail> {
+    for row in &ROWS {
+        if !is_upheld(alloc, *row)? {
+            return Ok(false);
+        }
     }
-    Ok(())
+    Ok(true)
 }
 
 #[test]
-fn a_trace_may_have_comments(rt: HostRuntime) -> Result<(), Fail> {
-    let alloc = rt.alloc();
-    let input = printed(alloc, b"# c\n\nnodes 3 1 1\n# show l0\n\n", NOTHING_REPORT)?;
-    assert!(rt; upholds(alloc, &input, b"legal\n"));
-    Ok(())
+fn a_run_with_its_report_is_upheld(rt: HostRuntime) -> Result<(), Fail> {
+    holds(&rt, are_upheld(rt.alloc()))
+}
+
+fn is_upheld_without_its_line_feed(alloc: Global) -> Result<bool, Fail> {
+    let mut input = printed(alloc, NOTHING, NOTHING_REPORT)?;
+    Ok(input.pop() == Some(b'\n') && upholds(alloc, &input, b"legal\n"))
 }
 
 #[test]
 fn the_last_line_may_lack_its_line_feed(rt: HostRuntime) -> Result<(), Fail> {
-    let alloc = rt.alloc();
-    let mut input = printed(alloc, NOTHING, NOTHING_REPORT)?;
-    assert!(rt; input.pop() == Some(b'\n'));
-    assert!(rt; upholds(alloc, &input, b"legal\n"));
-    Ok(())
+    holds(&rt, is_upheld_without_its_line_feed(rt.alloc()))
 }

@@ -20,36 +20,39 @@ fn see(watch: &mut Watch, world: &World, k: u64) -> Result<(), Fail> {
     Ok(())
 }
 
-// Whether a watch that saw these messages of a script that is played has noticed a collision.
-fn clash_of(alloc: Global, script: &[u8], messages: &[u64]) -> Result<Option<bool>, Fail> {
-    let Ok(played) = play(alloc, script) else {
-        return Ok(None);
-    };
-    let mut watch = Watch::new(alloc, 0, FAST_1)?;
-    for k in messages {
-        see(&mut watch, &played.world, *k)?;
-    }
-    Ok(Some(watch.clashed()))
+// Whether a watch that saw these messages has noticed a collision, and so one that saw all.
+fn are_clashes(alloc: Global, world: &World, messages: &[u64], clash: bool) -> Result<bool, Fail> {
+    Ok(clash_of(alloc, world, messages)? == clash && clash_of_all(alloc, world)? == clash)
 }
 
-// Whether a watch that saw all of them has noticed a collision.
-fn clash_of_all(alloc: Global, script: &[u8]) -> Result<Option<bool>, Fail> {
-    let Ok(played) = play(alloc, script) else {
-        return Ok(None);
-    };
+fn clash_of(alloc: Global, world: &World, messages: &[u64]) -> Result<bool, Fail> {
     let mut watch = Watch::new(alloc, 0, FAST_1)?;
-    for k in 0..played.world.messages() {
-        see(&mut watch, &played.world, k)?;
+    for k in messages {
+        see(&mut watch, world, *k)?;
     }
-    Ok(Some(watch.clashed()))
+    Ok(watch.clashed())
+}
+
+fn clash_of_all(alloc: Global, world: &World) -> Result<bool, Fail> {
+    let mut watch = Watch::new(alloc, 0, FAST_1)?;
+    for k in 0..world.messages() {
+        see(&mut watch, world, k)?;
+    }
+    Ok(watch.clashed())
+}
+
+// Whether that is so in a script that is played.
+fn is_noticed(alloc: Global, script: &[u8], messages: &[u64], clash: bool) -> Result<bool, Fail> {
+    match play(alloc, script) {
+        Ok(played) => are_clashes(alloc, &played.world, messages, clash),
+        Err(_) => Ok(false),
+    }
 }
 
 #[test]
 fn a_watch_tells_a_collision_from_votes_that_commute(rt: HostRuntime) -> Result<(), Fail> {
     let alloc = rt.alloc();
-    assert!(rt; clash_of(alloc, FAST_ONE_KEY_COLLIDES, &[10, 12])? == Some(true));
-    assert!(rt; clash_of_all(alloc, FAST_ONE_KEY_COLLIDES)? == Some(true));
-    assert!(rt; clash_of(alloc, FAST_TWO_KEYS, &[10, 12])? == Some(false));
-    assert!(rt; clash_of_all(alloc, FAST_TWO_KEYS)? == Some(false));
+    assert!(rt; is_noticed(alloc, FAST_ONE_KEY_COLLIDES, &[10, 12], true)?);
+    assert!(rt; is_noticed(alloc, FAST_TWO_KEYS, &[10, 12], false)?);
     Ok(())
 }

@@ -1,5 +1,5 @@
 //! Scripts that are played to their end.
-use crate::stage::plays;
+use crate::stage::{Played, all_play, holds};
 use std::test::Fail;
 
 // nothing happens
@@ -437,158 +437,36 @@ l0 replies: -
 events 1 messages 1
 ";
 
-#[test]
-fn no_records(rt: HostRuntime) -> Result<(), Fail> {
-    assert!(rt; plays(&rt, rt.alloc(), NO_RECORDS, 0, NO_RECORDS_PRINTS)?);
-    Ok(())
-}
+static SCRIPTS: [Played; 14] = [
+    (NO_RECORDS, NO_RECORDS_PRINTS),
+    (ONE_PUT, ONE_PUT_PRINTS),
+    (ONE_PUT_HEARD_AGAIN, ONE_PUT_HEARD_AGAIN_PRINTS),
+    (FAST_TWO_KEYS, FAST_TWO_KEYS_PRINTS),
+    (FAST_ONE_KEY_COLLIDES, FAST_ONE_KEY_COLLIDES_PRINTS),
+    (
+        FAST_COLLISION_THEN_SINGLE,
+        FAST_COLLISION_THEN_SINGLE_PRINTS,
+    ),
+    (
+        MULTI_ONE_COORDINATOR_UNHEARD,
+        MULTI_ONE_COORDINATOR_UNHEARD_PRINTS,
+    ),
+    (MULTI_CONFLICTING_ORDERS, MULTI_CONFLICTING_ORDERS_PRINTS),
+    (
+        FOUR_ACCEPTORS_CHOSEN_PREFIX,
+        FOUR_ACCEPTORS_CHOSEN_PREFIX_PRINTS,
+    ),
+    (EIGHT_OPERATIONS, EIGHT_OPERATIONS_PRINTS),
+    (KEPT_VOTE_NEVER_SENT, KEPT_VOTE_NEVER_SENT_PRINTS),
+    (
+        COORDINATOR_FALLS_IN_ITS_ROUND,
+        COORDINATOR_FALLS_IN_ITS_ROUND_PRINTS,
+    ),
+    (PROPOSER_TAKES, PROPOSER_TAKES_PRINTS),
+    (PASSED_LINES, PASSED_LINES_PRINTS),
+];
 
 #[test]
-fn one_put(rt: HostRuntime) -> Result<(), Fail> {
-    assert!(rt; plays(&rt, rt.alloc(), ONE_PUT, 0, ONE_PUT_PRINTS)?);
-    Ok(())
-}
-
-#[test]
-fn one_put_heard_again(rt: HostRuntime) -> Result<(), Fail> {
-    assert!(rt;
-        plays(
-            &rt,
-            rt.alloc(),
-            ONE_PUT_HEARD_AGAIN,
-            0,
-            ONE_PUT_HEARD_AGAIN_PRINTS
-        )?
-    );
-    Ok(())
-}
-
-#[test]
-fn fast_two_keys(rt: HostRuntime) -> Result<(), Fail> {
-    assert!(rt; plays(&rt, rt.alloc(), FAST_TWO_KEYS, 0, FAST_TWO_KEYS_PRINTS)?);
-    Ok(())
-}
-
-#[test]
-fn fast_one_key_collides(rt: HostRuntime) -> Result<(), Fail> {
-    assert!(rt;
-        plays(
-            &rt,
-            rt.alloc(),
-            FAST_ONE_KEY_COLLIDES,
-            0,
-            FAST_ONE_KEY_COLLIDES_PRINTS
-        )?
-    );
-    Ok(())
-}
-
-#[test]
-fn fast_collision_then_single(rt: HostRuntime) -> Result<(), Fail> {
-    assert!(rt;
-        plays(
-            &rt,
-            rt.alloc(),
-            FAST_COLLISION_THEN_SINGLE,
-            0,
-            FAST_COLLISION_THEN_SINGLE_PRINTS
-        )?
-    );
-    Ok(())
-}
-
-#[test]
-fn multi_one_coordinator_unheard(rt: HostRuntime) -> Result<(), Fail> {
-    assert!(rt;
-        plays(
-            &rt,
-            rt.alloc(),
-            MULTI_ONE_COORDINATOR_UNHEARD,
-            0,
-            MULTI_ONE_COORDINATOR_UNHEARD_PRINTS
-        )?
-    );
-    Ok(())
-}
-
-#[test]
-fn multi_conflicting_orders(rt: HostRuntime) -> Result<(), Fail> {
-    assert!(rt;
-        plays(
-            &rt,
-            rt.alloc(),
-            MULTI_CONFLICTING_ORDERS,
-            0,
-            MULTI_CONFLICTING_ORDERS_PRINTS
-        )?
-    );
-    Ok(())
-}
-
-#[test]
-fn four_acceptors_chosen_prefix(rt: HostRuntime) -> Result<(), Fail> {
-    assert!(rt;
-        plays(
-            &rt,
-            rt.alloc(),
-            FOUR_ACCEPTORS_CHOSEN_PREFIX,
-            0,
-            FOUR_ACCEPTORS_CHOSEN_PREFIX_PRINTS
-        )?
-    );
-    Ok(())
-}
-
-#[test]
-fn eight_operations(rt: HostRuntime) -> Result<(), Fail> {
-    assert!(rt;
-        plays(
-            &rt,
-            rt.alloc(),
-            EIGHT_OPERATIONS,
-            0,
-            EIGHT_OPERATIONS_PRINTS
-        )?
-    );
-    Ok(())
-}
-
-#[test]
-fn kept_vote_never_sent(rt: HostRuntime) -> Result<(), Fail> {
-    assert!(rt;
-        plays(
-            &rt,
-            rt.alloc(),
-            KEPT_VOTE_NEVER_SENT,
-            0,
-            KEPT_VOTE_NEVER_SENT_PRINTS
-        )?
-    );
-    Ok(())
-}
-
-#[test]
-fn coordinator_falls_in_its_round(rt: HostRuntime) -> Result<(), Fail> {
-    assert!(rt;
-        plays(
-            &rt,
-            rt.alloc(),
-            COORDINATOR_FALLS_IN_ITS_ROUND,
-            0,
-            COORDINATOR_FALLS_IN_ITS_ROUND_PRINTS
-        )?
-    );
-    Ok(())
-}
-
-#[test]
-fn proposer_takes(rt: HostRuntime) -> Result<(), Fail> {
-    assert!(rt; plays(&rt, rt.alloc(), PROPOSER_TAKES, 0, PROPOSER_TAKES_PRINTS)?);
-    Ok(())
-}
-
-#[test]
-fn passed_lines(rt: HostRuntime) -> Result<(), Fail> {
-    assert!(rt; plays(&rt, rt.alloc(), PASSED_LINES, 0, PASSED_LINES_PRINTS)?);
-    Ok(())
+fn scripts_print_what_they_lead_to(rt: HostRuntime) -> Result<(), Fail> {
+    holds(&rt, all_play(&rt, rt.alloc(), &SCRIPTS))
 }
