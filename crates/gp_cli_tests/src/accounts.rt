@@ -1,5 +1,5 @@
 //! Scripts of accounts.
-use crate::stage::{disks_with, served_with};
+use crate::stage::{CALM, served};
 use std::alloc::Global;
 use std::sync::Wait;
 use std::test::Fail;
@@ -45,48 +45,29 @@ const TOO_GREAT_LATER: &[u8] =
 // an operation of the key store
 const PUT: &[u8] = b"nodes 3 1 1\noffer p0 put a 5\n";
 
-// Whether a word with this script ends with this status and this many records, and prints this.
-fn ends<W: Threads + Wait + Sync>(
-    rt: &W,
-    alloc: Global,
-    word: &str,
-    script: &[u8],
-    status: u8,
-    records: usize,
-    text: &[u8],
-) -> Result<bool, Fail> {
-    let disks = disks_with(alloc, 0, b"", &[])?;
-    let finished = served_with(rt, alloc, &[word], script, disks)?;
-    Ok(
-        finished.ran.status == status
-            && finished.ran.trail.records().len() == records
-            && finished.sink.written() == text,
-    )
+// A word, its script, the exit status, the number of records, and what is printed.
+type Row = (&'static str, &'static [u8], u8, usize, &'static [u8]);
+
+static ROWS: [Row; 5] = [
+    ("bank", ONE_AFTER_ANOTHER, 0, 17, ONE_AFTER_ANOTHER_PRINTS),
+    // the first bad line
+    ("bank", TOO_GREAT, 3, 0, b"line 2: bad number\n"),
+    ("bank", TOO_GREAT_LATER, 3, 1, b"line 3: bad number\n"),
+    // each word has operations of its own
+    ("bank", PUT, 3, 0, b"line 2: bad line\n"),
+    ("play", ONE_AFTER_ANOTHER, 3, 0, b"line 2: bad line\n"),
+];
+
+fn row_holds<W: Threads + Wait + Sync>(rt: &W, alloc: Global, row: &Row) -> Result<bool, Fail> {
+    let (word, script, status, records, text) = *row;
+    let finished = served(rt, alloc, &[word], script, CALM)?;
+    Ok(finished.ended(status, text) && finished.ran.trail.records().len() == records)
 }
 
 #[test]
-fn a_script_is_played(rt: HostRuntime) -> Result<(), Fail> {
-    let alloc = rt.alloc();
-    let text = ONE_AFTER_ANOTHER_PRINTS;
-    assert!(rt; ends(&rt, alloc, "bank", ONE_AFTER_ANOTHER, 0, 17, text)?);
-    Ok(())
-}
-
-#[test]
-fn a_script_is_refused_at_its_first_bad_line(rt: HostRuntime) -> Result<(), Fail> {
-    let alloc = rt.alloc();
-    let text = b"line 2: bad number\n";
-    assert!(rt; ends(&rt, alloc, "bank", TOO_GREAT, 3, 0, text)?);
-    let text = b"line 3: bad number\n";
-    assert!(rt; ends(&rt, alloc, "bank", TOO_GREAT_LATER, 3, 1, text)?);
-    Ok(())
-}
-
-#[test]
-fn each_word_has_operations_of_its_own(rt: HostRuntime) -> Result<(), Fail> {
-    let alloc = rt.alloc();
-    let text = b"line 2: bad line\n";
-    assert!(rt; ends(&rt, alloc, "bank", PUT, 3, 0, text)?);
-    assert!(rt; ends(&rt, alloc, "play", ONE_AFTER_ANOTHER, 3, 0, text)?);
+fn a_script_is_played_or_refused_at_its_first_bad_line(rt: HostRuntime) -> Result<(), Fail> {
+    for row in &ROWS {
+        assert!(rt; row_holds(&rt, rt.alloc(), row)?);
+    }
     Ok(())
 }

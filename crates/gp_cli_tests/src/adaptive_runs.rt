@@ -1,9 +1,10 @@
 //! Nodes that run in threads, whose rounds adapt to collisions.
 use crate::audited_runs::is_audited;
 use crate::many_runs::{config_of, script_with};
-use crate::nodes::{CHECKPOINT, EIGHT, Printed, count, parts_of, plays_again, show_eight, shows};
-use crate::stage::{Finished, disks_with, served_with};
-use gp_edge::MemDisk;
+use crate::nodes::{
+    CHECKPOINT, EIGHT, Printed, count, is_feed, parts_of, plays_again, show_eight, shows,
+};
+use crate::stage::{CALM, Finished, served};
 use gp_round::Mode;
 use std::alloc::Global;
 use std::sync::Wait;
@@ -22,39 +23,83 @@ const FIVE_COORDINATORS: usize = 4;
 
 const OFFERS: usize = 8;
 
-// A run of this script, whose disks do not fail.
-fn adapted<W: Threads + Wait + Sync>(
-    rt: &W,
-    alloc: Global,
-    script: &[u8],
-) -> Result<Finished<MemDisk>, Fail> {
-    served_with(
-        rt,
-        alloc,
-        &["adapt"],
-        script,
-        disks_with(alloc, 0, b"", &[])?,
-    )
+// A script, and what its run has to print.
+struct Row {
+    script: &'static [u8],
+    opens_fast: bool,
+    counts: &'static [(&'static [u8], usize)],
+    shows_eight: bool,
+    learned: &'static [&'static [u8]],
 }
 
-// What a run of this script printed, if it ended with all learned and `play` prints its report again.
-fn printed<W: Threads + Wait + Sync>(
+static ROWS: [Row; 3] = [
+    // commands that commute are learned by all, in a run that opens with a fast round
+    Row {
+        script: EIGHT,
+        opens_fast: true,
+        counts: &[],
+        shows_eight: true,
+        learned: &[],
+    },
+    // a clash of votes is answered by a multi round
+    Row {
+        script: TWO,
+        opens_fast: false,
+        counts: &[
+            (b"begin c0 1 fast", 1),
+            (b"begin c0 2 multi", 1),
+            (b"take c0 8", 1),
+        ],
+        shows_eight: false,
+        learned: &[b" learned 2: p0.1 p0.2", b" state: a=2"],
+    },
+    // each epoch begins with a fast round
+    Row {
+        script: CHECKPOINT,
+        opens_fast: false,
+        counts: &[(b"begin c0 1 fast", 2)],
+        shows_eight: false,
+        learned: &[],
+    },
+];
+
+// Whether a run ends with all learned, and prints what it has to.
+fn row_holds<W: Threads + Wait + Sync>(rt: &W, alloc: Global, row: &Row) -> Result<bool, Fail> {
+    let finished = served(rt, alloc, &["adapt"], row.script, CALM)?;
+    Ok(finished.ran.status == 0 && prints_all(rt, alloc, finished.sink.written(), row)?)
+}
+
+// Whether `play` prints the report again, and trace and report have what they have to.
+fn prints_all<W: Threads + Wait + Sync>(
     rt: &W,
     alloc: Global,
-    script: &[u8],
-) -> Result<Option<Printed>, Fail> {
-    let finished = adapted(rt, alloc, script)?;
-    let printed = parts_of(alloc, finished.sink.written())?;
-    if finished.ran.status == 0 && plays_again(rt, alloc, &printed)? {
-        Ok(Some(printed))
-    } else {
-        Ok(None)
+    text: &[u8],
+    row: &Row,
+) -> Result<bool, Fail> {
+    let printed = parts_of(alloc, text)?;
+    Ok(is_as_told(&printed, row) && plays_again(rt, alloc, &printed)?)
+}
+
+fn is_as_told(printed: &Printed, row: &Row) -> bool {
+    (!row.opens_fast || opens_fast(&printed.trace))
+        && has_counts(&printed.trace, row.counts)
+        && (!row.shows_eight || show_eight(&printed.report))
+        && shows(&printed.report, b"l0", row.learned)
+}
+
+// Whether a trace has each of these lines so often.
+fn has_counts(trace: &[u8], counts: &[(&[u8], usize)]) -> bool {
+    for (line, wanted) in counts {
+        if count(trace, line) != *wanted {
+            return false;
+        }
     }
+    true
 }
 
 // Whether the first event of coordinator 0 begins the first fast round.
 fn opens_fast(trace: &[u8]) -> bool {
-    for line in trace.split(|byte| *byte == b'\n') {
+    for line in trace.split(is_feed) {
         if line.starts_with(b"begin c0 ") || line.starts_with(b"take c0 ") {
             return line == b"begin c0 1 fast".as_slice();
         }
@@ -63,66 +108,27 @@ fn opens_fast(trace: &[u8]) -> bool {
 }
 
 #[test]
-fn commands_that_commute_are_learned_by_all(rt: HostRuntime) -> Result<(), Fail> {
-    assert!(rt; learns_eight(&rt, rt.alloc())?);
+fn each_round_is_the_one_that_was_called_for(rt: HostRuntime) -> Result<(), Fail> {
+    for row in &ROWS {
+        assert!(rt; row_holds(&rt, rt.alloc(), row)?);
+    }
     Ok(())
 }
 
-// Whether both learners show the eight commands of a run that opens with a fast round.
-fn learns_eight<W: Threads + Wait + Sync>(rt: &W, alloc: Global) -> Result<bool, Fail> {
-    match printed(rt, alloc, EIGHT)? {
-        Some(printed) => Ok(opens_fast(&printed.trace) && show_eight(alloc, &printed.report)?),
-        None => Ok(false),
-    }
-}
-
-#[test]
-fn a_clash_of_votes_is_answered_by_a_multi_round(rt: HostRuntime) -> Result<(), Fail> {
-    assert!(rt; answers_the_clash(&rt, rt.alloc())?);
-    Ok(())
-}
-
-// Whether a multi round follows the fast one, and the learner shows both commands.
-fn answers_the_clash<W: Threads + Wait + Sync>(rt: &W, alloc: Global) -> Result<bool, Fail> {
-    let lines: [&[u8]; 2] = [b" learned 2: p0.1 p0.2", b" state: a=2"];
-    match printed(rt, alloc, TWO)? {
-        Some(printed) => {
-            Ok(turns_to_multi(&printed.trace) && shows(alloc, &printed.report, b"l0", &lines)?)
-        }
-        None => Ok(false),
-    }
-}
-
-fn turns_to_multi(trace: &[u8]) -> bool {
-    count(trace, b"begin c0 1 fast") == 1
-        && count(trace, b"begin c0 2 multi") == 1
-        && count(trace, b"take c0 8") == 1
-}
-
-#[test]
-fn each_epoch_begins_with_a_fast_round(rt: HostRuntime) -> Result<(), Fail> {
-    assert!(rt; opens_each_epoch_fast(&rt, rt.alloc())?);
-    Ok(())
-}
-
-fn opens_each_epoch_fast<W: Threads + Wait + Sync>(rt: &W, alloc: Global) -> Result<bool, Fail> {
-    match printed(rt, alloc, CHECKPOINT)? {
-        Some(printed) => Ok(count(&printed.trace, b"begin c0 1 fast") == 2),
-        None => Ok(false),
-    }
-}
+// A call of the coordinator's disk that fails, and the status of the run.
+static STATUSES: [(u64, u8); 2] = [(0, 6), (3, 0)];
 
 #[test]
 fn a_disk_that_fails_before_the_offers_ends_the_run(rt: HostRuntime) -> Result<(), Fail> {
-    assert!(rt; status_if_fails(&rt, rt.alloc(), 0)? == 6);
-    assert!(rt; status_if_fails(&rt, rt.alloc(), 3)? == 0);
+    for (call, status) in &STATUSES {
+        assert!(rt; status_if_fails(&rt, rt.alloc(), *call)? == *status);
+    }
     Ok(())
 }
 
 // The status of a run in which this call of the coordinator's disk fails.
 fn status_if_fails<W: Threads + Wait + Sync>(rt: &W, alloc: Global, call: u64) -> Result<u8, Fail> {
-    let disks = disks_with(alloc, 7, b"", &[call])?;
-    let finished = served_with(rt, alloc, &["adapt"], EIGHT, disks)?;
+    let finished = served(rt, alloc, &["adapt"], EIGHT, (7, b"", &[call]))?;
     Ok(finished.ran.status)
 }
 
@@ -152,7 +158,7 @@ fn push_put(alloc: Global, script: &mut Vec<u8>, number: usize, key: usize) -> R
 fn course_of(trace: &[u8]) -> Option<(u32, u32, u32)> {
     let (mut multi, mut single, mut fast) = (0u32, 0u32, 0u32);
     let mut last = None;
-    for line in trace.split(|byte| *byte == b'\n') {
+    for line in trace.split(is_feed) {
         if line.starts_with(b"begin c0 ") {
             let mode = mode_of(line);
             if !may_follow(last, mode) {
@@ -189,6 +195,16 @@ fn may_follow(last: Option<Mode>, mode: Mode) -> bool {
     }
 }
 
+fn adapted<W: Threads + Wait + Sync>(
+    rt: &W,
+    alloc: Global,
+    seed: usize,
+    conflicting: bool,
+) -> Result<Finished, Fail> {
+    let script = puts(alloc, seed, conflicting)?;
+    served(rt, alloc, &["adapt"], &script, CALM)
+}
+
 // The course of the run of a seed, if it is upheld by an audit.
 fn course_of_run<W: Threads + Wait + Sync>(
     rt: &W,
@@ -196,7 +212,7 @@ fn course_of_run<W: Threads + Wait + Sync>(
     seed: usize,
     conflicting: bool,
 ) -> Result<Option<(u32, u32, u32)>, Fail> {
-    let finished = adapted(rt, alloc, &puts(alloc, seed, conflicting)?)?;
+    let finished = adapted(rt, alloc, seed, conflicting)?;
     course_if_upheld(rt, alloc, seed, &finished)
 }
 
@@ -204,7 +220,7 @@ fn course_if_upheld<W: Threads + Wait + Sync>(
     rt: &W,
     alloc: Global,
     seed: usize,
-    finished: &Finished<MemDisk>,
+    finished: &Finished,
 ) -> Result<Option<(u32, u32, u32)>, Fail> {
     if finished.ran.status != 0 || !is_audited(rt, alloc, config_of(seed)?, finished)? {
         return Ok(None);

@@ -2,8 +2,7 @@
 use crate::counted_votes::all_counted;
 use crate::many_runs::{config_of, script_with};
 use crate::nodes::{CHECKPOINT, EIGHT, TWO};
-use crate::stage::{Finished, disks_with, served_with};
-use gp_edge::MemDisk;
+use crate::stage::{CALM, Finished, served};
 use gp_msg::{Event, Record};
 use gp_round::Config;
 use gp_sim::simulate;
@@ -43,7 +42,7 @@ pub fn is_audited<W: Threads + Wait + Sync>(
     rt: &W,
     alloc: Global,
     config: Config,
-    run: &Finished<MemDisk>,
+    run: &Finished,
 ) -> Result<bool, Fail> {
     match world_of(alloc, config, run.ran.trail.records())? {
         Some(world) => Ok(is_legal(rt, alloc, run.sink.written())? && all_counted(alloc, &world)?),
@@ -53,29 +52,28 @@ pub fn is_audited<W: Threads + Wait + Sync>(
 
 // Whether an audit upholds this.
 fn is_legal<W: Threads + Wait + Sync>(rt: &W, alloc: Global, text: &[u8]) -> Result<bool, Fail> {
-    let disks = disks_with(alloc, 0, b"", &[])?;
-    let audit = served_with(rt, alloc, &["audit"], text, disks)?;
+    let audit = served(rt, alloc, &["audit"], text, CALM)?;
     Ok(audit.ran.status == 0 && audit.sink.written().starts_with(b"legal\n"))
 }
 
+// Acceptors, coordinators and learners, and the script that names them.
+type Stored = (u32, u32, u32, &'static [u8]);
+
+static STORED: [Stored; 3] = [(3, 3, 2, EIGHT), (3, 3, 2, CHECKPOINT), (3, 2, 1, TWO)];
+
 // Whether what a script prints is upheld.
-fn is_upheld<W: Threads + Wait + Sync>(
-    rt: &W,
-    alloc: Global,
-    config: Config,
-    script: &[u8],
-) -> Result<bool, Fail> {
-    let disks = disks_with(alloc, 0, b"", &[])?;
-    let run = served_with(rt, alloc, &["run"], script, disks)?;
+fn is_upheld<W: Threads + Wait + Sync>(rt: &W, alloc: Global, row: &Stored) -> Result<bool, Fail> {
+    let (acceptors, coordinators, learners, script) = *row;
+    let config = Config::new(acceptors, coordinators, learners)?;
+    let run = served(rt, alloc, &["run"], script, CALM)?;
     Ok(run.ran.status == 0 && is_audited(rt, alloc, config, &run)?)
 }
 
 #[test]
 fn each_stored_run_is_upheld(rt: HostRuntime) -> Result<(), Fail> {
-    let alloc = rt.alloc();
-    assert!(rt; is_upheld(&rt, alloc, Config::new(3, 3, 2)?, EIGHT)?);
-    assert!(rt; is_upheld(&rt, alloc, Config::new(3, 3, 2)?, CHECKPOINT)?);
-    assert!(rt; is_upheld(&rt, alloc, Config::new(3, 2, 1)?, TWO)?);
+    for row in &STORED {
+        assert!(rt; is_upheld(&rt, rt.alloc(), row)?);
+    }
     Ok(())
 }
 
@@ -96,17 +94,11 @@ fn fallen_run<W: Threads + Wait + Sync>(
     rt: &W,
     alloc: Global,
     seed: usize,
-) -> Result<Finished<MemDisk>, Fail> {
+) -> Result<Finished, Fail> {
     let number = if seed % 4 == 3 { 7 } else { seed as u64 % 4 };
     let call = 3 + seed as u64 % 7;
-    let disks = disks_with(alloc, number, b"", &[call])?;
-    served_with(
-        rt,
-        alloc,
-        &["run"],
-        &script_with(alloc, seed, OFFERS)?,
-        disks,
-    )
+    let script = script_with(alloc, seed, OFFERS)?;
+    served(rt, alloc, &["run"], &script, (number, b"", &[call]))
 }
 
 // How many nodes crashed in the runs of these seeds, or `None` if one of the runs was not upheld.
@@ -129,7 +121,7 @@ fn falls_if_upheld<W: Threads + Wait + Sync>(
     rt: &W,
     alloc: Global,
     seed: usize,
-    run: &Finished<MemDisk>,
+    run: &Finished,
 ) -> Result<Option<usize>, Fail> {
     let is_upheld = run.ran.status == 0 && is_audited(rt, alloc, config_of(seed)?, run)?;
     Ok(is_upheld.then_some(falls(run.ran.trail.records())))

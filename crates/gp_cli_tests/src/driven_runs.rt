@@ -1,5 +1,5 @@
 //! Commands that are driven in a multi round, with a silent coordinator.
-use crate::stage::{disks_with, prints, served};
+use crate::stage::{CALM, all_print, served};
 use std::alloc::Global;
 use std::sync::Wait;
 use std::test::Fail;
@@ -22,21 +22,20 @@ l0 replies: p0.1=ok
 events 51 messages 21
 ";
 
-#[test]
-fn four_commands_are_driven(rt: HostRuntime) -> Result<(), Fail> {
-    assert!(rt; prints(&rt, rt.alloc(), &["drive", "3", "2", "4"], 0, FOUR_COMMANDS)?);
-    Ok(())
-}
+// Four commands for two learners, and one for one.
+static WHOLE_TEXTS: [(&[&str], &[u8]); 2] = [
+    (&["drive", "3", "2", "4"], FOUR_COMMANDS),
+    (&["drive", "5", "1", "1"], ONE_COMMAND),
+];
 
 #[test]
-fn one_command_is_driven_to_one_learner(rt: HostRuntime) -> Result<(), Fail> {
-    assert!(rt; prints(&rt, rt.alloc(), &["drive", "5", "1", "1"], 0, ONE_COMMAND)?);
+fn commands_are_driven_to_each_learner(rt: HostRuntime) -> Result<(), Fail> {
+    assert!(rt; all_print(&rt, rt.alloc(), &WHOLE_TEXTS)?);
     Ok(())
 }
 
 /// The words of a command, and the last line that it prints: `3 + 5A + AL + K(3 + 2A + AL)` events and
 /// `3 + 2A + K(3 + A)` messages.
-#[derive(Clone, Copy)]
 struct Row {
     words: [&'static str; 4],
     totals: &'static [u8],
@@ -78,8 +77,8 @@ fn ends_with_totals(
     alloc: Global,
     row: &Row,
 ) -> Result<bool, Fail> {
-    let served = served(rt, alloc, &row.words, disks_with(alloc, 0, b"", &[])?)?;
-    Ok(served.ran.status == 0 && served.sink.written().ends_with(row.totals))
+    let finished = served(rt, alloc, &row.words, b"", CALM)?;
+    Ok(finished.ran.status == 0 && finished.sink.written().ends_with(row.totals))
 }
 
 #[test]

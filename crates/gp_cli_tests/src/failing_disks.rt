@@ -1,6 +1,8 @@
 //! Nodes with one disk that fails at one call.
 use crate::nodes::{EIGHT, count, is_posted, parts_of};
-use crate::stage::{disks_with, served_with};
+use crate::stage::{Finished, Special, served};
+use gp_cli::Ran;
+use gp_edge::MemDisk;
 use std::alloc::Global;
 use std::sync::Wait;
 use std::test::Fail;
@@ -14,49 +16,64 @@ const SURE: u64 = 5;
 
 const MOST_CALLS: u64 = 40;
 
-// The status of a run in which this call of disk 0 fails, and how often acceptor 0 crashed.
-fn fail_at<W: Threads + Wait + Sync>(
-    rt: &W,
-    alloc: Global,
-    call: u64,
-) -> Result<(u8, usize), Fail> {
-    let disks = disks_with(alloc, 0, b"", &[call])?;
-    let finished = served_with(rt, alloc, &["run"], EIGHT, disks)?;
+// Whether a run in which this call of disk 0 fails ends as it has to.
+fn holds_at<W: Threads + Wait + Sync>(rt: &W, alloc: Global, call: u64) -> Result<bool, Fail> {
+    let finished = served(rt, alloc, &["run"], EIGHT, (0, b"", &[call]))?;
+    ends_or_falls_once(alloc, &finished, call)
+}
+
+// Whether the run ended with a fault, or all was learned and acceptor 0 crashed once.
+fn ends_or_falls_once(alloc: Global, finished: &Finished, call: u64) -> Result<bool, Fail> {
     let printed = parts_of(alloc, finished.sink.written())?;
-    Ok((finished.ran.status, count(&printed.trace, b"fall a0")))
+    let falls = count(&printed.trace, b"fall a0");
+    let status = finished.ran.status;
+    if call < MAKING {
+        Ok(status == 6 && falls == 0)
+    } else {
+        Ok(status == 0 && (falls == 1 || call >= SURE && falls == 0))
+    }
 }
 
 #[test]
 fn one_failing_call_ends_the_run_or_lets_the_acceptor_fall_once(
     rt: HostRuntime,
 ) -> Result<(), Fail> {
-    let alloc = rt.alloc();
     for call in 0..=MOST_CALLS {
-        let (status, falls) = fail_at(&rt, alloc, call)?;
-        if call < MAKING {
-            assert!(rt; status == 6);
-            assert!(rt; falls == 0);
-        } else {
-            assert!(rt; status == 0);
-            assert!(rt; falls == 1 || call >= SURE && falls == 0);
-        }
+        assert!(rt; holds_at(&rt, rt.alloc(), call)?);
     }
     Ok(())
 }
 
-// The node of the disk crashes, and its disk fails again when it recovers.
+// A disk with calls that fail, and whether the nodes have run by then.
+type Ending = (Special<'static>, bool);
+
+static ENDINGS: [Ending; 3] = [
+    // the disk fails while its log is made
+    ((0, b"", &[0]), false),
+    // the node of the disk crashes, and its disk fails again when it recovers
+    ((0, b"", &[MAKING, MAKING + 1]), true),
+    ((7, b"", &[MAKING, MAKING + 1]), true),
+];
+
+// Whether a run ends with a fault of this disk, and has records only if the nodes have run.
+fn ends_at_a_fault<W: Threads + Wait + Sync>(
+    rt: &W,
+    alloc: Global,
+    row: &Ending,
+) -> Result<bool, Fail> {
+    let (disk, has_run) = *row;
+    let finished = served(rt, alloc, &["run"], EIGHT, disk)?;
+    Ok(finished.ended(6, b"disk fault\n") && is_as_far(&finished.ran, has_run))
+}
+
+fn is_as_far(ran: &Ran<MemDisk>, has_run: bool) -> bool {
+    is_posted(ran) == has_run && ran.trail.records().is_empty() != has_run
+}
+
 #[test]
-fn a_recovery_that_fails_ends_the_run(rt: HostRuntime) -> Result<(), Fail> {
-    for number in [0u64, 7] {
-        assert!(rt; fails_twice(&rt, rt.alloc(), number)?);
+fn a_fault_that_no_recovery_mends_ends_the_run(rt: HostRuntime) -> Result<(), Fail> {
+    for row in &ENDINGS {
+        assert!(rt; ends_at_a_fault(&rt, rt.alloc(), row)?);
     }
     Ok(())
-}
-
-fn fails_twice<W: Threads + Wait + Sync>(rt: &W, alloc: Global, number: u64) -> Result<bool, Fail> {
-    let disks = disks_with(alloc, number, b"", &[MAKING, MAKING + 1])?;
-    let finished = served_with(rt, alloc, &["run"], EIGHT, disks)?;
-    let has_records = is_posted(&finished.ran) && !finished.ran.trail.records().is_empty();
-    let is_told = finished.sink.written() == b"disk fault\n".as_slice();
-    Ok(finished.ran.status == 6 && has_records && is_told)
 }

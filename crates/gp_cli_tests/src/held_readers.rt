@@ -57,6 +57,11 @@ fn read_twice<N: Named, R: Wait>(
     Some((first, (reader.seen(), second)))
 }
 
+// Waits for the first read.
+fn wait_for<R: Wait>(rt: &R, done: Receiver<()>) -> Option<()> {
+    done.recv(rt).ok()
+}
+
 // Waits for the first read, publishes, and sends a note of it.
 fn publish_between<N: Named, R: Wait>(
     rt: &R,
@@ -67,7 +72,7 @@ fn publish_between<N: Named, R: Wait>(
 ) -> Option<usize>
     requires { (feed.old.feed ≡ N.feed) × (feed.old.list ≡ []) }
 {
-    done.recv(rt).ok()?;
+    wait_for(rt, done)?;
     let count = feed.publish(rt, replica).ok()?;
     let told = feed.tell().ok()?;
     let note = Note {

@@ -4,7 +4,7 @@ ghost use Rattle.gp_phase.specs.Beside.{topics};
 ghost use Rattle.gp_onlookers.specs.Ends.{topic_of};
 
 use crate::puts::{A, B, Put, history};
-use gp_command::{Key, NoMemory};
+use gp_command::{CommandId, Key, NoMemory};
 use gp_index::History;
 use gp_onlookers::{Look, Looks, Onlookers, last_looks, watch};
 use std::alloc::Global;
@@ -13,13 +13,12 @@ use std::test::Fail;
 use std::thread::{Threads, join_mut};
 
 // What is put, one after another, and the last look at the key `a`.
-#[derive(Clone, Copy)]
 struct Row {
     puts: &'static [Put],
     last: Look,
 }
 
-const ROWS: [Row; 4] = [
+static ROWS: [Row; 4] = [
     Row {
         puts: &[],
         last: Look {
@@ -56,6 +55,12 @@ const NOTHING_SEEN: Look = Look {
     value: None,
 };
 
+// One put was published.
+const LAST_LOOK: Look = Look {
+    seen: 1,
+    value: Some(5),
+};
+
 // Both look once, each in a thread of its own.
 fn look_at_once<R: Threads + Wait + Sync>(rt: &R, onlookers: &mut Onlookers) -> bool
     ensures { topics (λ p. p.feed) topic_of onlookers.new ≡ topics (λ p. p.feed) topic_of onlookers.old }
@@ -78,20 +83,32 @@ fn looks_at<R: Threads + Wait + Sync>(
     Ok((looked, last_looks(rt, alloc, key, onlookers, learned)))
 }
 
-// Whether both looked before anything was published and after all, and the order is that of the puts.
-fn is_seen(looks: &Looks, row: Row) -> bool {
-    let wanted = [NOTHING_SEEN, row.last];
-    looks.order.len() == row.puts.len()
-        && looks
-            .order
-            .iter()
-            .zip(row.puts)
-            .all(|(id, put)| id.number == put.0)
-        && *looks.first.as_slice() == *wanted.as_slice()
-        && *looks.second.as_slice() == *wanted.as_slice()
+// Whether the commands of an order are those of the puts.
+fn is_order_of(order: &[CommandId], puts: &[Put]) -> bool {
+    if order.len() != puts.len() {
+        return false;
+    }
+    for i in 0..order.len() {
+        if order[i].number != puts[i].0 {
+            return false;
+        }
+    }
+    true
 }
 
-fn sees<R: Threads + Wait + Sync>(rt: &R, alloc: Global, row: Row) -> Result<bool, Fail> {
+// Whether a reader looked before anything was published and after all.
+fn are_first_and_last(looks: &[Look], last: Look) -> bool {
+    looks.len() == 2 && looks[0] == NOTHING_SEEN && looks[1] == last
+}
+
+// Whether both looked so, and the order is that of the puts.
+fn is_seen(looks: &Looks, row: &Row) -> bool {
+    is_order_of(&looks.order, row.puts)
+        && are_first_and_last(&looks.first, row.last)
+        && are_first_and_last(&looks.second, row.last)
+}
+
+fn sees<R: Threads + Wait + Sync>(rt: &R, alloc: Global, row: &Row) -> Result<bool, Fail> {
     let learned = history(alloc, row.puts)?;
     let (looked, looks) = looks_at(rt, alloc, &learned)?;
     Ok(looked && is_seen(&looks?, row))
@@ -99,7 +116,7 @@ fn sees<R: Threads + Wait + Sync>(rt: &R, alloc: Global, row: Row) -> Result<boo
 
 #[test]
 fn the_last_look_is_at_the_end_of_the_order(rt: HostRuntime) -> Result<(), Fail> {
-    for row in ROWS {
+    for row in &ROWS {
         assert!(rt; sees(&rt, rt.alloc(), row)?);
     }
     Ok(())
@@ -114,40 +131,53 @@ fn look_twice<R: Wait>(rt: &R, onlookers: &mut Onlookers) -> bool
     once.is_ok() && twice.is_ok()
 }
 
-// The first looks twice before anything is published, and then both look a last time.
-fn looks_of_the_first<R: Threads + Wait + Sync>(
+// Whether both look right if the first looks twice before anything is published, and then both look
+// a last time.
+fn look_apart<R: Threads + Wait + Sync>(
     rt: &R,
     alloc: Global,
     learned: &History,
-) -> Result<(bool, Looks), Fail> {
+) -> Result<bool, Fail> {
     let key = Key::new(A)?;
     let mut onlookers = watch(rt, alloc, key)?;
     let looked = look_twice(rt, &mut onlookers);
-    Ok((looked, last_looks(rt, alloc, key, onlookers, learned)?))
+    let looks = last_looks(rt, alloc, key, onlookers, learned)?;
+    Ok(looked && are_of_the_first(&looks))
 }
 
+static LOOKS_OF_THE_FIRST: [Look; 3] = [NOTHING_SEEN, NOTHING_SEEN, LAST_LOOK];
+
+static LOOKS_OF_THE_SECOND: [Look; 1] = [LAST_LOOK];
+
 fn are_of_the_first(looks: &Looks) -> bool {
-    let last = Look {
-        seen: 1,
-        value: Some(5),
-    };
-    *looks.first.as_slice() == *[NOTHING_SEEN, NOTHING_SEEN, last].as_slice()
-        && *looks.second.as_slice() == *[last].as_slice()
+    *looks.first.as_slice() == *LOOKS_OF_THE_FIRST.as_slice()
+        && *looks.second.as_slice() == *LOOKS_OF_THE_SECOND.as_slice()
 }
+
+static ONE_PUT: [Put; 1] = [(1, A, 5)];
 
 #[test]
 fn each_reader_has_its_own_looks(rt: HostRuntime) -> Result<(), Fail> {
-    let learned = history(rt.alloc(), &[(1, A, 5)])?;
-    let (looked, looks) = looks_of_the_first(&rt, rt.alloc(), &learned)?;
-    assert!(rt; looked && are_of_the_first(&looks));
+    let learned = history(rt.alloc(), &ONE_PUT)?;
+    assert!(rt; look_apart(&rt, rt.alloc(), &learned)?);
     Ok(())
 }
 
+static ONE_IDENTITY: [Put; 3] = [(1, A, 5), (2, B, 6), (2, B, 7)];
+
 #[test]
 fn two_commands_of_one_identity_are_refused(rt: HostRuntime) -> Result<(), Fail> {
-    let learned = history(rt.alloc(), &[(1, A, 5), (2, B, 6), (2, B, 7)])?;
-    let (looked, looks) = looks_at(&rt, rt.alloc(), &learned)?;
-    assert!(rt; looked);
-    assert!(rt; looks.is_err());
+    let learned = history(rt.alloc(), &ONE_IDENTITY)?;
+    assert!(rt; is_refused(&rt, rt.alloc(), &learned)?);
     Ok(())
+}
+
+// Whether both look before anything is published, and not at the end.
+fn is_refused<R: Threads + Wait + Sync>(
+    rt: &R,
+    alloc: Global,
+    learned: &History,
+) -> Result<bool, Fail> {
+    let (looked, looks) = looks_at(rt, alloc, learned)?;
+    Ok(looked && looks.is_err())
 }

@@ -1,8 +1,7 @@
 //! Runs of nodes of several configurations, each of which `play` repeats from its trace.
 use crate::audited_runs::is_audited;
 use crate::nodes::{parts_of, plays_again};
-use crate::stage::{Finished, disks_with, served_with};
-use gp_edge::MemDisk;
+use crate::stage::{CALM, Finished, served};
 use gp_round::Config;
 use std::alloc::Global;
 use std::sync::Wait;
@@ -42,13 +41,22 @@ pub fn config_of(seed: usize) -> Result<Config, Fail> {
 /// A script of this many offers by eight proposers. Another seed has another configuration, and
 /// takes other operations.
 pub fn script_with(alloc: Global, seed: usize, offers: usize) -> Result<Vec<u8>, Fail> {
+    let mut script = nodes_line(alloc, seed)?;
+    push_offers(&mut script, seed, offers)?;
+    Ok(script)
+}
+
+fn nodes_line(alloc: Global, seed: usize) -> Result<Vec<u8>, Fail> {
     let (acceptors, coordinators, learners) = COUNTS[seed % COUNTS.len()];
     let nodes = format!(in alloc; "nodes {acceptors} {coordinators} {learners}\n")?;
-    let mut script = Vec::from_slice(alloc, nodes.as_bytes())?;
+    Ok(Vec::from_slice(alloc, nodes.as_bytes())?)
+}
+
+fn push_offers(script: &mut Vec<u8>, seed: usize, offers: usize) -> Result<(), Fail> {
     for number in 0..offers {
-        push_offer(&mut script, seed, number)?;
+        push_offer(script, seed, number)?;
     }
-    Ok(script)
+    Ok(())
 }
 
 fn push_offer(script: &mut Vec<u8>, seed: usize, number: usize) -> Result<(), Fail> {
@@ -67,9 +75,18 @@ fn is_played_again<W: Threads + Wait + Sync>(
     alloc: Global,
     seed: usize,
 ) -> Result<bool, Fail> {
+    let config = config_of(seed)?;
     let finished = finished(rt, alloc, seed)?;
-    let is_upheld = is_audited(rt, alloc, config_of(seed)?, &finished)?;
-    let is_over = finished.ran.status == 0 && is_upheld;
+    is_upheld_and_played(rt, alloc, config, &finished)
+}
+
+fn is_upheld_and_played<W: Threads + Wait + Sync>(
+    rt: &W,
+    alloc: Global,
+    config: Config,
+    finished: &Finished,
+) -> Result<bool, Fail> {
+    let is_over = finished.ran.status == 0 && is_audited(rt, alloc, config, finished)?;
     Ok(is_over && is_same(rt, alloc, finished.sink.written())?)
 }
 
@@ -77,10 +94,9 @@ fn finished<W: Threads + Wait + Sync>(
     rt: &W,
     alloc: Global,
     seed: usize,
-) -> Result<Finished<MemDisk>, Fail> {
+) -> Result<Finished, Fail> {
     let script = script_with(alloc, seed, OFFERS)?;
-    let disks = disks_with(alloc, 0, b"", &[])?;
-    served_with(rt, alloc, &["run"], &script, disks)
+    served(rt, alloc, &["run"], &script, CALM)
 }
 
 fn is_same<W: Threads + Wait + Sync>(rt: &W, alloc: Global, text: &[u8]) -> Result<bool, Fail> {

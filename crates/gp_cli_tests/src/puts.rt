@@ -29,8 +29,13 @@ fn learn(learned: &mut History, alloc: Global, put: Put) -> Result<(), Fail> {
 /// A history of these puts.
 pub fn history(alloc: Global, puts: &[Put]) -> Result<History, Fail> {
     let mut learned = History::empty(alloc)?;
-    for put in puts {
-        learn(&mut learned, alloc, *put)?;
-    }
+    learn_all(&mut learned, alloc, puts)?;
     Ok(learned)
+}
+
+fn learn_all(learned: &mut History, alloc: Global, puts: &[Put]) -> Result<(), Fail> {
+    for put in puts {
+        learn(learned, alloc, *put)?;
+    }
+    Ok(())
 }

@@ -11,7 +11,7 @@ use std::sync::Wait;
 use std::test::Fail;
 
 // What two readers of one feed find; only the second is notified.
-#[derive(Drop, Debug, PartialEq, Eq)]
+#[derive(Drop, PartialEq, Eq)]
 struct Findings {
     before: bool,
     values: (Option<u64>, Option<u64>),
@@ -110,11 +110,16 @@ fn a_reader_of_a_closed_feed_reads_nothing(rt: HostRuntime) -> Result<(), Fail> 
 }
 
 fn reads_nothing<R: Wait>(rt: &R, alloc: Global, key: Key) -> Result<bool, Fail> {
-    let (feed, mut readers) = Feed::new(rt, alloc, 16)?;
-    let many = readers.len() == 16;
+    let (feed, readers) = Feed::new(rt, alloc, 16)?;
     feed.close(rt);
-    Ok(match readers.pop() {
+    Ok(last_reads_nothing(readers, key))
+}
+
+// Whether there are sixteen readers, and the last one reads nothing.
+fn last_reads_nothing(mut readers: Vec<Reader>, key: Key) -> bool {
+    let many = readers.len() == 16;
+    match readers.pop() {
         Some(mut reader) => many && reader.get(key) == Err(Unread) && reader.seen() == 0,
         None => false,
-    })
+    }
 }

@@ -43,10 +43,19 @@ pub fn replica_of(
     commands: &[(u32, Op)],
 ) -> Result<Replica<KeyStore>, Fail> {
     let mut learned = History::empty(alloc)?;
+    learn_all(&mut learned, alloc, commands)?;
+    caught_up(rt, alloc, &learned)
+}
+
+fn learn_all(learned: &mut History, alloc: Global, commands: &[(u32, Op)]) -> Result<(), Fail> {
     for (number, op) in commands {
-        learn(&mut learned, alloc, *number, *op)?;
+        learn(learned, alloc, *number, *op)?;
     }
+    Ok(())
+}
+
+fn caught_up(rt: &impl Abort, alloc: Global, learned: &History) -> Result<Replica<KeyStore>, Fail> {
     let mut replica = Replica::new(alloc)?;
-    catch_up(rt, &mut replica, &learned)?;
+    catch_up(rt, &mut replica, learned)?;
     Ok(replica)
 }

@@ -1,7 +1,5 @@
 //! Workloads of a seed.
-ghost use Rattle.std.specs.Prelude.{◌≡◌};
-
-use crate::stage::{disks_with, prints, served};
+use crate::stage::{CALM, all_print, served};
 use std::alloc::Global;
 use std::sync::Wait;
 use std::test::Fail;
@@ -19,18 +17,18 @@ sum 13472
 events 1962 messages 373
 ";
 
-#[test]
-fn a_seed_has_one_summary(rt: HostRuntime) -> Result<(), Fail> {
-    assert!(rt; prints(&rt, rt.alloc(), &["sim", "7", "96"], 0, SEED_7)?);
-    assert!(rt; prints(&rt, rt.alloc(), &["sim", "7", "96"], 0, SEED_7)?);
-    assert!(rt; prints(&rt, rt.alloc(), &["sim", "0", "1"], 0, SEED_0)?);
-    Ok(())
-}
+// A seed gives the same summary again.
+static SUMMARIES: [(&[&str], &[u8]); 4] = [
+    (&["sim", "7", "96"], SEED_7),
+    (&["sim", "7", "96"], SEED_7),
+    (&["sim", "0", "1"], SEED_0),
+    // the last seed and the most commands
+    (&["sim", "18446744073709551615", "256"], LAST_SEED),
+];
 
 #[test]
-fn the_last_seed_and_the_most_commands_have_one(rt: HostRuntime) -> Result<(), Fail> {
-    let words = ["sim", "18446744073709551615", "256"];
-    assert!(rt; prints(&rt, rt.alloc(), &words, 0, LAST_SEED)?);
+fn a_seed_has_one_summary(rt: HostRuntime) -> Result<(), Fail> {
+    assert!(rt; all_print(&rt, rt.alloc(), &SUMMARIES)?);
     Ok(())
 }
 
@@ -41,24 +39,23 @@ fn is_learned<W: Threads + Wait + Sync>(
     seed: u32,
     commands: u32,
 ) -> Result<bool, Fail> {
-    let seed_word = format!(in alloc; "{seed}")?;
-    let commands_word = format!(in alloc; "{commands}")?;
-    let words = ["sim", seed_word.as_str(), commands_word.as_str()];
-    let begin = format!(in alloc;
-        "sim {seed} {commands}\nlearned {commands} {commands}\nsame yes\n"
-    )?;
-    begins(rt, alloc, &words, begin.as_bytes())
+    let seed = format!(in alloc; "{seed}")?;
+    let commands = format!(in alloc; "{commands}")?;
+    begins(rt, alloc, seed.as_str(), commands.as_str())
 }
 
-// Whether a command ends well, and what it prints begins with these bytes.
+// Whether a workload ends well, and what it prints begins with all commands on two learners that show the same.
 fn begins<W: Threads + Wait + Sync>(
     rt: &W,
     alloc: Global,
-    words: &[&str],
-    begin: &[u8],
+    seed: &str,
+    commands: &str,
 ) -> Result<bool, Fail> {
-    let served = served(rt, alloc, words, disks_with(alloc, 0, b"", &[])?)?;
-    Ok(served.ran.status == 0 && served.sink.written().starts_with(begin))
+    let begin = format!(in alloc;
+        "sim {seed} {commands}\nlearned {commands} {commands}\nsame yes\n"
+    )?;
+    let finished = served(rt, alloc, &["sim", seed, commands], b"", CALM)?;
+    Ok(finished.ran.status == 0 && finished.sink.written().starts_with(begin.as_bytes()))
 }
 
 #[test]

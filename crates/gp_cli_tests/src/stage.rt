@@ -2,7 +2,7 @@
 ghost use Rattle.std.specs.Prelude.{◌≡◌, IfOk, length};
 
 use gp_cli::{Ran, serve};
-use gp_edge::{CalmSink, CalmSource, Disk, Idle, MemDisk};
+use gp_edge::{CalmSink, CalmSource, Gate, Idle, MemDisk};
 use std::alloc::Global;
 use std::sync::Wait;
 use std::test::Fail;
@@ -38,65 +38,75 @@ pub fn owned(alloc: Global, words: &[&str]) -> Result<Vec<String>, Fail> {
     Ok(given)
 }
 
-/// How a command ended over these disks, and what it printed.
+/// How a command ended over disks in memory, and what it printed.
 #[derive(Drop)]
-pub struct Finished<D: Disk> {
-    pub ran: Ran<D>,
+pub struct Finished {
+    pub ran: Ran<MemDisk>,
     pub sink: CalmSink,
 }
 
-/// Runs a command with this input over these disks.
-pub fn served_with<W: Threads + Wait + Sync, D: Disk + Send>(
+impl Finished {
+    /// Whether the command ended with this status and printed this.
+    pub fn ended(&self, status: u8, text: &[u8]) -> bool {
+        self.ran.status == status && self.sink.written() == text
+    }
+
+    /// What a disk holds after the command.
+    pub fn content_of(&self, number: usize) -> &[u8] {
+        match self.ran.disks.get(number) {
+            Some(disk) => disk.content(),
+            None => b"",
+        }
+    }
+}
+
+/// The number of a disk, its bytes, and the calls of it that fail. The other disks are empty and do
+/// not fail.
+pub type Special<'a> = (u64, &'a [u8], &'a [u64]);
+
+/// All disks are empty, and none fails.
+pub const CALM: Special<'static> = (0, b"", &[]);
+
+/// Runs a command over such disks, at this gate.
+pub fn finished_at<W: Threads + Wait + Sync, G: Gate + Sync>(
+    rt: &W,
+    alloc: Global,
+    words: &[String],
+    source: &mut CalmSource,
+    disk: Special<'_>,
+    gate: &G,
+) -> Result<Finished, Fail> {
+    let (number, bytes, failing) = disk;
+    let mut sink = CalmSink::new(alloc)?;
+    let disks = disks_with(alloc, number, bytes, failing)?;
+    let ran = serve(rt, alloc, words, source, &mut sink, disks, gate);
+    Ok(Finished { ran, sink })
+}
+
+/// Runs a command with this input over such disks.
+pub fn served<W: Threads + Wait + Sync>(
     rt: &W,
     alloc: Global,
     words: &[&str],
     input: &[u8],
-    disks: Vec<D>,
-) -> Result<Finished<D>, Fail>
-    requires { length disks.items ≡ 12 }
-{
+    disk: Special<'_>,
+) -> Result<Finished, Fail> {
+    let words = owned(alloc, words)?;
     let mut source = CalmSource::new(alloc, input)?;
-    let mut sink = CalmSink::new(alloc)?;
-    let ran = serve(
-        rt,
-        alloc,
-        &owned(alloc, words)?,
-        &mut source,
-        &mut sink,
-        disks,
-        &Idle,
-    );
-    Ok(Finished { ran, sink })
+    finished_at(rt, alloc, &words, &mut source, disk, &Idle)
 }
 
-/// Runs a command without input over these disks.
-pub fn served<W: Threads + Wait + Sync, D: Disk + Send>(
+/// Whether each of these commands ends well without input and logs, and prints the text beside it.
+pub fn all_print<W: Threads + Wait + Sync>(
     rt: &W,
     alloc: Global,
-    words: &[&str],
-    disks: Vec<D>,
-) -> Result<Finished<D>, Fail>
-    requires { length disks.items ≡ 12 }
-{
-    served_with(rt, alloc, words, b"", disks)
-}
-
-/// Whether a command without input and logs ends with this status and prints this.
-pub fn prints<W: Threads + Wait + Sync>(
-    rt: &W,
-    alloc: Global,
-    words: &[&str],
-    status: u8,
-    text: &[u8],
+    rows: &[(&[&str], &[u8])],
 ) -> Result<bool, Fail> {
-    let served = served(rt, alloc, words, disks_with(alloc, 0, b"", &[])?)?;
-    Ok(served.ran.status == status && served.sink.written() == text)
-}
-
-/// What a disk holds after a command.
-pub fn content_of(finished: &Finished<MemDisk>, number: usize) -> &[u8] {
-    match finished.ran.disks.get(number) {
-        Some(disk) => disk.content(),
-        None => b"",
+    for (words, text) in rows {
+        let finished = served(rt, alloc, words, b"", CALM)?;
+        if !finished.ended(0, text) {
+            return Ok(false);
+        }
     }
+    Ok(true)
 }

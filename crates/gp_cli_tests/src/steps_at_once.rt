@@ -1,8 +1,7 @@
 //! Steps of two nodes at the same time.
 use crate::nodes::EIGHT;
-use crate::stage::{disks_with, owned};
-use gp_cli::serve;
-use gp_edge::{CalmSink, CalmSource, Gate};
+use crate::stage::{CALM, finished_at, owned};
+use gp_edge::{CalmSource, Gate};
 use gp_msg::Node;
 use std::alloc::Global;
 use std::sync::Wait;
@@ -79,9 +78,8 @@ fn two_steps_at_once(rt: HostRuntime) -> Result<(), Fail> {
 
 // The status of a run at this gate.
 fn status_at<W: Threads + Wait + Sync>(rt: &W, alloc: Global, gate: &Meeting) -> Result<u8, Fail> {
-    let mut source = CalmSource::new(alloc, EIGHT)?;
-    let mut sink = CalmSink::new(alloc)?;
     let words = owned(alloc, &["run"])?;
-    let disks = disks_with(alloc, 0, b"", &[])?;
-    Ok(serve(rt, alloc, &words, &mut source, &mut sink, disks, gate).status)
+    let mut source = CalmSource::new(alloc, EIGHT)?;
+    let finished = finished_at(rt, alloc, &words, &mut source, CALM, gate)?;
+    Ok(finished.ran.status)
 }

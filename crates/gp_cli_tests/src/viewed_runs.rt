@@ -1,6 +1,6 @@
 //! Nodes that run in threads while two readers view a key.
-use crate::nodes::{EIGHT, Printed, count, parts_of, plays_again, show_eight};
-use crate::stage::{disks_with, served_with};
+use crate::nodes::{EIGHT, Printed, count, is_feed, parts_of, plays_again, show_eight};
+use crate::stage::{CALM, served};
 use std::alloc::Global;
 use std::sync::Wait;
 use std::test::Fail;
@@ -16,7 +16,7 @@ const EPOCHS: &[u8] =
 
 // What a read of reader 0 or 1 shows after the number of the reader, by how many of the puts it
 // saw.
-const LOOKS: [&[u8]; 6] = [
+static LOOKS: [&[u8]; 6] = [
     b" seen 0 value none",
     b" seen 1 value 1",
     b" seen 2 value 2",
@@ -44,8 +44,7 @@ fn run_viewed<W: Threads + Wait + Sync>(
     key: &str,
     script: &[u8],
 ) -> Result<Viewed, Fail> {
-    let disks = disks_with(alloc, 0, b"", &[])?;
-    let finished = served_with(rt, alloc, &["views", key], script, disks)?;
+    let finished = served(rt, alloc, &["views", key], script, CALM)?;
     if finished.ran.status == 0 {
         viewed_in(alloc, finished.sink.written())
     } else {
@@ -69,7 +68,7 @@ fn viewed_in(alloc: Global, text: &[u8]) -> Result<Viewed, Fail> {
 // The last line that begins with these bytes.
 fn last_of<'a>(text: &'a [u8], begin: &[u8]) -> &'a [u8] {
     let mut last: &'a [u8] = b"";
-    for line in text.split(|byte| *byte == b'\n') {
+    for line in text.split(is_feed) {
         if line.starts_with(begin) {
             last = line;
         }
@@ -77,32 +76,29 @@ fn last_of<'a>(text: &'a [u8], begin: &[u8]) -> &'a [u8] {
     last
 }
 
-// How many reads of a reader are printed.
-fn reads_of(looks: &[u8], reader: &[u8]) -> usize {
+// How many reads are printed that begin with these bytes.
+fn reads_of(looks: &[u8], begin: &[u8]) -> usize {
     looks
-        .split(|byte| *byte == b'\n')
-        .filter(|line| line.starts_with(reader))
-        .count()
-}
-
-// How many reads of a reader do not begin with these bytes.
-fn reads_beyond(looks: &[u8], reader: &[u8], begin: &[u8]) -> usize {
-    looks
-        .split(|byte| *byte == b'\n')
-        .filter(|line| line.starts_with(reader) && !line.starts_with(begin))
+        .split(is_feed)
+        .filter(|line| line.starts_with(begin))
         .count()
 }
 
 // How many of the puts a read saw that shows this, if any shows it.
 fn puts_seen(shown: &[u8]) -> Option<usize> {
-    LOOKS.iter().position(|look| **look == *shown)
+    for seen in 0..LOOKS.len() {
+        if LOOKS[seen] == shown {
+            return Some(seen);
+        }
+    }
+    None
 }
 
 // Whether each read of a reader shows a beginning of the puts, none a shorter one than the read before it, and the last one
 // shows all.
 fn are_right(looks: &[u8], reader: &[u8]) -> bool {
     let mut before = 0;
-    for line in looks.split(|byte| *byte == b'\n') {
+    for line in looks.split(is_feed) {
         if let Some(shown) = line.strip_prefix(reader) {
             match puts_seen(shown) {
                 Some(seen) if seen >= before => before = seen,
@@ -125,7 +121,7 @@ fn sees_all<W: Threads + Wait + Sync>(
 ) -> Result<bool, Fail> {
     let is_seen = end_with(viewed, b"r0 seen 8 value 1", b"r1 seen 8 value 1");
     let has_order = viewed.looks.starts_with(b"order: ");
-    let shown = is_seen && has_order && show_eight(alloc, &viewed.run.report)?;
+    let shown = is_seen && has_order && show_eight(&viewed.run.report);
     Ok(shown && plays_again(rt, alloc, &viewed.run)?)
 }
 
@@ -142,6 +138,11 @@ fn each_reader_reads_while_the_nodes_work(rt: HostRuntime) -> Result<(), Fail> {
     let viewed = run_viewed(&rt, rt.alloc(), "a", PUTS)?;
     assert!(rt; reads_of(&viewed.looks, b"r0 ") >= 2 && reads_of(&viewed.looks, b"r1 ") >= 2);
     Ok(())
+}
+
+// How many reads of a reader show some of what is learned.
+fn reads_beyond(looks: &[u8], reader: &[u8], nothing: &[u8]) -> usize {
+    reads_of(looks, reader).saturating_sub(reads_of(looks, nothing))
 }
 
 // Whether both readers see some of what is learned before their last reads.
@@ -194,9 +195,8 @@ fn each_read_shows_a_beginning_of_the_order(rt: HostRuntime) -> Result<(), Fail>
 }
 
 fn ends_with_no_looks<W: Threads + Wait + Sync>(rt: &W, alloc: Global) -> Result<bool, Fail> {
-    let disks = disks_with(alloc, 0, b"", &[0])?;
-    let finished = served_with(rt, alloc, &["views", "a"], EIGHT, disks)?;
-    Ok(finished.ran.status == 6 && finished.sink.written() == b"disk fault\n".as_slice())
+    let finished = served(rt, alloc, &["views", "a"], EIGHT, (0, b"", &[0]))?;
+    Ok(finished.ended(6, b"disk fault\n"))
 }
 
 #[test]

@@ -79,16 +79,18 @@ fn publish_next<R: Wait + Abort>(
     Ok(feed.publish(rt, replica)?)
 }
 
+// Publishes one command after another. Returns whether each publish was of one.
 fn publish_all<R: Wait + Abort>(
     rt: &R,
     alloc: Global,
     feed: &mut Feed,
     key: Key,
-) -> Result<(), Fail>
+) -> Result<bool, Fail>
     requires { feed.old.list ≡ [] }
 {
     let mut learned = History::empty(alloc)?;
     let mut replica = Replica::new(alloc)?;
+    let mut each_one = true;
     for before in 0..PUBLISHES {
         let count = publish_next(
             rt,
@@ -98,9 +100,9 @@ fn publish_all<R: Wait + Abort>(
             &mut learned,
             (before + 1, key),
         )?;
-        assert!(rt; count == 1);
+        each_one = each_one && count == 1;
     }
-    Ok(())
+    Ok(each_one)
 }
 
 // Each reader reads in a thread of its own.
@@ -141,7 +143,7 @@ fn publish_beside<R: Threads + Wait + Abort + Sync>(
     feed: &mut Feed,
     watchers: &mut [Watcher],
     key: Key,
-) -> Result<(), Fail>
+) -> Result<bool, Fail>
     requires { feed.old.list ≡ [] }
 {
     let (published, ()) = thread::join(
@@ -168,7 +170,7 @@ fn watched<R: Threads + Wait + Abort + Sync>(
             watchers.as_mut_slice(),
             key,
         ) {
-            Ok(()) => Ok(are_right(watchers.as_mut_slice(), key)),
+            Ok(each_one) => Ok(are_right(watchers.as_mut_slice(), key) && each_one),
             Err(fail) => Err(fail),
         },
         Err(fail) => Err(fail),

@@ -1,8 +1,8 @@
 //! The words of the command, and the status with which the program ends.
 ghost use Rattle.std.specs.Prelude.{◌≡◌, IfOk, length};
 
-use crate::stage::{disks_with, owned};
-use gp_cli::{run_program, serve};
+use crate::stage::{CALM, disks_with, owned, served};
+use gp_cli::run_program;
 use gp_command::NoMemory;
 use gp_edge::{CalmSink, CalmSource, Idle, MemDisk};
 use std::alloc::Global;
@@ -26,12 +26,8 @@ fn are_refused<W: Threads + Wait + Sync>(
     alloc: Global,
     words: &[&str],
 ) -> Result<bool, Fail> {
-    let mut source = CalmSource::new(alloc, SCRIPT)?;
-    let mut sink = CalmSink::new(alloc)?;
-    let disks = disks_with(alloc, 0, b"", &[])?;
-    let words = owned(alloc, words)?;
-    let ran = serve(rt, alloc, &words, &mut source, &mut sink, disks, &Idle);
-    Ok(ran.status == 2 && ran.trail.records().is_empty() && sink.written() == USAGE)
+    let finished = served(rt, alloc, words, SCRIPT, CALM)?;
+    Ok(finished.ended(2, USAGE) && finished.ran.trail.records().is_empty())
 }
 
 // Words that name no subcommand, or one with other words than it takes.
@@ -73,81 +69,91 @@ fn unknown_words_print_the_usage(rt: HostRuntime) -> Result<(), Fail> {
     Ok(())
 }
 
-fn disks_for(alloc: Global) -> Result<Result<Vec<MemDisk>, NoMemory>, Fail>
+// The disks of the program, unless there is no memory for them.
+fn disks_for(alloc: Global, has_memory: bool) -> Result<Result<Vec<MemDisk>, NoMemory>, Fail>
     ensures { IfOk result (λ disks. IfOk disks (λ d. length d.items ≡ 12)) }
 {
-    Ok(Ok(disks_with(alloc, 0, b"", &[])?))
+    if has_memory {
+        Ok(Ok(disks_with(alloc, 0, b"", &[])?))
+    } else {
+        Ok(Err(NoMemory))
+    }
 }
 
-// Whether the program ends with this status, and prints this.
+// Whether the program ends with this status, and prints this. There may be no memory for its disks.
 fn ends<R: Eprint + Threads + Wait + Sync>(
     rt: &R,
     alloc: Global,
     arguments: io::Result<Args>,
+    has_memory: bool,
     status: u8,
     prints: &[u8],
 ) -> Result<bool, Fail> {
-    let mut source = CalmSource::new(alloc, SCRIPT)?;
     let mut sink = CalmSink::new(alloc)?;
-    let disks = disks_for(alloc)?;
-    let ended = run_program(rt, alloc, arguments, &mut source, &mut sink, disks, &Idle);
-    Ok(ended.report(rt) == ExitCode::from(status) && sink.written() == prints)
+    let code = code_of(rt, alloc, arguments, has_memory, &mut sink)?;
+    Ok(code == ExitCode::from(status) && sink.written() == prints)
+}
+
+fn code_of<R: Eprint + Threads + Wait + Sync>(
+    rt: &R,
+    alloc: Global,
+    arguments: io::Result<Args>,
+    has_memory: bool,
+    sink: &mut CalmSink,
+) -> Result<ExitCode, Fail> {
+    let mut source = CalmSource::new(alloc, SCRIPT)?;
+    let disks = disks_for(alloc, has_memory)?;
+    let ended = run_program(rt, alloc, arguments, &mut source, sink, disks, &Idle);
+    Ok(ended.report(rt))
 }
 
 // The same, if the environment gives these arguments.
 fn given<R: Eprint + Threads + Wait + Sync>(
     rt: &R,
     alloc: Global,
-    words: &[&str],
-    status: u8,
-    prints: &[u8],
+    row: &Given,
 ) -> Result<bool, Fail> {
+    let (words, has_memory, status, prints) = *row;
     let arguments = owned(alloc, words)?.into_iter();
-    ends(rt, alloc, Ok(arguments), status, prints)
+    ends(rt, alloc, Ok(arguments), has_memory, status, prints)
 }
+
+// What the environment gives, whether there is memory for the disks, the exit status, and what is
+// printed.
+type Given = (&'static [&'static str], bool, u8, &'static [u8]);
+
+static GIVEN: [Given; 7] = [
+    (&["mcgp", "play"], true, 0, PRINTS),
+    (&["play", "play"], true, 0, PRINTS),
+    (&["mcgp", "play", "now"], true, 2, USAGE),
+    (&["mcgp", "now", "play"], true, 2, USAGE),
+    (&["play"], true, 2, USAGE),
+    (&[], true, 2, USAGE),
+    (&["mcgp", "play"], false, 1, b""),
+];
 
 #[test]
 fn the_words_after_the_name_are_the_command(rt: HostRuntime) -> Result<(), Fail> {
-    let alloc = rt.alloc();
-    assert!(rt; given(&rt, alloc, &["mcgp", "play"], 0, PRINTS)?);
-    assert!(rt; given(&rt, alloc, &["play", "play"], 0, PRINTS)?);
-    assert!(rt; given(&rt, alloc, &["mcgp", "play", "now"], 2, USAGE)?);
-    assert!(rt; given(&rt, alloc, &["mcgp", "now", "play"], 2, USAGE)?);
-    assert!(rt; given(&rt, alloc, &["play"], 2, USAGE)?);
-    assert!(rt; given(&rt, alloc, &[], 2, USAGE)?);
+    for row in &GIVEN {
+        assert!(rt; given(&rt, rt.alloc(), row)?);
+    }
     Ok(())
 }
+
+// Why the environment gives no arguments, the exit status, and what is printed.
+type Refused = (ErrorKind, u8, &'static [u8]);
+
+// An argument that is no text is no command, and there may be no memory for the arguments.
+static REFUSED: [Refused; 2] = [
+    (ErrorKind::InvalidData, 2, USAGE),
+    (ErrorKind::OutOfMemory, 1, b""),
+];
 
 #[test]
-fn an_argument_that_is_no_text_is_no_command(rt: HostRuntime) -> Result<(), Fail> {
-    let alloc = rt.alloc();
-    let no_text = Err(io::Error::from(ErrorKind::InvalidData));
-    assert!(rt; ends(&rt, alloc, no_text, 2, USAGE)?);
+fn a_command_whose_arguments_are_refused_is_not_run(rt: HostRuntime) -> Result<(), Fail> {
+    for (kind, status, prints) in &REFUSED {
+        let arguments = Err(io::Error::from(*kind));
+        assert!(rt; ends(&rt, rt.alloc(), arguments, true, *status, prints)?);
+    }
     Ok(())
-}
-
-#[test]
-fn no_memory_for_the_arguments_ends_with_1(rt: HostRuntime) -> Result<(), Fail> {
-    let alloc = rt.alloc();
-    let no_memory = Err(io::Error::from(ErrorKind::OutOfMemory));
-    assert!(rt; ends(&rt, alloc, no_memory, 1, b"")?);
-    Ok(())
-}
-
-#[test]
-fn no_memory_for_the_disks_ends_with_1(rt: HostRuntime) -> Result<(), Fail> {
-    assert!(rt; ends_without_disks(&rt, rt.alloc())?);
-    Ok(())
-}
-
-fn ends_without_disks<R: Eprint + Threads + Wait + Sync>(
-    rt: &R,
-    alloc: Global,
-) -> Result<bool, Fail> {
-    let mut source = CalmSource::new(alloc, SCRIPT)?;
-    let mut sink = CalmSink::new(alloc)?;
-    let arguments = Ok(owned(alloc, &["mcgp", "play"])?.into_iter());
-    let disks: Result<Vec<MemDisk>, NoMemory> = Err(NoMemory);
-    let ended = run_program(rt, alloc, arguments, &mut source, &mut sink, disks, &Idle);
-    Ok(ended.report(rt) == ExitCode::from(1) && sink.written().is_empty())
 }
