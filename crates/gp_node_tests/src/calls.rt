@@ -5,12 +5,11 @@ ghost use Rattle.gp_node_tests.specs.Alone.{IsAlone};
 
 use crate::alone::{Alone, make_alone};
 use gp_command::NoMemory;
-use gp_edge::Idle;
+use gp_edge::{Idle, MemDisk};
 use gp_msg::{Event, Msg, MsgKind, Node};
-use gp_node::{Move, StepFault};
+use gp_node::{Cell, Move, StepFault};
 use gp_round::{Config, Mode, Round};
 use std::alloc::Global;
-use std::process::Abort;
 use std::sync::Wait;
 use std::test::Fail;
 
@@ -47,58 +46,60 @@ fn plans_one_message(config: Config, alone: &Alone) -> Result<bool, Fail>
 
 #[test]
 fn a_coordinator_steps(rt: HostRuntime) -> Result<(), Fail> {
-    check_step(&rt, rt.alloc())
-}
-
-fn check_step<R: Wait + Abort>(rt: &R, alloc: Global) -> Result<(), Fail> {
-    let config = Config::new(3, 1, 1).or(Err("no configuration"))?;
-    let mut alone = make_alone(alloc, config, Node::Coordinator(0), &[])?;
-    begins(rt, config, &mut alone);
-    let (pass, log) = alone.cell.into_parts();
-    assert!(rt; pass.seen() == 1);
-    assert!(rt; log.is_some());
+    assert!(rt; steps_once(&rt, rt.alloc())?);
     Ok(())
 }
 
-// The coordinator begins the round in its first step.
-fn begins<R: Wait + Abort>(rt: &R, config: Config, alone: &mut Alone)
+fn steps_once<R: Wait>(rt: &R, alloc: Global) -> Result<bool, Fail> {
+    let config = Config::new(3, 1, 1).or(Err("no configuration"))?;
+    let mut alone = make_alone(alloc, config, Node::Coordinator(0), &[])?;
+    let is_begun = begins(rt, config, &mut alone);
+    let (pass, log) = alone.cell.into_parts();
+    Ok(is_begun && pass.seen() == 1 && log.is_some())
+}
+
+// Whether the coordinator begins the round in its first step.
+fn begins<R: Wait>(rt: &R, config: Config, alone: &mut Alone) -> bool
     requires alone { IsAlone config (Coordinator 0) alone.old.wire alone.old.cell }
     requires one { config.coordinators ≡ 1 }
 {
     let Alone { wire, cell } = alone;
     let messages = count_of(cell.step(rt, wire, Move::Begin(ROUND), &Idle, 0));
-    assert!(rt; messages == Some(1));
-    assert!(rt; (cell.is_down(), cell.posted(), cell.seen()) == (false, 1, 1));
-    assert!(rt; cell.durable().is_some());
-    assert!(rt; cell.learned().is_none());
+    messages == Some(1) && has_begun(cell)
+}
+
+fn has_begun(cell: &Cell<MemDisk>) -> bool {
+    (cell.is_down(), cell.posted(), cell.seen()) == (false, 1, 1)
+        && cell.durable().is_some()
+        && cell.learned().is_none()
 }
 
 #[test]
 fn a_coordinator_waits_and_looks(rt: HostRuntime) -> Result<(), Fail> {
-    check_look(&rt, rt.alloc())
-}
-
-fn check_look<R: Wait + Abort>(rt: &R, alloc: Global) -> Result<(), Fail> {
-    let config = Config::new(3, 1, 1).or(Err("no configuration"))?;
-    let mut alone = make_alone(alloc, config, Node::Coordinator(0), &[])?;
-    waits_and_looks(rt, config, &mut alone);
+    assert!(rt; steps_twice(&rt, rt.alloc())?);
     Ok(())
 }
 
-// The coordinator waits for a message, begins the round, and then sees its own message.
-fn waits_and_looks<R: Wait + Abort>(rt: &R, config: Config, alone: &mut Alone)
+fn steps_twice<R: Wait>(rt: &R, alloc: Global) -> Result<bool, Fail> {
+    let config = Config::new(3, 1, 1).or(Err("no configuration"))?;
+    let mut alone = make_alone(alloc, config, Node::Coordinator(0), &[])?;
+    Ok(waits_and_looks(rt, config, &mut alone))
+}
+
+// Whether the coordinator waits for a message, begins the round, and then sees its own message.
+fn waits_and_looks<R: Wait>(rt: &R, config: Config, alone: &mut Alone) -> bool
     requires alone { IsAlone config (Coordinator 0) alone.old.wire alone.old.cell }
     requires one { config.coordinators ≡ 1 }
 {
     let Alone { wire, cell } = alone;
     let early = is_waiting(cell.step(rt, wire, Move::Take(0), &Idle, 0));
-    assert!(rt; early);
-    assert!(rt; !cell.is_down());
+    if cell.is_down() {
+        return false;
+    }
     let messages = count_of(cell.step(rt, wire, Move::Begin(ROUND), &Idle, 1));
     let first = kind_of(cell.look(rt, wire, 0));
     let second = kind_of(cell.look(rt, wire, 1));
-    assert!(rt; messages == Some(1));
-    assert!(rt; (first, second) == (Some(MsgKind::P1a), None));
+    early && messages == Some(1) && (first, second) == (Some(MsgKind::P1a), None)
 }
 
 // How many messages there are after a step.

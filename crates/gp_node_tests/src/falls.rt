@@ -46,11 +46,14 @@ impl Gate for Counting {
     }
 }
 
+// The call of the disk that fails, and whether the move is kept. The disk's calls 0 to 2 are those of the creation; then the
+// entry is written and synced, and the gate before it.
+static FAILING: [(u64, bool); 4] = [(3, false), (4, false), (5, false), (6, true)];
+
 #[test]
 fn rise_posts_a_fall(rt: HostRuntime) -> Result<(), Fail> {
-    // the disk's calls 0 to 2 are those of the creation; then the entry is written and synced, and the gate before it
-    for (failing, kept) in [(3, false), (4, false), (5, false), (6, true)] {
-        assert!(rt; falls_and_rises(&rt, rt.alloc(), &Counting::new(), failing, kept)?);
+    for (failing, kept) in &FAILING {
+        assert!(rt; falls_and_rises(&rt, rt.alloc(), &Counting::new(), *failing, *kept)?);
     }
     Ok(())
 }

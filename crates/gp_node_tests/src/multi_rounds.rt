@@ -15,15 +15,14 @@ use std::test::Fail;
 // Acceptors, learners and drafts, and the events and messages that these take.
 type Row = (u32, u32, u64, u64, u64);
 
-const FOUR_DRAFTS: Row = (3, 2, 4, 84, 33);
-
-const EIGHT_DRAFTS_OF_FOUR_ACCEPTORS: Row = (4, 3, 8, 219, 67);
-
-const ONE_DRAFT_OF_ONE_LEARNER: Row = (5, 1, 1, 51, 21);
-
-const NO_DRAFT: Row = (3, 1, 0, 21, 9);
-
-const MOST_NODES_AND_DRAFTS: Row = (7, 4, 64, 2946, 657);
+static ROWS: [Row; 5] = [
+    (3, 2, 4, 84, 33),
+    (4, 3, 8, 219, 67),
+    (5, 1, 1, 51, 21),
+    (3, 1, 0, 21, 9),
+    // the most nodes and drafts
+    (7, 4, 64, 2946, 657),
+];
 
 // The drafts `put k 1`, `put k 2` and so on.
 fn puts(alloc: Global, count: u64) -> Result<Vec<Draft>, Fail>
@@ -40,8 +39,8 @@ fn puts(alloc: Global, count: u64) -> Result<Vec<Draft>, Fail>
 
 // Whether driving takes this many events and messages, and every learner then holds all commands.
 #[tactic(auto, using(crate::proofs::Small::few_driven))]
-fn drives(rt: &impl Wait, alloc: Global, row: Row) -> Result<bool, Fail> {
-    let (acceptors, learners, count, events, messages) = row;
+fn drives(rt: &impl Wait, alloc: Global, row: &Row) -> Result<bool, Fail> {
+    let (acceptors, learners, count, events, messages) = *row;
     if count > 64 {
         return Ok(false);
     }
@@ -55,11 +54,8 @@ fn drives(rt: &impl Wait, alloc: Global, row: Row) -> Result<bool, Fail> {
 
 #[test]
 fn each_draft_is_learned_at_once(rt: HostRuntime) -> Result<(), Fail> {
-    let alloc = rt.alloc();
-    assert!(rt; drives(&rt, alloc, FOUR_DRAFTS)?);
-    assert!(rt; drives(&rt, alloc, EIGHT_DRAFTS_OF_FOUR_ACCEPTORS)?);
-    assert!(rt; drives(&rt, alloc, ONE_DRAFT_OF_ONE_LEARNER)?);
-    assert!(rt; drives(&rt, alloc, NO_DRAFT)?);
-    assert!(rt; drives(&rt, alloc, MOST_NODES_AND_DRAFTS)?);
+    for row in &ROWS {
+        assert!(rt; drives(&rt, rt.alloc(), row)?);
+    }
     Ok(())
 }

@@ -35,8 +35,7 @@ fn has_offers(alloc: Global, script: &[u8], count: usize) -> bool {
 #[test]
 fn a_script_has_64_offers(rt: HostRuntime) -> Result<(), Fail> {
     let script = repeated(rt.alloc(), b"offer p0 put a 1\n", 64, b"\n# no more\n")?;
-    assert!(rt; has_offers(rt.alloc(), &script, 64));
-    assert!(rt; MOST_OFFERS == 64);
+    assert!(rt; has_offers(rt.alloc(), &script, 64) && MOST_OFFERS == 64);
     Ok(())
 }
 
@@ -50,8 +49,8 @@ static BEHIND: [(&'static [u8], Reason); 5] = [
     (b"begin c0 1 multi\n", Reason::BadLine),
 ];
 
-fn is_refused_behind(alloc: Global, row: (&[u8], Reason)) -> Result<bool, Fail> {
-    let (line, reason) = row;
+fn is_refused_behind(alloc: Global, row: &(&[u8], Reason)) -> Result<bool, Fail> {
+    let (line, reason) = *row;
     let script = repeated(alloc, b"offer p0 put a 1\n", 64, line)?;
     Ok(is_refused(alloc, &script, 66, reason))
 }
@@ -59,7 +58,7 @@ fn is_refused_behind(alloc: Global, row: (&[u8], Reason)) -> Result<bool, Fail> 
 #[test]
 fn a_65th_offer_is_refused(rt: HostRuntime) -> Result<(), Fail> {
     for row in &BEHIND {
-        assert!(rt; is_refused_behind(rt.alloc(), *row)?);
+        assert!(rt; is_refused_behind(rt.alloc(), row)?);
     }
     Ok(())
 }
@@ -71,28 +70,28 @@ fn a_script_has_1048576_bytes(rt: HostRuntime) -> Result<(), Fail> {
     Ok(())
 }
 
-#[test]
-fn one_byte_more_is_refused(rt: HostRuntime) -> Result<(), Fail> {
-    let script = filled(rt.alloc(), b"nodes 3 1 1\n#", 1_048_577, b"")?;
-    assert!(rt; is_refused(rt.alloc(), &script, 2, Reason::TooLong));
-    Ok(())
+// A script that is too long: these bytes, the length up to which a comment fills them, what stands
+// behind it, and the line that is refused.
+type Long = (&'static [u8], usize, &'static [u8], u64);
+
+static TOO_LONG: [Long; 3] = [
+    // one byte more, also before a configuration
+    (b"nodes 3 1 1\n#", 1_048_577, b"", 2),
+    (b"#", 1_048_577, b"", 1),
+    // a line across the limit is too long before it is bad
+    (b"nodes 3 1 1\n#", 1_048_570, b"\nbegin c0 1 multi\n", 3),
+];
+
+fn is_too_long(alloc: Global, row: &Long) -> Result<bool, Fail> {
+    let (bytes, length, end, line) = *row;
+    let script = filled(alloc, bytes, length, end)?;
+    Ok(is_refused(alloc, &script, line, Reason::TooLong))
 }
 
 #[test]
-fn one_byte_more_is_refused_before_a_configuration(rt: HostRuntime) -> Result<(), Fail> {
-    let script = filled(rt.alloc(), b"#", 1_048_577, b"")?;
-    assert!(rt; is_refused(rt.alloc(), &script, 1, Reason::TooLong));
-    Ok(())
-}
-
-#[test]
-fn a_line_across_the_limit_is_too_long_before_it_is_bad(rt: HostRuntime) -> Result<(), Fail> {
-    let script = filled(
-        rt.alloc(),
-        b"nodes 3 1 1\n#",
-        1_048_570,
-        b"\nbegin c0 1 multi\n",
-    )?;
-    assert!(rt; is_refused(rt.alloc(), &script, 3, Reason::TooLong));
+fn a_script_of_more_bytes_is_refused(rt: HostRuntime) -> Result<(), Fail> {
+    for row in &TOO_LONG {
+        assert!(rt; is_too_long(rt.alloc(), row)?);
+    }
     Ok(())
 }

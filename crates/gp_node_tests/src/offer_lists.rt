@@ -18,14 +18,21 @@ fn is_pushed(list: &mut OfferList, alloc: Global, proposer: u32, body: &[u8]) ->
     }
 }
 
+// Whether two offers that are pushed on an empty list stand there in their order.
+fn takes_two(list: &mut OfferList, alloc: Global) -> bool {
+    list.as_slice().is_empty()
+        && is_pushed(list, alloc, 3, b"first")
+        && is_pushed(list, alloc, 1, b"second")
+        && has_two(list)
+}
+
+fn has_two(list: &OfferList) -> bool {
+    list.as_slice().len() == 2 && has(list, 0, 3, b"first") && has(list, 1, 1, b"second")
+}
+
 #[test]
 fn what_is_pushed_stands_last(rt: HostRuntime) -> Result<(), Fail> {
     let mut list = OfferList::new(rt.alloc());
-    assert!(rt; list.as_slice().is_empty());
-    assert!(rt; is_pushed(&mut list, rt.alloc(), 3, b"first"));
-    assert!(rt; is_pushed(&mut list, rt.alloc(), 1, b"second"));
-    assert!(rt; list.as_slice().len() == 2);
-    assert!(rt; has(&list, 0, 3, b"first"));
-    assert!(rt; has(&list, 1, 1, b"second"));
+    assert!(rt; takes_two(&mut list, rt.alloc()));
     Ok(())
 }

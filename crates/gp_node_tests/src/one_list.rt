@@ -11,7 +11,6 @@ use gp_command::NoMemory;
 use gp_msg::{Node, Record, Records};
 use gp_wire::{Pass, Wire};
 use std::alloc::Global;
-use std::process::Abort;
 use std::sync::Wait;
 use std::test::Fail;
 use std::thread::Threads;
@@ -31,69 +30,105 @@ static EIGHT: [Node; 8] = [
 
 #[test]
 fn two_nodes_post_one_list(rt: HostRuntime) -> Result<(), Fail> {
-    check_closed(&rt, rt.alloc(), &TWO, 400)
+    assert!(rt; is_one_list(&rt, rt.alloc(), &TWO, 400)?);
+    Ok(())
 }
 
 #[test]
 fn eight_nodes_post_one_list(rt: HostRuntime) -> Result<(), Fail> {
-    check_closed(&rt, rt.alloc(), &EIGHT, 200)
+    assert!(rt; is_one_list(&rt, rt.alloc(), &EIGHT, 200)?);
+    Ok(())
 }
 
 #[test]
 fn a_pass_that_has_met_two_sees_all(rt: HostRuntime) -> Result<(), Fail> {
-    check_met(&rt, rt.alloc(), &TWO, 300)
+    assert!(rt; sees_all(&rt, rt.alloc(), &TWO, 300)?);
+    Ok(())
 }
 
 #[test]
 fn a_pass_that_has_met_eight_sees_all(rt: HostRuntime) -> Result<(), Fail> {
-    check_met(&rt, rt.alloc(), &EIGHT, 100)
+    assert!(rt; sees_all(&rt, rt.alloc(), &EIGHT, 100)?);
+    Ok(())
 }
 
-// The closed list begins with what each node read, and has of each node its records in their order.
-fn check_closed<R: Threads + Wait + Abort + Sync>(
+// Whether the closed list begins with what each node read, and has of each node its records in
+// their order.
+fn is_one_list<R: Threads + Wait + Sync>(
     rt: &R,
     alloc: Global,
     nodes: &[Node],
     posts: u32,
-) -> Result<(), Fail>
+) -> Result<bool, Fail>
     requires some { 0 < length nodes.now }
     requires distinct { IsDistinct nodes.now }
 {
     let (wire, posters) = posted(rt, alloc, nodes, posts)?;
     let (records, findings) = closed(alloc, wire, posters)?;
-    let list = marks(alloc, records.as_slice())?;
-    assert!(rt; list.len() == nodes.len().saturating_mul(posts as usize));
-    for found in &findings {
-        assert!(rt; fits(&list, found, posts));
-    }
-    Ok(())
+    let all = nodes.len().saturating_mul(posts as usize);
+    Ok(all_fit(alloc, records.as_slice(), all, &findings, posts)?)
 }
 
-// A pass that has met all others has the whole list, posts after it, and closes the wire.
-fn check_met<R: Threads + Wait + Abort + Sync>(
+// Whether there are this many messages, and what each node found fits.
+fn all_fit(
+    alloc: Global,
+    records: &[Record],
+    all: usize,
+    findings: &[Findings],
+    posts: u32,
+) -> Result<bool, NoMemory> {
+    let list = marks(alloc, records)?;
+    if list.len() != all {
+        return Ok(false);
+    }
+    for found in findings {
+        if !fits(&list, found, posts) {
+            return Ok(false);
+        }
+    }
+    Ok(true)
+}
+
+// Whether a pass that has met all others has the whole list, posts after it, and closes the wire.
+fn sees_all<R: Threads + Wait + Sync>(
     rt: &R,
     alloc: Global,
     nodes: &[Node],
     posts: u32,
-) -> Result<(), Fail>
+) -> Result<bool, Fail>
     requires some { 0 < length nodes.now }
     requires distinct { IsDistinct nodes.now }
 {
     let (wire, posters) = posted(rt, alloc, nodes, posts)?;
     let (passes, findings) = parts(alloc, posters)?;
     let Some(mut whole) = gathered(&wire, passes) else {
-        panic!(rt; "a wire has a pass")
+        return Ok(false);
     };
     let all = nodes.len().saturating_mul(posts as usize) as u64;
-    assert!(rt; whole.seen() == all);
-    assert!(rt; posts_at(rt, alloc, &wire, &mut whole, all));
+    let has_all = whole.seen() == all;
+    let is_posted = posts_at(rt, alloc, &wire, &mut whole, all);
     let records = closed_by(alloc, wire, whole)?;
-    let list = marks(alloc, records.as_slice())?;
-    assert!(rt; list.len() as u64 == all.saturating_add(1));
-    for found in &findings {
-        assert!(rt; list.starts_with(found.read.as_slice()));
+    let is_closed = begins_as_read(alloc, records.as_slice(), all.saturating_add(1), &findings)?;
+    Ok(has_all && is_posted && is_closed)
+}
+
+// Whether there are this many messages, and they begin with what each node read.
+fn begins_as_read(
+    alloc: Global,
+    records: &[Record],
+    all: u64,
+    findings: &[Findings],
+) -> Result<bool, NoMemory> {
+    let list = marks(alloc, records)?;
+    if list.len() as u64 != all {
+        return Ok(false);
     }
-    Ok(())
+    for found in findings {
+        if !list.starts_with(found.read.as_slice()) {
+            return Ok(false);
+        }
+    }
+    Ok(true)
 }
 
 // Whether a pass that has seen all posts a message at this place, and reads it there.

@@ -94,8 +94,8 @@ pub fn is_refused(alloc: Global, script: &[u8], line: u64, reason: Reason) -> bo
 }
 
 // Whether a line is refused after a configuration and an offer.
-fn is_refused_behind(alloc: Global, row: Line) -> Result<bool, Fail> {
-    let (line, reason) = row;
+fn is_refused_behind(alloc: Global, row: &Line) -> Result<bool, Fail> {
+    let (line, reason) = *row;
     let mut script = Vec::from_slice(alloc, b"nodes 3 1 2\noffer p0 get a\n")?;
     script.extend_from_slice(line)?;
     script.extend_from_slice(b"\noffer p0 get b\n")?;
@@ -113,7 +113,7 @@ fn a_script_is_refused_at_its_first_bad_line(rt: HostRuntime) -> Result<(), Fail
 #[test]
 fn a_line_is_refused_for_its_first_reason(rt: HostRuntime) -> Result<(), Fail> {
     for row in &LINES {
-        assert!(rt; is_refused_behind(rt.alloc(), *row)?);
+        assert!(rt; is_refused_behind(rt.alloc(), row)?);
     }
     Ok(())
 }

@@ -86,11 +86,20 @@ type Outcome = (bool, bool, bool, usize);
 fn a_clash_is_answered_by_a_single_round(rt: HostRuntime) -> Result<(), Fail> {
     let alloc = rt.alloc();
     let config = Config::new(3, 2, 1).or(Err("no configuration"))?;
-    for (scene, quiet, calls, learned) in CASES {
-        let outcome = run(&rt, alloc, config, &scene, calls)?;
-        assert!(rt; outcome == (quiet, !quiet, true, learned), "{scene:?}");
+    for case in &CASES {
+        assert!(rt; case_holds(&rt, alloc, config, case)?);
     }
     Ok(())
+}
+
+fn case_holds<R: Threads + Wait + Sync>(
+    rt: &R,
+    alloc: Global,
+    config: Config,
+    case: &Case,
+) -> Result<bool, NoMemory> {
+    let (scene, quiet, calls, learned) = case;
+    Ok(run(rt, alloc, config, scene, calls)? == (*quiet, !*quiet, true, *learned))
 }
 
 #[test]

@@ -7,7 +7,6 @@ use gp_msg::Node;
 use gp_node::{Cell, finish};
 use gp_stage::{CellStage, MOST_ENTRIES, MOST_ROUNDS, settle_cells};
 use std::alloc::Global;
-use std::process::Abort;
 use std::sync::Wait;
 use std::test::Fail;
 
@@ -16,10 +15,11 @@ const EVENTS: u64 = 2 + 1 + 3 * 3 + 3;
 
 #[test]
 fn settling_brings_what_was_offered(rt: HostRuntime) -> Result<(), Fail> {
-    check_settled(&rt, rt.alloc())
+    assert!(rt; settles(&rt, rt.alloc())?);
+    Ok(())
 }
 
-fn check_settled<R: Wait + Abort>(rt: &R, alloc: Global) -> Result<(), Fail> {
+fn settles<R: Wait>(rt: &R, alloc: Global) -> Result<bool, Fail> {
     let disks = Disks {
         limit: 4096,
         failing: None,
@@ -32,19 +32,17 @@ fn check_settled<R: Wait + Abort>(rt: &R, alloc: Global) -> Result<(), Fail> {
     let Ok(mut stage) = CellStage::new(alloc, rt, config, wire, &Idle, cells) else {
         return Err(Fail::from("no stage"));
     };
-    assert!(rt; stage.messages() == 2);
-    assert!(rt; stage.top_count() == 0);
+    let is_offered = stage.messages() == 2 && stage.top_count() == 0;
     let settled = settle_cells(rt, &mut stage);
-    assert!(rt; matches!(settled, Ok(EVENTS)));
-    assert!(rt; stage.top_count() == 1);
+    let is_settled = matches!(settled, Ok(EVENTS)) && stage.top_count() == 1;
     let (wire, cells) = stage.into_parts();
-    assert!(rt; learned_by(&cells) == 2);
+    let is_learned = learned_by(&cells) == 2;
     let Ok(finished) = finish(alloc, wire, cells) else {
         return Err(Fail::from("no end"));
     };
-    assert!(rt; finished.posted.records().len() as u64 == EVENTS + 2);
-    assert!(rt; finished.logs.len() == NODES.len());
-    Ok(())
+    let is_whole = finished.posted.records().len() as u64 == EVENTS + 2;
+    let has_logs = finished.logs.len() == NODES.len();
+    Ok(is_offered && is_settled && is_learned && is_whole && has_logs)
 }
 
 #[test]
@@ -72,8 +70,7 @@ fn faults_end_settling(rt: HostRuntime) -> Result<(), Fail> {
 // The contract of settling cites both constants, so it does not fix them.
 #[test]
 fn the_bounds_of_settling_are_these(rt: HostRuntime) -> Result<(), Fail> {
-    assert_eq!(rt; MOST_ROUNDS, 999_999);
-    assert_eq!(rt; MOST_ENTRIES, 2_147_483_648);
+    assert!(rt; MOST_ROUNDS == 999_999 && MOST_ENTRIES == 2_147_483_648);
     Ok(())
 }
 

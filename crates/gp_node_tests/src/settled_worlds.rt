@@ -11,28 +11,18 @@ use std::alloc::Global;
 use std::sync::Wait;
 use std::test::Fail;
 
-// Acceptors, coordinators and learners; then the events of settling, and the commands that each learner then holds.
-type Row = (u32, u32, u32, u64, usize);
-
-// More records, messages or rounds than the worlds here have.
-#[derive(Debug, Drop)]
-struct Large;
+// The first steps; acceptors, coordinators and learners; then the events of settling, and the commands that each learner then
+// holds.
+type Row = (&'static [Step], u32, u32, u32, u64, usize);
 
 // One pass: four proposals, and 1 + 3 * 3 + 3 * 2 events of a round.
-static FOUR_OFFERS: [Step; 4] = [Put(0, 1), Put(0, 2), Put(1, 3), Put(7, 4)];
-
-const FOUR_OFFERS_SETTLED: Row = (3, 1, 2, 20, 4);
-
-// A pass is made even if nothing was offered.
-const NOTHING_SETTLED: Row = (3, 1, 1, 13, 0);
+const FOUR_OFFERS: &[Step] = &[Put(0, 1), Put(0, 2), Put(1, 3), Put(7, 4)];
 
 // Two passes, and coordinator 0 and three acceptors take a Final between them.
-static CHECKPOINT_BETWEEN_PUTS: [Step; 3] = [Put(0, 1), Checkpoint(0), Put(0, 2)];
-
-const CHECKPOINT_BETWEEN_PUTS_SETTLED: Row = (3, 1, 2, 39, 3);
+const CHECKPOINT_BETWEEN_PUTS: &[Step] = &[Put(0, 1), Checkpoint(0), Put(0, 2)];
 
 // One learner learned all, sent a Final, and forgot in a crash what it had learned. First every node takes that Final.
-static LEARNED_AND_LOST: [Step; 14] = [
+const LEARNED_AND_LOST: &[Step] = &[
     Put(0, 1),
     Checkpoint(0),
     Take(C0, 0),
@@ -49,12 +39,10 @@ static LEARNED_AND_LOST: [Step; 14] = [
     Fall(L0),
 ];
 
-const LEARNED_AND_LOST_SETTLED: Row = (3, 1, 2, 24, 2);
-
 // Coordinator 1 forgets in a crash what is done, and brings the checkpoint of the closed epoch to a vote in the next one.
 // So the first pass closes that epoch with it once more, the second pass closes the next epoch with the new checkpoint, and
 // the third one is the last.
-static OLD_CHECKPOINT: [Step; 25] = [
+const OLD_CHECKPOINT: &[Step] = &[
     Checkpoint(0),
     Take(C0, 0),
     Begin(0, 1),
@@ -82,14 +70,21 @@ static OLD_CHECKPOINT: [Step; 25] = [
     Checkpoint(0),
 ];
 
-const OLD_CHECKPOINT_SETTLED: Row = (3, 2, 1, 54, 2);
+static ROWS: [Row; 5] = [
+    (FOUR_OFFERS, 3, 1, 2, 20, 4),
+    // a pass is made even if nothing was offered
+    (&[], 3, 1, 1, 13, 0),
+    (CHECKPOINT_BETWEEN_PUTS, 3, 1, 2, 39, 3),
+    (LEARNED_AND_LOST, 3, 1, 2, 24, 2),
+    (OLD_CHECKPOINT, 3, 2, 1, 54, 2),
+];
 
-// The number, unless it is large.
-fn few(number: u64) -> Result<u64, Large>
+// The number, unless there are more records, messages or rounds than the worlds here have.
+fn few(number: u64) -> Result<u64, Fail>
     ensures { OnOk result (number ≤ 100000) }
 {
     if number > 100_000 {
-        Err(Large)
+        Err(Fail::from("too many"))
     } else {
         Ok(number)
     }
@@ -97,8 +92,8 @@ fn few(number: u64) -> Result<u64, Large>
 
 // Whether settling after these steps takes this many events, after which every learner holds this
 // many commands.
-fn settles(rt: &impl Wait, alloc: Global, steps: &[Step], row: Row) -> Result<bool, Fail> {
-    let (acceptors, coordinators, learners, events, commands) = row;
+fn settles(rt: &impl Wait, alloc: Global, row: &Row) -> Result<bool, Fail> {
+    let (steps, acceptors, coordinators, learners, events, commands) = *row;
     let config = Config::new(acceptors, coordinators, learners)?;
     let mut world = World::new(alloc, config)?;
     if !all_happen(&mut world, alloc, steps)? {
@@ -124,26 +119,11 @@ fn takes_to_settle(
     Ok(made == events && all_hold(world, commands))
 }
 
+// A pass brings all without checkpoints, and another one follows each that closed an epoch.
 #[test]
-fn one_pass_brings_all_without_checkpoints(rt: HostRuntime) -> Result<(), Fail> {
-    let alloc = rt.alloc();
-    assert!(rt; settles(&rt, alloc, &FOUR_OFFERS, FOUR_OFFERS_SETTLED)?);
-    assert!(rt; settles(&rt, alloc, &[], NOTHING_SETTLED)?);
-    Ok(())
-}
-
-#[test]
-fn a_pass_follows_each_that_closed_an_epoch(rt: HostRuntime) -> Result<(), Fail> {
-    let alloc = rt.alloc();
-    assert!(rt;
-        settles(
-            &rt,
-            alloc,
-            &CHECKPOINT_BETWEEN_PUTS,
-            CHECKPOINT_BETWEEN_PUTS_SETTLED
-        )?
-    );
-    assert!(rt; settles(&rt, alloc, &LEARNED_AND_LOST, LEARNED_AND_LOST_SETTLED)?);
-    assert!(rt; settles(&rt, alloc, &OLD_CHECKPOINT, OLD_CHECKPOINT_SETTLED)?);
+fn settling_brings_all_in_passes(rt: HostRuntime) -> Result<(), Fail> {
+    for row in &ROWS {
+        assert!(rt; settles(&rt, rt.alloc(), row)?);
+    }
     Ok(())
 }

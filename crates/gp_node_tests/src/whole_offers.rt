@@ -24,7 +24,7 @@ offer p6 cas e 1 2
 offer p7 copy f g
 ";
 
-static EIGHT_OFFERS: [Row; 8] = [
+const EIGHT_OFFERS: &[Row] = &[
     (0, b"put a 1", false, 1),
     (1, b"add b 2", false, 1),
     (2, b"add b 3", false, 1),
@@ -48,7 +48,7 @@ offer p2 put key_1 18446744073709551615
 offer p2 checkpoint
 #";
 
-static SPARSE_OFFERS: [Row; 2] = [
+const SPARSE_OFFERS: &[Row] = &[
     (2, b"put key_1 18446744073709551615", false, 1),
     (2, b"checkpoint", true, 0),
 ];
@@ -61,22 +61,35 @@ offer p4 add n 1
 offer p5 add n 1
 offer p0 copy n n";
 
-static AGAIN_OFFERS: [Row; 4] = [
+const AGAIN_OFFERS: &[Row] = &[
     (5, b"add n 1", false, 1),
     (4, b"add n 1", false, 1),
     (5, b"add n 1", false, 1),
     (0, b"copy n n", false, 1),
 ];
 
-static NO_OFFERS: [Row; 0] = [];
+// A script, its configuration, and what it offers.
+type Script = (&'static [u8], Counts, &'static [Row]);
+
+static SCRIPTS: [Script; 5] = [
+    // offers come in their order
+    (EIGHT, (3, 3, 2), EIGHT_OFFERS),
+    // comments and empty lines are passed over
+    (SPARSE, (7, 5, 4), SPARSE_OFFERS),
+    // a proposer is given one operation twice
+    (AGAIN, (3, 2, 1), AGAIN_OFFERS),
+    // a configuration alone offers nothing
+    (b"nodes 3 1 2", (3, 1, 2), &[]),
+    (b"\nnodes 4 2 1\n\n", (4, 2, 1), &[]),
+];
 
 fn is_configured(config: &Config, counts: Counts) -> bool {
     (config.acceptors(), config.coordinators(), config.learners()) == counts
 }
 
-fn is_offered(offer: &(u32, Draft), row: Row) -> bool {
+fn is_offered(offer: &(u32, Draft), row: &Row) -> bool {
     let (proposer, draft) = offer;
-    let (number, body, checkpoint, touches) = row;
+    let (number, body, checkpoint, touches) = *row;
     *proposer == number
         && draft.body() == body
         && draft.is_checkpoint() == checkpoint
@@ -88,14 +101,15 @@ fn are_offered(offers: &[(u32, Draft)], rows: &[Row]) -> bool {
         return false;
     }
     for i in 0..rows.len() {
-        if !is_offered(&offers[i], rows[i]) {
+        if !is_offered(&offers[i], &rows[i]) {
             return false;
         }
     }
     true
 }
 
-fn says(alloc: Global, script: &[u8], counts: Counts, rows: &[Row]) -> bool {
+fn says(alloc: Global, row: &Script) -> bool {
+    let (script, counts, rows) = *row;
     match read_offers(alloc, script) {
         Ok(offers) => {
             is_configured(&offers.config, counts) && are_offered(offers.list.as_slice(), rows)
@@ -105,26 +119,9 @@ fn says(alloc: Global, script: &[u8], counts: Counts, rows: &[Row]) -> bool {
 }
 
 #[test]
-fn eight_offers_come_in_their_order(rt: HostRuntime) -> Result<(), Fail> {
-    assert!(rt; says(rt.alloc(), EIGHT, (3, 3, 2), &EIGHT_OFFERS));
-    Ok(())
-}
-
-#[test]
-fn comments_and_empty_lines_are_passed_over(rt: HostRuntime) -> Result<(), Fail> {
-    assert!(rt; says(rt.alloc(), SPARSE, (7, 5, 4), &SPARSE_OFFERS));
-    Ok(())
-}
-
-#[test]
-fn a_proposer_is_given_one_operation_twice(rt: HostRuntime) -> Result<(), Fail> {
-    assert!(rt; says(rt.alloc(), AGAIN, (3, 2, 1), &AGAIN_OFFERS));
-    Ok(())
-}
-
-#[test]
-fn a_configuration_alone_offers_nothing(rt: HostRuntime) -> Result<(), Fail> {
-    assert!(rt; says(rt.alloc(), b"nodes 3 1 2", (3, 1, 2), &NO_OFFERS));
-    assert!(rt; says(rt.alloc(), b"\nnodes 4 2 1\n\n", (4, 2, 1), &NO_OFFERS));
+fn a_script_says_what_it_offers(rt: HostRuntime) -> Result<(), Fail> {
+    for row in &SCRIPTS {
+        assert!(rt; says(rt.alloc(), row));
+    }
     Ok(())
 }
