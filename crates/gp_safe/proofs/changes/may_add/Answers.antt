@@ -1,4 +1,4 @@
-use Rattle.std.proofs.Common.{Bool, arith}
+use Rattle.std.proofs.Common.{Bool, arith, rules}
 use Rattle.gp_command.specs.declared.command.Command.{Command}
 use Rattle.gp_history.specs.Sequence.{history_of}
 use Rattle.gp_safe.specs.Changes.{may_add}
@@ -12,3 +12,6 @@ pub returns-clause-nothing : goal.returns-clause-nothing
 returns-clause-nothing g c = λ _.
     let q : Command → Bool = may_add (history_of c.args.known.now) (g.V.Values.value c.args.values.now) (g.V.Values.within c.args.values.now) c.args.n c.args.size in
     none_from q c.args.value.now c.args.from c.loop-i.i c.loop-i.invariant (omega (arith, c.len-end.ensures.items, c.loop-i-test.false))
+
+pub loop-i-preserved : goal.loop-i-preserved
+loop-i-preserved g c = search rules
