@@ -1,10 +1,13 @@
-use Rattle.std.proofs.Common.{◌≡◌, ◌+◌, true, false, take, length, sym, ap, ◌∙◌, arith}
+use Rattle.std.proofs.Common.{rules, ◌≡◌, ◌+◌, true, false, take, length, sym, ap, ◌∙◌, arith}
 use Rattle.std.specs.List.{find}
 use Rattle.std.proofs.Math.Seq.{take-length}
 use Rattle.gp_command.specs.Views.{DraftView}
 use Rattle.gp_epoch.proofs.Checkpoints.{is_checkpoint}
 use Rattle.gp_epoch.proofs.Walking.{first_of_sequence, found_next, found_whole, none_next}
 use Rattle.gp_epoch.proofs.cutting.first_checkpoint.Goals as goal
+
+pub loop-i-init : goal.loop-i-init
+loop-i-init g c = search rules
 
 pub returns-then-is_checkpoint : goal.returns-then-is_checkpoint
 returns-then-is_checkpoint g c =
