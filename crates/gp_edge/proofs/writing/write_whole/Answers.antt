@@ -1,4 +1,4 @@
-use Rattle.std.proofs.Common.{◌∙◌, arith}
+use Rattle.std.proofs.Common.{◌∙◌, arith, rules}
 use Rattle.std.proofs.lemmas.List.{length-drop}
 use Rattle.gp_edge.proofs.Pieces.{write_more, rest_piece}
 use Rattle.gp_edge.proofs.writing.write_whole.Goals as goal
@@ -15,3 +15,6 @@ loop-done-preserved g c =
       steady = c.in_ok-count.ensures.steady (λ failed. failed) (λ none. absurd (omega (arith, none.0, c.if-count-eq0.false))) ∙ c.loop-done.invariant.steady;
       untouched = λ none. absurd (omega (arith, none, c.if-count-eq0.false));
     }
+
+pub returns-clause-failed : goal.returns-clause-failed
+returns-clause-failed g c = search rules
