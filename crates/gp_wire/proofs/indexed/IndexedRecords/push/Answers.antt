@@ -2,6 +2,9 @@ use Rattle.std.proofs.Common.{◌≡◌, ap, ◌∙◌, length, rules}
 use Rattle.gp_wire.proofs.Placing.{placed}
 use Rattle.gp_wire.proofs.indexed.IndexedRecords.push.Goals as goal
 
+pub returns-clause-pushed : goal.returns-clause-pushed
+returns-clause-pushed c = search rules
+
 pub invariant_of-self-2 : goal.invariant_of-self-2
 invariant_of-self-2 c =
     let here : c.len.result ≡ length c.reserve.new.self.items = search rules in
