@@ -1,3 +1,4 @@
+use Rattle.std.proofs.Common.{rules}
 use Rattle.gp_shelf.proofs.Segments.{taken_first}
 use Rattle.gp_shelf.proofs.making.make_first.Goals as goal
 
@@ -17,3 +18,6 @@ returns-in-Ok-clause-made g c = record {
     steady = c.in-Ok.ensures.cause.steady (λ fails. fails);
   };
 }
+
+pub returns-in-Err-clause-back : goal.returns-in-Err-clause-back
+returns-in-Err-clause-back g c = search rules
