@@ -1,4 +1,4 @@
-use Rattle.std.proofs.Common.{◌≡◌, ap, ◌∙◌, subst, length, take, arith, None}
+use Rattle.std.proofs.Common.{◌≡◌, ap, ◌∙◌, subst, length, take, arith, None, rules}
 use Rattle.std.specs.List.{All}
 use Rattle.std.proofs.lemmas.List.Elements.{All-more}
 use Rattle.gp_work.specs.declared.job.Job.{Job}
@@ -16,3 +16,6 @@ pub returns : goal.returns
 returns g c _ =
     let end : c.loop-job.job-index ≡ length c.args.jobs.now = let a = c.loop-job-test.false in let b = c.loop-job.auto.job-index-end in omega arith in
     subst (All (λ (k : Job g.row.P.Denot). k.fault ≡ None)) (ap (λ i. take i c.args.jobs.now) end ∙ take_whole c.args.jobs.now) c.loop-job.invariant
+
+pub returns-then-is_some : goal.returns-then-is_some
+returns-then-is_some g c = search rules
