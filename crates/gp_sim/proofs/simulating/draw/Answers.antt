@@ -1,4 +1,4 @@
-use Rattle.std.proofs.Common.{suc, ap, ◌∙◌, arith}
+use Rattle.std.proofs.Common.{suc, ap, ◌∙◌, arith, rules}
 use Rattle.std.specs.Option.{is_some}
 use Rattle.gp_world.specs.State.{entries_of}
 use Rattle.gp_random.specs.Plans.{plan_of}
@@ -32,3 +32,6 @@ returns-clause-run c =
     let so_far = c.loop-world.invariant.1 in
     drawn_all c.args.seed c.args.commands so_far.0 c.loop-world.workload c.next.new.self (entries_of c.loop-world.world) c.in_ok-event.field-0 c.messages.result
     c.requires.few so_far.1 c.messages.ensures c.in_ok-event.ensures.event c.in_ok-event.ensures.next c.in_default.is (c.in_ok-event.ensures.ended (ap is_some c.in_default.is))
+
+pub loop-world-init : goal.loop-world-init
+loop-world-init c = search rules
