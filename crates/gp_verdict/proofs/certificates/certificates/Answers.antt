@@ -1,4 +1,4 @@
-use Rattle.std.proofs.Common.{◌≡◌, ◌++◌, ◌+◌, List, ℕ, suc, [], ap, subst, ◌∙◌, append_assoc, arith}
+use Rattle.std.proofs.Common.{◌≡◌, ◌++◌, ◌+◌, List, ℕ, suc, [], ap, subst, ◌∙◌, append_assoc, arith, rules}
 use Rattle.std.specs.Prelude.{codes}
 use Rattle.gp_world.specs.State.{entries_of}
 use Rattle.gp_verdict.specs.Certified.{AreFirstLines, NoLearner, OneMore}
@@ -19,3 +19,6 @@ loop-learner-preserved c =
       c.in_ok-extend_from_slice-2.ensures.items ∙ ap (λ (t : List ℕ). c.loop-learner.text.items ++ t) c.deref.ensures.value
           ∙ ap (λ (t : List ℕ). t ++ c.in_ok-lines.lines.items) before.2 ∙ append_assoc (codes "legal\n") before.0 c.in_ok-lines.lines.items,
     )
+
+pub learner_lines-requires : goal.learner_lines-requires
+learner_lines-requires c = search rules
