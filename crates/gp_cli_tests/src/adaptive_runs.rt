@@ -4,6 +4,7 @@ use crate::many_runs::{config_of, script_with};
 use crate::nodes::{
     CHECKPOINT, EIGHT, Printed, count, is_feed, parts_of, plays_again, show_eight, shows,
 };
+use crate::outcome::holds;
 use crate::stage::{CALM, Finished, served};
 use gp_round::Mode;
 use std::alloc::Global;
@@ -252,8 +253,7 @@ fn clashes_lead_to_a_multi_round_and_quiet_leads_back(rt: HostRuntime) -> Result
 // In each run the threads meet in another way, and often the proposals of the coordinators clash too.
 #[test]
 fn a_clash_in_a_multi_round_leads_to_a_single_one(rt: HostRuntime) -> Result<(), Fail> {
-    assert!(rt; meets_a_clash(&rt, rt.alloc())?);
-    Ok(())
+    holds(&rt, meets_a_clash(&rt, rt.alloc()))
 }
 
 // Whether one of many runs begins a single round, and no run before it is refused by the audit.

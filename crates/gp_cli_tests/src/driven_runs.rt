@@ -1,4 +1,5 @@
 //! Commands that are driven in a multi round, with a silent coordinator.
+use crate::outcome::holds;
 use crate::stage::{CALM, all_print, served};
 use std::alloc::Global;
 use std::sync::Wait;
@@ -30,8 +31,7 @@ static WHOLE_TEXTS: [(&[&str], &[u8]); 2] = [
 
 #[test]
 fn commands_are_driven_to_each_learner(rt: HostRuntime) -> Result<(), Fail> {
-    assert!(rt; all_print(&rt, rt.alloc(), &WHOLE_TEXTS)?);
-    Ok(())
+    holds(&rt, all_print(&rt, rt.alloc(), &WHOLE_TEXTS))
 }
 
 /// The words of a command, and the last line that it prints: `3 + 5A + AL + K(3 + 2A + AL)` events and

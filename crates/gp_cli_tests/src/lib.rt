@@ -29,6 +29,8 @@ mod many_runs;
 #[cfg(test)]
 mod nodes;
 #[cfg(test)]
+mod outcome;
+#[cfg(test)]
 mod puts;
 #[cfg(test)]
 mod reads_in_one_thread;

@@ -1,4 +1,5 @@
 //! Nodes that run in threads.
+use crate::outcome::holds;
 use crate::stage::{CALM, Special, served};
 use gp_cli::{Ran, Trail};
 use gp_edge::MemDisk;
@@ -216,8 +217,7 @@ fn what_is_offered_is_learned_by_all(rt: HostRuntime) -> Result<(), Fail> {
 
 #[test]
 fn a_log_has_no_room_for_all_commands(rt: HostRuntime) -> Result<(), Fail> {
-    assert!(rt; fills_a_log(&rt, rt.alloc())?);
-    Ok(())
+    holds(&rt, fills_a_log(&rt, rt.alloc()))
 }
 
 fn fills_a_log<W: Threads + Wait + Sync>(rt: &W, alloc: Global) -> Result<bool, Fail> {
@@ -232,8 +232,7 @@ fn fills_a_log<W: Threads + Wait + Sync>(rt: &W, alloc: Global) -> Result<bool, 
 // All commands need 202 bytes, which fit under the limit only if no other entry is there.
 #[test]
 fn a_log_without_room_for_one_more_entry_is_renewed(rt: HostRuntime) -> Result<(), Fail> {
-    assert!(rt; renews_a_log(&rt, rt.alloc())?);
-    Ok(())
+    holds(&rt, renews_a_log(&rt, rt.alloc()))
 }
 
 // Whether both learners show the eight commands, and an entry was written into the second area.
@@ -249,8 +248,7 @@ fn prints_eight(alloc: Global, text: &[u8]) -> Result<bool, Fail> {
 
 #[test]
 fn a_script_of_run_has_offers_alone(rt: HostRuntime) -> Result<(), Fail> {
-    assert!(rt; refuses_a_beginning(&rt, rt.alloc())?);
-    Ok(())
+    holds(&rt, refuses_a_beginning(&rt, rt.alloc()))
 }
 
 fn refuses_a_beginning<W: Threads + Wait + Sync>(rt: &W, alloc: Global) -> Result<bool, Fail> {

@@ -1,4 +1,5 @@
 //! Workloads of a seed.
+use crate::outcome::holds;
 use crate::stage::{CALM, all_print, served};
 use std::alloc::Global;
 use std::sync::Wait;
@@ -28,8 +29,7 @@ static SUMMARIES: [(&[&str], &[u8]); 4] = [
 
 #[test]
 fn a_seed_has_one_summary(rt: HostRuntime) -> Result<(), Fail> {
-    assert!(rt; all_print(&rt, rt.alloc(), &SUMMARIES)?);
-    Ok(())
+    holds(&rt, all_print(&rt, rt.alloc(), &SUMMARIES))
 }
 
 // Whether both learners hold all commands of this seed, and show the same.

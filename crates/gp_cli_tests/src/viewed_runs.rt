@@ -1,5 +1,6 @@
 //! Nodes that run in threads while two readers view a key.
 use crate::nodes::{EIGHT, Printed, count, is_feed, parts_of, plays_again, show_eight};
+use crate::outcome::holds;
 use crate::stage::{CALM, served};
 use std::alloc::Global;
 use std::sync::Wait;
@@ -201,6 +202,5 @@ fn ends_with_no_looks<W: Threads + Wait + Sync>(rt: &W, alloc: Global) -> Result
 
 #[test]
 fn a_disk_that_fails_ends_the_run_with_no_looks(rt: HostRuntime) -> Result<(), Fail> {
-    assert!(rt; ends_with_no_looks(&rt, rt.alloc())?);
-    Ok(())
+    holds(&rt, ends_with_no_looks(&rt, rt.alloc()))
 }

@@ -1,4 +1,5 @@
 //! Disks, call by call.
+use crate::outcome::holds;
 use gp_edge::{CalmDisk, Disk, FileDisk, Gate, Idle, MemDisk, Refused};
 use gp_msg::Node;
 use std::alloc::Global;
@@ -49,8 +50,7 @@ fn scheduled_is_a_disk(alloc: Global) -> Result<bool, Fail> {
 
 #[test]
 fn a_disk_fails_at_the_chosen_calls_and_at_no_other(rt: HostRuntime) -> Result<(), Fail> {
-    assert!(rt; fails_every_second_time(rt.alloc())?);
-    Ok(())
+    holds(&rt, fails_every_second_time(rt.alloc()))
 }
 
 fn fails_every_second_time(alloc: Global) -> Result<bool, Fail> {

@@ -21,6 +21,8 @@ mod logs_that_fail;
 #[cfg(test)]
 mod logs_that_grow;
 #[cfg(test)]
+mod outcome;
+#[cfg(test)]
 mod parts;
 #[cfg(test)]
 mod sources_and_sinks;

@@ -1,4 +1,5 @@
 //! Logs that are created, appended to, renewed and opened again.
+use crate::outcome::holds;
 use crate::parts::{
     append, append_part, broken, created, opens, part, put, renew_part, single, votes,
 };
@@ -89,8 +90,7 @@ fn changes_its_area(alloc: Global) -> Result<bool, Fail> {
 
 #[test]
 fn a_renewed_log_stands_in_the_other_area(rt: HostRuntime) -> Result<(), Fail> {
-    assert!(rt; changes_its_area(rt.alloc())?);
-    Ok(())
+    holds(&rt, changes_its_area(rt.alloc()))
 }
 
 // The part whose vote has these commands.
@@ -157,8 +157,7 @@ fn ends_with_three(alloc: Global, disk: CalmDisk) -> bool {
 
 #[test]
 fn what_is_added_stands_in_the_order_of_the_whole_vote(rt: HostRuntime) -> Result<(), Fail> {
-    assert!(rt; stands_in_order(rt.alloc())?);
-    Ok(())
+    holds(&rt, stands_in_order(rt.alloc()))
 }
 
 fn stands_in_order(alloc: Global) -> Result<bool, Fail> {

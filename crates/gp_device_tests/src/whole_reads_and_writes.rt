@@ -1,4 +1,5 @@
 //! Whole reads and whole writes, in pieces and with failing calls.
+use crate::outcome::holds;
 use gp_edge::{
     CalmSink, CalmSource, MemSink, MemSource, ReadSource, Refused, Source, WriteSink, read_up_to,
     write_whole,
@@ -53,20 +54,17 @@ static AT_THE_LIMIT: [TwoReads; 3] = [
 
 #[test]
 fn a_source_is_read_to_its_end_or_to_the_limit(rt: HostRuntime) -> Result<(), Fail> {
-    assert!(rt; are_read(rt.alloc(), &TO_THE_END_OR_TO_THE_LIMIT)?);
-    Ok(())
+    holds(&rt, are_read(rt.alloc(), &TO_THE_END_OR_TO_THE_LIMIT))
 }
 
 #[test]
 fn each_read_may_fail(rt: HostRuntime) -> Result<(), Fail> {
-    assert!(rt; are_read(rt.alloc(), &EACH_READ_FAILS)?);
-    Ok(())
+    holds(&rt, are_read(rt.alloc(), &EACH_READ_FAILS))
 }
 
 #[test]
 fn no_read_follows_the_limit(rt: HostRuntime) -> Result<(), Fail> {
-    assert!(rt; are_read(rt.alloc(), &AT_THE_LIMIT)?);
-    Ok(())
+    holds(&rt, are_read(rt.alloc(), &AT_THE_LIMIT))
 }
 
 fn are_read(alloc: Global, rows: &[TwoReads]) -> Result<bool, Fail> {
@@ -135,14 +133,12 @@ static EACH_WRITE_FAILS: [Row; 4] = [
 
 #[test]
 fn a_text_is_written_in_pieces(rt: HostRuntime) -> Result<(), Fail> {
-    assert!(rt; are_written(rt.alloc(), &IN_PIECES)?);
-    Ok(())
+    holds(&rt, are_written(rt.alloc(), &IN_PIECES))
 }
 
 #[test]
 fn each_write_may_fail(rt: HostRuntime) -> Result<(), Fail> {
-    assert!(rt; are_written(rt.alloc(), &EACH_WRITE_FAILS)?);
-    Ok(())
+    holds(&rt, are_written(rt.alloc(), &EACH_WRITE_FAILS))
 }
 
 fn are_written(alloc: Global, rows: &[Row]) -> Result<bool, Fail> {

@@ -4,6 +4,7 @@ ghost use Rattle.gp_msg.specs.declared.node.Node.TheVariants.{Coordinator};
 ghost use Rattle.gp_node_tests.specs.Alone.{IsAlone};
 
 use crate::alone::{Alone, make_alone};
+use crate::outcome::holds;
 use gp_command::NoMemory;
 use gp_edge::{Idle, MemDisk};
 use gp_msg::{Event, Msg, MsgKind, Node};
@@ -22,8 +23,7 @@ const ROUND: Round = Round {
 
 #[test]
 fn a_plan_shows_its_record(rt: HostRuntime) -> Result<(), Fail> {
-    assert!(rt; begins_with_one_message(rt.alloc())?);
-    Ok(())
+    holds(&rt, begins_with_one_message(rt.alloc()))
 }
 
 fn begins_with_one_message(alloc: Global) -> Result<bool, Fail> {
@@ -46,8 +46,7 @@ fn plans_one_message(config: Config, alone: &Alone) -> Result<bool, Fail>
 
 #[test]
 fn a_coordinator_steps(rt: HostRuntime) -> Result<(), Fail> {
-    assert!(rt; steps_once(&rt, rt.alloc())?);
-    Ok(())
+    holds(&rt, steps_once(&rt, rt.alloc()))
 }
 
 fn steps_once<R: Wait>(rt: &R, alloc: Global) -> Result<bool, Fail> {
@@ -76,8 +75,7 @@ fn has_begun(cell: &Cell<MemDisk>) -> bool {
 
 #[test]
 fn a_coordinator_waits_and_looks(rt: HostRuntime) -> Result<(), Fail> {
-    assert!(rt; steps_twice(&rt, rt.alloc())?);
-    Ok(())
+    holds(&rt, steps_twice(&rt, rt.alloc()))
 }
 
 fn steps_twice<R: Wait>(rt: &R, alloc: Global) -> Result<bool, Fail> {

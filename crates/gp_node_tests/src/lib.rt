@@ -22,6 +22,8 @@ mod offer_lists;
 #[cfg(test)]
 mod one_list;
 #[cfg(test)]
+mod outcome;
+#[cfg(test)]
 mod phases;
 #[cfg(test)]
 mod posters;

@@ -4,6 +4,7 @@ ghost use Rattle.gp_wire.specs.Lists.{IsDistinct};
 ghost use Rattle.gp_node_tests.specs.Posters.{AreOfNodes, IsReady, IsStill, HasAll};
 ghost use Rattle.gp_node_tests.specs.declared.posters.Poster.{Poster};
 
+use crate::outcome::holds;
 use crate::posters::{
     AllLegal, Findings, Mark, Poster, append_numbered, mark, parts, posted, read_mark,
 };
@@ -30,26 +31,22 @@ static EIGHT: [Node; 8] = [
 
 #[test]
 fn two_nodes_post_one_list(rt: HostRuntime) -> Result<(), Fail> {
-    assert!(rt; is_one_list(&rt, rt.alloc(), &TWO, 400)?);
-    Ok(())
+    holds(&rt, is_one_list(&rt, rt.alloc(), &TWO, 400))
 }
 
 #[test]
 fn eight_nodes_post_one_list(rt: HostRuntime) -> Result<(), Fail> {
-    assert!(rt; is_one_list(&rt, rt.alloc(), &EIGHT, 200)?);
-    Ok(())
+    holds(&rt, is_one_list(&rt, rt.alloc(), &EIGHT, 200))
 }
 
 #[test]
 fn a_pass_that_has_met_two_sees_all(rt: HostRuntime) -> Result<(), Fail> {
-    assert!(rt; sees_all(&rt, rt.alloc(), &TWO, 300)?);
-    Ok(())
+    holds(&rt, sees_all(&rt, rt.alloc(), &TWO, 300))
 }
 
 #[test]
 fn a_pass_that_has_met_eight_sees_all(rt: HostRuntime) -> Result<(), Fail> {
-    assert!(rt; sees_all(&rt, rt.alloc(), &EIGHT, 100)?);
-    Ok(())
+    holds(&rt, sees_all(&rt, rt.alloc(), &EIGHT, 100))
 }
 
 // Whether the closed list begins with what each node read, and has of each node its records in

@@ -1,4 +1,5 @@
 //! Cells that are settled, and faults that end it.
+use crate::outcome::holds;
 use crate::whole_configuration::{Disks, NODES, Scene, make_scene};
 use gp_driver::{Stage, StageFault};
 use gp_edge::{Idle, MemDisk};
@@ -15,8 +16,7 @@ const EVENTS: u64 = 2 + 1 + 3 * 3 + 3;
 
 #[test]
 fn settling_brings_what_was_offered(rt: HostRuntime) -> Result<(), Fail> {
-    assert!(rt; settles(&rt, rt.alloc())?);
-    Ok(())
+    holds(&rt, settles(&rt, rt.alloc()))
 }
 
 fn settles<R: Wait>(rt: &R, alloc: Global) -> Result<bool, Fail> {
@@ -70,8 +70,10 @@ fn faults_end_settling(rt: HostRuntime) -> Result<(), Fail> {
 // The contract of settling cites both constants, so it does not fix them.
 #[test]
 fn the_bounds_of_settling_are_these(rt: HostRuntime) -> Result<(), Fail> {
-    assert!(rt; MOST_ROUNDS == 999_999 && MOST_ENTRIES == 2_147_483_648);
-    Ok(())
+    holds(
+        &rt,
+        Ok(MOST_ROUNDS == 999_999 && MOST_ENTRIES == 2_147_483_648),
+    )
 }
 
 // The fault with which settling over these disks ends.

@@ -1,5 +1,6 @@
 //! The steps of acceptor 1 of three, with three coordinators.
 use crate::acceptors::Step::{Crashes, IsCopied, Keeps, Takes};
+use crate::outcome::holds;
 use crate::scene::Text::{self, Final, P1a, P1b, P2a, P2b, Propose};
 use crate::scene::{
     FAST_1, MULTI_1, MULTI_2, SINGLE_1, SINGLE_2, UNOWNED, ZERO, closed_by, history,
@@ -292,6 +293,5 @@ fn opens_and_falls_twice(alloc: Global) -> Result<bool, Fail> {
 
 #[test]
 fn a_crash_keeps_the_part_of_a_later_step(rt: HostRuntime) -> Result<(), Fail> {
-    assert!(rt; opens_and_falls_twice(rt.alloc())?);
-    Ok(())
+    holds(&rt, opens_and_falls_twice(rt.alloc()))
 }

@@ -3,6 +3,7 @@ ghost use Rattle.std.specs.Prelude.{◌≡◌, ◌<◌, ◌≤◌};
 ghost use Rattle.gp_round.specs.declared.round.Mode.TheVariants.{Single};
 ghost use Rattle.gp_adapt.specs.Choices.{mode_after};
 
+use crate::outcome::holds;
 use gp_adapt::{Adapt, ChooseMode, Scene};
 use gp_round::{Config, LAST_COUNT, Mode, Round};
 use std::alloc::Global;
@@ -139,8 +140,7 @@ fn no_round_follows_the_greatest_count(rt: HostRuntime) -> Result<(), Fail> {
 
 #[test]
 fn after_a_reset_the_next_call_is_the_first_one(rt: HostRuntime) -> Result<(), Fail> {
-    assert!(rt; begins_anew(rt.alloc())?);
-    Ok(())
+    holds(&rt, begins_anew(rt.alloc()))
 }
 
 fn begins_anew(alloc: Global) -> Result<bool, Fail> {

@@ -3,6 +3,7 @@ ghost use Rattle.std.specs.Prelude.{◌≡◌, true};
 ghost use Rattle.gp_round.specs.Configs.{is_owner};
 
 use crate::coordinators::Step::{Crashes, IsCopied, Keeps, Takes};
+use crate::outcome::holds;
 use crate::scene::Text::{self, Final, P1a, P1b, P2a, P2b, Propose};
 use crate::scene::{
     FAST_1, MULTI_1, MULTI_2, SINGLE_1, SINGLE_2, ZERO, closed_by, is_of_coordinator, is_sent,
@@ -307,8 +308,7 @@ fn begins_a_round_once(alloc: Global, round: Round) -> Result<bool, Fail> {
 
 #[test]
 fn a_round_is_begun_once(rt: HostRuntime) -> Result<(), Fail> {
-    assert!(rt; begins_a_round_once(rt.alloc(), SINGLE_1)?);
-    Ok(())
+    holds(&rt, begins_a_round_once(rt.alloc(), SINGLE_1))
 }
 
 #[test]

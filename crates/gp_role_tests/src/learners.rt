@@ -4,6 +4,7 @@ ghost use Rattle.gp_msg.specs.Messages.{message_of};
 ghost use Rattle.gp_learner.specs.Epochs.{CanTake};
 
 use crate::learners::Step::{Crashes, IsCopied, Takes};
+use crate::outcome::holds;
 use crate::scene::Text::{self, Final, P1a, P1b, P2a, P2b, Propose};
 use crate::scene::{FAST_1, SINGLE_1, SINGLE_2, ZERO, epoch_of, is_sent, is_word, message, three};
 use gp_history::Hist;
@@ -237,6 +238,5 @@ fn opens_and_passes_over(alloc: Global) -> Result<bool, Fail> {
 
 #[test]
 fn a_final_of_the_greatest_epoch_is_of_another(rt: HostRuntime) -> Result<(), Fail> {
-    assert!(rt; opens_and_passes_over(rt.alloc())?);
-    Ok(())
+    holds(&rt, opens_and_passes_over(rt.alloc()))
 }

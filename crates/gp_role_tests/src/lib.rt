@@ -14,6 +14,8 @@ mod learners;
 #[cfg(test)]
 mod messages;
 #[cfg(test)]
+mod outcome;
+#[cfg(test)]
 mod policies;
 #[cfg(test)]
 mod proposers;

@@ -1,4 +1,5 @@
 //! Kinds of messages, who reads them, and copies.
+use crate::outcome::holds;
 use crate::scene::{
     FAST_1, SINGLE_1, Text, ZERO, are_alike, draft, history, is_of_acceptor, message,
 };
@@ -18,8 +19,7 @@ static KINDS: [(Text, u32, MsgKind); 6] = [
 
 #[test]
 fn a_message_has_a_kind_and_copies(rt: HostRuntime) -> Result<(), Fail> {
-    assert!(rt; all_have_kinds_and_copies(rt.alloc())?);
-    Ok(())
+    holds(&rt, all_have_kinds_and_copies(rt.alloc()))
 }
 
 fn all_have_kinds_and_copies(alloc: Global) -> Result<bool, Fail> {
@@ -76,8 +76,7 @@ fn all_are_read() -> bool {
 
 #[test]
 fn durable_parts_have_copies(rt: HostRuntime) -> Result<(), Fail> {
-    assert!(rt; copies_a_vote(rt.alloc())?);
-    Ok(())
+    holds(&rt, copies_a_vote(rt.alloc()))
 }
 
 fn copies_a_vote(alloc: Global) -> Result<bool, Fail> {
@@ -177,8 +176,7 @@ fn is_that_record(record: &Record, sent: &Outs) -> bool {
 
 #[test]
 fn records_hold_messages_in_their_order(rt: HostRuntime) -> Result<(), Fail> {
-    assert!(rt; holds_two(rt.alloc())?);
-    Ok(())
+    holds(&rt, holds_two(rt.alloc()))
 }
 
 fn holds_two(alloc: Global) -> Result<bool, Fail> {

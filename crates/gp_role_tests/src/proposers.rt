@@ -1,6 +1,7 @@
 //! The offers of a proposer.
 ghost use Rattle.std.specs.Prelude.{◌<◌, ◌≤◌, ◌+◌};
 
+use crate::outcome::holds;
 use crate::scene::draft;
 use gp_command::CommandId;
 use gp_msg::{Msg, Outs};
@@ -10,8 +11,7 @@ use std::test::Fail;
 
 #[test]
 fn offers_are_numbered_from_1(rt: HostRuntime) -> Result<(), Fail> {
-    assert!(rt; are_numbered(rt.alloc())?);
-    Ok(())
+    holds(&rt, are_numbered(rt.alloc()))
 }
 
 fn are_numbered(alloc: Global) -> Result<bool, Fail> {

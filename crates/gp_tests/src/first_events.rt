@@ -1,5 +1,6 @@
 //! All events of one small workload. The expected ones were made by a separate model of the
 //! generator and the schedule.
+use crate::outcome::holds;
 use gp_msg::{Event, Node};
 use gp_random::Workload;
 use gp_round::{Mode, Round};
@@ -82,6 +83,5 @@ fn are_rows(alloc: Global) -> Result<bool, Fail> {
 
 #[test]
 fn a_workload_has_the_events_of_its_seed(rt: HostRuntime) -> Result<(), Fail> {
-    assert!(rt; are_rows(rt.alloc())?);
-    Ok(())
+    holds(&rt, are_rows(rt.alloc()))
 }

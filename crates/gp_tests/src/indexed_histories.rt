@@ -1,5 +1,6 @@
 //! The further calls of histories with an index.
 use crate::alphabet::{LETTERS, command, history, letters, push_letter};
+use crate::outcome::holds;
 use gp_command::{Access, Command, CommandId, Draft, Key, Touch};
 use gp_history::Hist;
 use gp_index::{EpochHistory, History};
@@ -114,8 +115,7 @@ fn finds_all(alloc: Global, word: &str) -> Result<bool, Fail> {
 
 #[test]
 fn copies_have_their_own_index(rt: HostRuntime) -> Result<(), Fail> {
-    assert!(rt; indexes_grow_apart(rt.alloc())?);
-    Ok(())
+    holds(&rt, indexes_grow_apart(rt.alloc()))
 }
 
 fn indexes_grow_apart(alloc: Global) -> Result<bool, Fail> {

@@ -29,6 +29,8 @@ mod long_histories;
 #[cfg(test)]
 mod many_workloads;
 #[cfg(test)]
+mod outcome;
+#[cfg(test)]
 mod replicas;
 #[cfg(test)]
 mod rounds_and_quorums;

@@ -1,5 +1,6 @@
 //! Histories of 256 commands, in both representations.
 use crate::alphabet::touching;
+use crate::outcome::holds;
 use gp_bounds::{compatible, join, meet};
 use gp_command::{Access, Command, CommandId, Draft};
 use gp_history::{Hist, SeqHistory};
@@ -117,32 +118,27 @@ fn are_bounded<H: Hist>(alloc: Global, a: &H, b: &H, met: usize) -> Result<bool,
 
 #[test]
 fn one_key_walks_alike(rt: HostRuntime) -> Result<(), Fail> {
-    assert!(rt; walk_alike(rt.alloc(), Shape::OneKey)?);
-    Ok(())
+    holds(&rt, walk_alike(rt.alloc(), Shape::OneKey))
 }
 
 #[test]
 fn own_keys_walk_alike(rt: HostRuntime) -> Result<(), Fail> {
-    assert!(rt; walk_alike(rt.alloc(), Shape::OwnKeys)?);
-    Ok(())
+    holds(&rt, walk_alike(rt.alloc(), Shape::OwnKeys))
 }
 
 #[test]
 fn additions_walk_alike(rt: HostRuntime) -> Result<(), Fail> {
-    assert!(rt; walk_alike(rt.alloc(), Shape::Additions)?);
-    Ok(())
+    holds(&rt, walk_alike(rt.alloc(), Shape::Additions))
 }
 
 #[test]
 fn checkpoints_walk_alike(rt: HostRuntime) -> Result<(), Fail> {
-    assert!(rt; walk_alike(rt.alloc(), Shape::Checkpoints)?);
-    Ok(())
+    holds(&rt, walk_alike(rt.alloc(), Shape::Checkpoints))
 }
 
 #[test]
 fn mixed_commands_walk_alike(rt: HostRuntime) -> Result<(), Fail> {
-    assert!(rt; walk_alike(rt.alloc(), Shape::Mixed)?);
-    Ok(())
+    holds(&rt, walk_alike(rt.alloc(), Shape::Mixed))
 }
 
 // Whether both representations walk alike over both orders, over their meet and over a join, and the

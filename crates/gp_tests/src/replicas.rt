@@ -1,5 +1,6 @@
 //! What replicas of the key store run of the histories that they learn, and what they reply.
 
+use crate::outcome::holds;
 use crate::steps::{A, B, Step, draft};
 use gp_command::{Command, CommandId, Key};
 use gp_history::Hist;
@@ -141,8 +142,7 @@ fn a_replica_has_run_nothing_at_first(rt: HostRuntime) -> Result<(), Fail> {
 
 #[test]
 fn what_is_learned_is_run_in_the_canonical_order(rt: HostRuntime) -> Result<(), Fail> {
-    assert!(rt; runs_in_order(&rt, rt.alloc())?);
-    Ok(())
+    holds(&rt, runs_in_order(&rt, rt.alloc()))
 }
 
 fn runs_in_order(rt: &impl Abort, alloc: Global) -> Result<bool, Fail> {
@@ -176,8 +176,7 @@ fn runs_once(
 
 #[test]
 fn what_was_run_is_not_run_again(rt: HostRuntime) -> Result<(), Fail> {
-    assert!(rt; is_run_once(&rt, rt.alloc())?);
-    Ok(())
+    holds(&rt, is_run_once(&rt, rt.alloc()))
 }
 
 fn is_run_once(rt: &impl Abort, alloc: Global) -> Result<bool, Fail> {
@@ -201,8 +200,7 @@ fn runs_in_turn(
 
 #[test]
 fn what_is_learned_later_is_run_after_the_rest(rt: HostRuntime) -> Result<(), Fail> {
-    assert!(rt; is_run_in_turn(&rt, rt.alloc())?);
-    Ok(())
+    holds(&rt, is_run_in_turn(&rt, rt.alloc()))
 }
 
 fn is_run_in_turn(rt: &impl Abort, alloc: Global) -> Result<bool, Fail> {
@@ -213,8 +211,7 @@ fn is_run_in_turn(rt: &impl Abort, alloc: Global) -> Result<bool, Fail> {
 
 #[test]
 fn a_key_is_served(rt: HostRuntime) -> Result<(), Fail> {
-    assert!(rt; is_served(&rt, rt.alloc())?);
-    Ok(())
+    holds(&rt, is_served(&rt, rt.alloc()))
 }
 
 fn is_served(rt: &impl Abort, alloc: Global) -> Result<bool, Fail> {
