@@ -1,4 +1,4 @@
-use Rattle.std.proofs.Common.{◌≡◌, ℕ, ◌∙◌, sym, subst}
+use Rattle.std.proofs.Common.{◌≡◌, ℕ, ◌∙◌, sym, subst, rules}
 use Rattle.std.specs.Prelude.{Option, OnOk, IfOk, map}
 use Rattle.std.specs.Option.{option_to_list}
 use Rattle.std.proofs.lemmas.Result.{on_ok_weaker}
@@ -27,3 +27,6 @@ returns-in-P2a-clause-next c =
 pub returns-in-P2a-clause-sent : goal.returns-in-P2a-clause-sent
 returns-in-P2a-clause-sent c =
     subst (λ (x : AcceptorInEpoch × Option Stamped). IfOk c.receive.result (λ outs. map message_of outs ≡ option_to_list x.1)) (here c) c.receive.ensures.sent
+
+pub returns-in-Final-clause-next : goal.returns-in-Final-clause-next
+returns-in-Final-clause-next c = search rules
