@@ -21,3 +21,11 @@ pub record IsAlone (config : Counts) (node : Node) (wire : WireState PaxosRules)
   pub nodes : wire.nodes ≡ node ∷ []
   pub pass : IsNew wire.id node cell.pass
   pub up : cell.down ≡ None
+
+-- the cell is at the wire, and its pass holds the one node of the wire
+pub record IsThere (config : Counts) (node : Node) (wire : WireState PaxosRules) (cell : CellState MemDiskState) : Type 0 where
+  pub at : IsAt cell wire
+  pub config_is : cell.config ≡ config
+  pub node_is : cell.node ≡ node
+  pub nodes : wire.nodes ≡ node ∷ []
+  pub holds : cell.pass.holds ≡ node ∷ []

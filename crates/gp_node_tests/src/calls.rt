@@ -29,7 +29,9 @@ fn a_plan_shows_its_record(rt: HostRuntime) -> Result<(), Fail> {
 fn begins_with_one_message(alloc: Global) -> Result<bool, Fail> {
     let config = Config::new(3, 1, 1).or(Err("no configuration"))?;
     let alone = make_alone(alloc, config, Node::Coordinator(0), &[])?;
-    plans_one_message(config, &alone)
+    let is_planned = plans_one_message(config, &alone);
+    alone.end();
+    is_planned
 }
 
 // Whether the plan of beginning the round has that event, and one message.
@@ -81,7 +83,9 @@ fn a_coordinator_waits_and_looks(rt: HostRuntime) -> Result<(), Fail> {
 fn steps_twice<R: Wait>(rt: &R, alloc: Global) -> Result<bool, Fail> {
     let config = Config::new(3, 1, 1).or(Err("no configuration"))?;
     let mut alone = make_alone(alloc, config, Node::Coordinator(0), &[])?;
-    Ok(waits_and_looks(rt, config, &mut alone))
+    let is_seen = waits_and_looks(rt, config, &mut alone);
+    alone.end();
+    Ok(is_seen)
 }
 
 // Whether the coordinator waits for a message, begins the round, and then sees its own message.

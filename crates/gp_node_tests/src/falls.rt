@@ -1,8 +1,12 @@
 //! A coordinator whose disk fails in its first move, so that it crashes.
+ghost use Rattle.std.specs.Prelude.{◌≡◌};
+ghost use Rattle.gp_msg.specs.declared.node.Node.TheVariants.{Coordinator};
+ghost use Rattle.gp_node_tests.specs.Alone.{IsAlone, IsThere};
+
 use crate::alone::{Alone, make_alone};
 use gp_edge::Gate;
 use gp_msg::{Event, Kept, Node, Record};
-use gp_node::{Move, StepFault, finish};
+use gp_node::{Move, Posted, RiseFault, StepFault, finish};
 use gp_round::{Config, Mode, Round};
 use std::alloc::Global;
 use std::sync::Wait;
@@ -68,18 +72,53 @@ fn falls_and_rises<R: Wait>(
     keeps: bool,
 ) -> Result<bool, Fail> {
     let config = Config::new(3, 1, 1).or(Err("no configuration"))?;
-    let node = Node::Coordinator(0);
-    let Alone { wire, mut cell } = make_alone(alloc, config, node, &[failing])?;
-    let outcome = cell.step(rt, &wire, Move::Begin(ROUND), gate, TURN);
-    let fell = matches!(outcome, Err(StepFault::Disk)) && gate.was_called_once();
+    let mut alone = make_alone(alloc, config, Node::Coordinator(0), &[failing])?;
+    let is_right = falls(rt, config, &mut alone, gate) && rises(rt, config, &mut alone, keeps);
+    let posted = posted_by(alloc, config, alone)?;
+    Ok(is_right && are_of_fall(posted.records(), keeps))
+}
+
+// Whether the cell falls in its first move, and the gate was called once.
+fn falls<R: Wait>(rt: &R, config: Config, alone: &mut Alone, gate: &Counting) -> bool
+    requires alone { IsAlone config (Coordinator 0) alone.old.wire alone.old.cell }
+    requires one { config.coordinators ≡ 1 }
+    ensures { IsThere config (Coordinator 0) alone.new.wire alone.new.cell }
+{
+    let Alone { wire, cell } = alone;
+    let is_fault = is_disk_fault(cell.step(rt, wire, Move::Begin(ROUND), gate, TURN));
+    is_fault && gate.was_called_once()
+}
+
+// Whether the cell is down, and rises with the move or without it.
+fn rises<R: Wait>(rt: &R, config: Config, alone: &mut Alone, keeps: bool) -> bool
+    requires { IsThere config (Coordinator 0) alone.old.wire alone.old.cell }
+    ensures { IsThere config (Coordinator 0) alone.new.wire alone.new.cell }
+{
+    let Alone { wire, cell } = alone;
     if !cell.is_down() {
-        return Ok(false);
+        return false;
     }
-    let risen = matches!(cell.rise(rt, &wire), Ok(0)) && !cell.is_down();
-    let kept = cell.posted() == 1 && cell.durable().is_some() == keeps;
+    let is_risen = is_risen(cell.rise(rt, wire)) && !cell.is_down();
+    is_risen && cell.posted() == 1 && cell.durable().is_some() == keeps
+}
+
+fn is_disk_fault(outcome: Result<u64, StepFault>) -> bool {
+    matches!(outcome, Err(StepFault::Disk))
+}
+
+// Whether the node has risen, and there is no message.
+fn is_risen(outcome: Result<u64, RiseFault>) -> bool {
+    matches!(outcome, Ok(0))
+}
+
+// What the node posted.
+fn posted_by(alloc: Global, config: Config, alone: Alone) -> Result<Posted, Fail>
+    requires { IsThere config (Coordinator 0) alone.wire alone.cell }
+{
+    let Alone { wire, cell } = alone;
     let cells = vec![in alloc; cell]?;
     match finish(alloc, wire, cells) {
-        Ok(finished) => Ok(fell && risen && kept && are_of_fall(finished.posted.records(), keeps)),
+        Ok(finished) => Ok(finished.posted),
         Err(_) => Err(Fail::from("no end")),
     }
 }

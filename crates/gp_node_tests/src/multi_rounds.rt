@@ -1,5 +1,5 @@
 //! Drafts that are driven in a multi round.
-ghost use Rattle.std.specs.Prelude.{◌≡◌, ◌≤◌, IfOk, length};
+ghost use Rattle.std.specs.Prelude.{◌≡◌, ◌≤◌, [], IfOk, length};
 ghost use Rattle.gp_driver.specs.Driven.{AreNoCheckpoints};
 
 use crate::learned_in_worlds::{all_hold, in_range};
@@ -38,18 +38,26 @@ fn puts(alloc: Global, count: u64) -> Result<Vec<Draft>, Fail>
 }
 
 // Whether driving takes this many events and messages, and every learner then holds all commands.
-#[tactic(auto, using(crate::proofs::Small::few_driven))]
 fn drives(rt: &impl Wait, alloc: Global, row: &Row) -> Result<bool, Fail> {
     let (acceptors, learners, count, events, messages) = *row;
     if count > 64 {
         return Ok(false);
     }
-    let config = Config::new(acceptors, 3, learners)?;
-    let mut world = World::new(alloc, config)?;
+    let mut world = World::new(alloc, Config::new(acceptors, 3, learners)?)?;
+    let made = driven(rt, alloc, &mut world, count)?;
+    Ok(made == events && world.messages() == messages && all_hold(&world, count as usize))
+}
+
+// Drives this many drafts in a new world.
+#[tactic(auto, using(crate::proofs::Small::few_driven))]
+fn driven(rt: &impl Wait, alloc: Global, world: &mut World, count: u64) -> Result<u64, Fail>
+    requires new { world.old.records ≡ [] }
+    requires three { world.old.config.coordinators ≡ 3 }
+    requires few { count ≤ 64 }
+{
     in_range(world.config());
     let drafts = puts(alloc, count)?;
-    let made = drive_multi(rt, &mut world, drafts)?;
-    Ok(made == events && world.messages() == messages && all_hold(&world, count as usize))
+    Ok(drive_multi(rt, world, drafts)?)
 }
 
 #[test]

@@ -1,10 +1,13 @@
 //! Work phases until nothing is left to do: the leader begins a multi round, and a single round
 //! after that one has collided.
-ghost use Rattle.std.specs.Prelude.{◌≡◌, ◌≤◌, ◌++◌, ◌∷◌, [], true, length, IfOk, OnOk, All};
+ghost use Rattle.std.specs.Prelude.{◌≡◌, ◌<◌, ◌≤◌, ◌++◌, ◌∷◌, [], true, length, slice_index_or, IfOk, IfSome, OnOk, All};
 ghost use Rattle.gp_msg.specs.Nodes.{is_present};
 ghost use Rattle.gp_wire.specs.Lists.{Each};
 ghost use Rattle.gp_work.specs.Moves.{AllFit};
-ghost use Rattle.gp_msg.specs.declared.node.Node.TheVariants.{Proposer};
+ghost use Rattle.gp_work.specs.declared.job.Job.{Job};
+ghost use Rattle.gp_edge.specs.Records.{MemDiskState};
+ghost use Rattle.gp_cell.specs.Cells.{CellState};
+ghost use Rattle.gp_msg.specs.declared.node.Node.TheVariants.{Proposer, Coordinator};
 ghost use Rattle.gp_node_tests.specs.Phases.{IsFresh, IsNewJob, IsReady};
 
 use crate::alone::log_for;
@@ -138,21 +141,34 @@ fn run<R: Threads + Wait + Sync>(
 ) -> Result<Outcome, NoMemory> {
     let keys = scene.0.as_bytes();
     let (wire, passes) = offered(rt, alloc, config, keys)?;
-    let mut jobs = jobs_of(alloc, config, &wire, passes, scene)?;
-    let Some(at) = jobs.len().checked_sub(1) else {
+    let jobs = jobs_of(alloc, config, &wire, passes, scene)?;
+    run_jobs(rt, alloc, config, &wire, jobs, calls, keys.len() as u64)
+}
+
+// Runs the work phases of the jobs, the last of which is the leader's.
+fn run_jobs<R: Threads + Wait + Sync>(
+    rt: &R,
+    alloc: Global,
+    config: Config,
+    wire: &Wire<PaxosRules>,
+    jobs: Vec<Job<MemDisk>>,
+    calls: &[Call],
+    others: u64,
+) -> Result<Outcome, NoMemory>
+    requires rules { wire.now.rules.config ≡ config }
+    requires new { All (IsNewJob wire.now config) jobs.items }
+{
+    let Some(at) = leader_of(&jobs) else {
         return Err(NoMemory);
     };
-    if jobs[at].cell.node() != Node::Coordinator(LEADER) {
-        return Err(NoMemory);
-    }
+    let mut jobs = jobs;
     let mut caller = RoundCaller::new(alloc, config)?;
-    call_first(rt, &wire, &mut jobs, at, &mut caller)?;
-    let others = keys.len() as u64;
+    call_first(rt, wire, &mut jobs, at, &mut caller)?;
     let mut beside = counters();
     let phases = run_phases(
         rt,
         alloc,
-        &wire,
+        wire,
         jobs,
         at,
         &mut caller,
@@ -166,6 +182,19 @@ fn run<R: Threads + Wait + Sync>(
         caller.calls() == calls && all_acted(&beside),
         learned(&phases.jobs),
     ))
+}
+
+// The place of the last job, if it is that of the leader.
+fn leader_of(jobs: &[Job<MemDisk>]) -> Option<usize>
+    ensures at { IfSome result (λ at. at < length jobs.now) }
+    ensures node { IfSome result (λ at. (d : Job (CellState MemDiskState)) → (slice_index_or jobs.now at d).cell.node ≡ Coordinator LEADER) }
+{
+    let at = jobs.len().checked_sub(1)?;
+    if jobs[at].cell.node() == Node::Coordinator(LEADER) {
+        Some(at)
+    } else {
+        None
+    }
 }
 
 // Whether the disk of a node failed again when the node recovered.

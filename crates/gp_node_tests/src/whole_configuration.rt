@@ -17,6 +17,7 @@ use gp_node::{Cell, Move, PaxosRules};
 use gp_round::Config;
 use gp_vlog::Log;
 use gp_wire::{Pass, Wire};
+use gp_work::Process;
 use std::alloc::Global;
 use std::sync::Wait;
 
@@ -110,15 +111,48 @@ fn make_cell<R: Wait>(
     requires fresh { IsFresh wire.now pass }
     ensures { IfOk result (IsReadyCell wire.now pass.node) }
 {
+    let mut cell = new_cell(alloc, config, wire, pass, disks)?;
+    offer_first(rt, alloc, wire, &mut cell)?;
+    Ok(cell)
+}
+
+// The cell of a pass, which has posted nothing.
+fn new_cell(
+    alloc: Global,
+    config: Config,
+    wire: &Wire<PaxosRules>,
+    pass: Pass,
+    disks: Disks,
+) -> Result<Cell<MemDisk>, NoMemory>
+    requires config { wire.now.rules.config ≡ config }
+    requires present { is_present config pass.node ≡ true }
+    requires fresh { IsFresh wire.now pass }
+    ensures ready { IfOk result (IsReadyCell wire.now pass.node) }
+    ensures none { IfOk result (λ c. own c.node (records c.pass) ≡ []) }
+{
     let node = pass.node();
     let log = log_for(alloc, config, node, disks)?;
-    let Ok(mut cell) = Cell::new(alloc, config, node, log, pass) else {
-        return Err(NoMemory);
-    };
-    if let Node::Proposer(0 | 1) = node {
-        offer(rt, alloc, wire, &mut cell)?;
+    match Cell::new(alloc, config, node, log, pass) {
+        Ok(cell) => Ok(cell),
+        Err(_) => Err(NoMemory),
     }
-    Ok(cell)
+}
+
+// Proposers 0 and 1 offer a command each.
+fn offer_first<R: Wait>(
+    rt: &R,
+    alloc: Global,
+    wire: &Wire<PaxosRules>,
+    cell: &mut Cell<MemDisk>,
+) -> Result<(), NoMemory>
+    requires ready { IsReadyCell wire.now cell.old.node cell.old }
+    requires none { own cell.old.node (records cell.old.pass) ≡ [] }
+    ensures { OnOk result (IsReadyCell wire.now cell.old.node cell.new) }
+{
+    match cell.node() {
+        Node::Proposer(0 | 1) => offer(rt, alloc, wire, cell),
+        _ => Ok(()),
+    }
 }
 
 // A proposer that has posted nothing offers a command.
