@@ -60,8 +60,8 @@ static ROWS: [Row; 5] = [
 
 fn row_holds<W: Threads + Wait + Sync>(rt: &W, alloc: Global, row: &Row) -> Result<bool, Fail> {
     let (word, script, status, records, text) = *row;
-    let finished = served(rt, alloc, &[word], script, CALM)?;
-    Ok(finished.ended(status, text) && finished.ran.trail.records().len() == records)
+    let outcome = served(rt, alloc, &[word], script, CALM)?;
+    Ok(outcome.ended(status, text) && outcome.records == records)
 }
 
 #[test]

@@ -5,7 +5,7 @@ use crate::nodes::{
     CHECKPOINT, EIGHT, Printed, count, is_feed, parts_of, plays_again, show_eight, shows,
 };
 use crate::outcome::holds;
-use crate::stage::{CALM, Finished, served};
+use crate::stage::{CALM, Finished, served, whole_run};
 use gp_round::Mode;
 use std::alloc::Global;
 use std::sync::Wait;
@@ -66,8 +66,8 @@ static ROWS: [Row; 3] = [
 
 // Whether a run ends with all learned, and prints what it has to.
 fn row_holds<W: Threads + Wait + Sync>(rt: &W, alloc: Global, row: &Row) -> Result<bool, Fail> {
-    let finished = served(rt, alloc, &["adapt"], row.script, CALM)?;
-    Ok(finished.ran.status == 0 && prints_all(rt, alloc, finished.sink.written(), row)?)
+    let outcome = served(rt, alloc, &["adapt"], row.script, CALM)?;
+    Ok(outcome.status == 0 && prints_all(rt, alloc, &outcome.text, row)?)
 }
 
 // Whether `play` prints the report again, and trace and report have what they have to.
@@ -129,8 +129,7 @@ fn a_disk_that_fails_before_the_offers_ends_the_run(rt: HostRuntime) -> Result<(
 
 // The status of a run in which this call of the coordinator's disk fails.
 fn status_if_fails<W: Threads + Wait + Sync>(rt: &W, alloc: Global, call: u64) -> Result<u8, Fail> {
-    let finished = served(rt, alloc, &["adapt"], EIGHT, (7, b"", &[call]))?;
-    Ok(finished.ran.status)
+    Ok(served(rt, alloc, &["adapt"], EIGHT, (7, b"", &[call]))?.status)
 }
 
 // Eight puts, on keys of their own or all on one key.
@@ -203,7 +202,7 @@ fn adapted<W: Threads + Wait + Sync>(
     conflicting: bool,
 ) -> Result<Finished, Fail> {
     let script = puts(alloc, seed, conflicting)?;
-    served(rt, alloc, &["adapt"], &script, CALM)
+    whole_run(rt, alloc, &["adapt"], &script, CALM)
 }
 
 // The course of the run of a seed, if it is upheld by an audit.

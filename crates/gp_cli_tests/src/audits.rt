@@ -1,8 +1,6 @@
 //! Audits of what a run printed.
 use crate::nodes::{CHECKPOINT, EIGHT};
 use crate::stage::{CALM, Special, served};
-use gp_cli::{Ran, Trail};
-use gp_edge::MemDisk;
 use std::alloc::Global;
 use std::sync::Wait;
 use std::test::Fail;
@@ -95,15 +93,7 @@ static ROWS: [Row; 9] = [
     (b"", b"", 3, 0, b"line 1: no nodes line\n"),
 ];
 
-// Whether no thread posted the records.
-fn is_folded(ran: &Ran<MemDisk>) -> bool {
-    match ran.trail {
-        Trail::Folded(_) => true,
-        Trail::Posted(_) => false,
-    }
-}
-
-// Whether an audit of this input ends with this status and this many records, and prints this.
+// Whether an audit of this input ends with this status and this many records, which no thread posted, and prints this.
 fn ends<W: Threads + Wait + Sync>(
     rt: &W,
     alloc: Global,
@@ -112,12 +102,8 @@ fn ends<W: Threads + Wait + Sync>(
     records: usize,
     text: &[u8],
 ) -> Result<bool, Fail> {
-    let finished = served(rt, alloc, &["audit"], input, CALM)?;
-    Ok(
-        finished.ended(status, text)
-            && is_folded(&finished.ran)
-            && finished.ran.trail.records().len() == records,
-    )
+    let outcome = served(rt, alloc, &["audit"], input, CALM)?;
+    Ok(outcome.ended(status, text) && !outcome.is_posted && outcome.records == records)
 }
 
 fn row_holds<W: Threads + Wait + Sync>(rt: &W, alloc: Global, row: &Row) -> Result<bool, Fail> {
@@ -165,8 +151,7 @@ static AUDITED: [Audited; 3] = [
 fn is_upheld<W: Threads + Wait + Sync>(rt: &W, alloc: Global, row: &Audited) -> Result<bool, Fail> {
     let (script, disk, lines) = *row;
     let run = served(rt, alloc, &["run"], script, disk)?;
-    let records = run.ran.trail.records().len();
-    Ok(run.ran.status == 0 && is_legal(rt, alloc, run.sink.written(), records, lines)?)
+    Ok(run.status == 0 && is_legal(rt, alloc, &run.text, run.records, lines)?)
 }
 
 // Whether an audit of this input makes so many records, and prints that they are legal in so many lines.
@@ -178,10 +163,12 @@ fn is_legal<W: Threads + Wait + Sync>(
     lines: usize,
 ) -> Result<bool, Fail> {
     let audit = served(rt, alloc, &["audit"], input, CALM)?;
-    let text = audit.sink.written();
-    let is_told = text.starts_with(b"legal\n")
-        && text.split_inclusive(|byte| *byte == b'\n').count() == lines;
-    Ok(audit.ran.status == 0 && audit.ran.trail.records().len() == records && is_told)
+    Ok(audit.status == 0 && audit.records == records && tells(&audit.text, lines))
+}
+
+// Whether a text says that a run is legal, in so many lines.
+fn tells(text: &[u8], lines: usize) -> bool {
+    text.starts_with(b"legal\n") && text.split_inclusive(|byte| *byte == b'\n').count() == lines
 }
 
 #[test]

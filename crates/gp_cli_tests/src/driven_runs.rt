@@ -77,8 +77,8 @@ fn ends_with_totals(
     alloc: Global,
     row: &Row,
 ) -> Result<bool, Fail> {
-    let finished = served(rt, alloc, &row.words, b"", CALM)?;
-    Ok(finished.ran.status == 0 && finished.sink.written().ends_with(row.totals))
+    let outcome = served(rt, alloc, &row.words, b"", CALM)?;
+    Ok(outcome.status == 0 && outcome.text.ends_with(row.totals))
 }
 
 #[test]

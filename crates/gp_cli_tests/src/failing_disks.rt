@@ -1,8 +1,6 @@
 //! Nodes with one disk that fails at one call.
-use crate::nodes::{EIGHT, count, is_posted, parts_of};
-use crate::stage::{Finished, Special, served};
-use gp_cli::Ran;
-use gp_edge::MemDisk;
+use crate::nodes::{EIGHT, count, parts_of};
+use crate::stage::{Outcome, Special, served};
 use std::alloc::Global;
 use std::sync::Wait;
 use std::test::Fail;
@@ -18,15 +16,15 @@ const MOST_CALLS: u64 = 40;
 
 // Whether a run in which this call of disk 0 fails ends as it has to.
 fn holds_at<W: Threads + Wait + Sync>(rt: &W, alloc: Global, call: u64) -> Result<bool, Fail> {
-    let finished = served(rt, alloc, &["run"], EIGHT, (0, b"", &[call]))?;
-    ends_or_falls_once(alloc, &finished, call)
+    let outcome = served(rt, alloc, &["run"], EIGHT, (0, b"", &[call]))?;
+    ends_or_falls_once(alloc, &outcome, call)
 }
 
 // Whether the run ended with a fault, or all was learned and acceptor 0 crashed once.
-fn ends_or_falls_once(alloc: Global, finished: &Finished, call: u64) -> Result<bool, Fail> {
-    let printed = parts_of(alloc, finished.sink.written())?;
+fn ends_or_falls_once(alloc: Global, outcome: &Outcome, call: u64) -> Result<bool, Fail> {
+    let printed = parts_of(alloc, &outcome.text)?;
     let falls = count(&printed.trace, b"fall a0");
-    let status = finished.ran.status;
+    let status = outcome.status;
     if call < MAKING {
         Ok(status == 6 && falls == 0)
     } else {
@@ -62,12 +60,13 @@ fn ends_at_a_fault<W: Threads + Wait + Sync>(
     row: &Ending,
 ) -> Result<bool, Fail> {
     let (disk, has_run) = *row;
-    let finished = served(rt, alloc, &["run"], EIGHT, disk)?;
-    Ok(finished.ended(6, b"disk fault\n") && is_as_far(&finished.ran, has_run))
+    let outcome = served(rt, alloc, &["run"], EIGHT, disk)?;
+    Ok(outcome.ended(6, b"disk fault\n") && has_records_if(&outcome, has_run))
 }
 
-fn is_as_far(ran: &Ran<MemDisk>, has_run: bool) -> bool {
-    is_posted(ran) == has_run && ran.trail.records().is_empty() != has_run
+// Whether the nodes posted some records exactly if they have run.
+fn has_records_if(outcome: &Outcome, has_run: bool) -> bool {
+    outcome.is_posted == has_run && (outcome.records > 0) == has_run
 }
 
 #[test]

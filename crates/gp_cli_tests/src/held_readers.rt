@@ -3,6 +3,7 @@
 ghost use Rattle.std.specs.Prelude.{◌≡◌, []};
 ghost use Rattle.gp_cli_tests.specs.Names.{no_feed};
 
+use crate::outcome::holds;
 use crate::replicas_of_puts::replica_of;
 use crossbeam_channel::{Receiver, Sender, unbounded};
 use gp_command::Key;
@@ -11,6 +12,7 @@ use gp_store::{KeyStore, Op};
 use gp_views::{Feed, Reader, Told};
 use std::alloc::Global;
 use std::marker::{Brand, PhantomData};
+use std::process::Abort;
 use std::sync::Wait;
 use std::test::Fail;
 use std::thread;
@@ -41,20 +43,25 @@ type Read = (u64, Option<u64>);
 // Reads, says so, waits for a note, learns it and reads again.
 fn read_twice<N: Named, R: Wait>(
     rt: &R,
-    mut reader: Reader,
+    reader: &mut Reader,
     key: Key,
-    done: Sender<()>,
-    notes: Receiver<Note<N>>,
+    done: &Sender<()>,
+    notes: &Receiver<Note<N>>,
 ) -> Option<(Read, Read)>
-    requires { reader.feed ≡ N.feed }
+    requires { reader.old.feed ≡ N.feed }
 {
-    let first = reader.get(key).ok()?;
-    let first = (reader.seen(), first);
+    let first = read(reader, key)?;
     done.send(rt, ()).ok()?;
     let Note { told, of: _ } = notes.recv(rt).ok()?;
     reader.learn(told);
-    let second = reader.get(key).ok()?;
-    Some((first, (reader.seen(), second)))
+    Some((first, read(reader, key)?))
+}
+
+fn read(reader: &mut Reader, key: Key) -> Option<Read>
+    ensures { reader.new.feed ≡ reader.old.feed }
+{
+    let value = reader.get(key).ok()?;
+    Some((reader.seen(), value))
 }
 
 // Waits for the first read.
@@ -99,7 +106,10 @@ fn held<N: Named + Send + Sync, R: Threads + Wait + Sync>(
         rt,
         move ||
             requires { reader.feed ≡ N.feed }
-        { read_twice::<N, R>(rt, reader, key, done, waits_for_note) },
+        {
+            let mut reader = reader;
+            read_twice::<N, R>(rt, &mut reader, key, &done, &waits_for_note)
+        },
         move ||
             requires { (feed.now.feed ≡ N.feed) × (feed.now.list ≡ []) }
         { publish_between::<N, R>(rt, feed, replica, waits_for_read, notes) },
@@ -109,15 +119,26 @@ fn held<N: Named + Send + Sync, R: Threads + Wait + Sync>(
 
 #[test]
 fn a_held_reader_sees_what_it_was_told_of(rt: HostRuntime) -> Result<(), Fail> {
-    let alloc = rt.alloc();
+    holds(&rt, is_told(&rt, rt.alloc()))
+}
+
+fn is_told(rt: &(impl Threads + Wait + Abort + Sync), alloc: Global) -> Result<bool, Fail> {
     let key = Key::new(b"a")?;
-    let replica = replica_of(&rt, alloc, &[(1, Op::Put(key, 5))])?;
-    let (mut feed, mut readers) = Feed::new(&rt, alloc, 1)?;
+    let replica = replica_of(rt, alloc, &[(1, Op::Put(key, 5))])?;
+    is_held(rt, alloc, &replica, key)
+}
+
+fn is_held<R: Threads + Wait + Sync>(
+    rt: &R,
+    alloc: Global,
+    replica: &Replica<KeyStore>,
+    key: Key,
+) -> Result<bool, Fail> {
+    let (mut feed, mut readers) = Feed::new(rt, alloc, 1)?;
     let seen = match readers.pop() {
-        Some(reader) => held::<Brand, HostRuntime>(&rt, alloc, &mut feed, reader, &replica, key),
+        Some(reader) => held::<Brand, R>(rt, alloc, &mut feed, reader, replica, key),
         None => None,
     };
-    feed.close(&rt);
-    assert!(rt; seen == Some((((0, None), (1, Some(5))), 1)));
-    Ok(())
+    feed.close(rt);
+    Ok(seen == Some((((0, None), (1, Some(5))), 1)))
 }

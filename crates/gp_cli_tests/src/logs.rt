@@ -83,8 +83,8 @@ fn is_shown<W: Threads + Wait + Sync>(
     row: &Row,
 ) -> Result<bool, Fail> {
     let (_, failing, status, text) = *row;
-    let finished = served(rt, alloc, &["log", "3"], b"", (3, bytes, failing))?;
-    Ok(finished.content_of(3) == bytes && finished.ended(status, text))
+    let outcome = served(rt, alloc, &["log", "3"], b"", (3, bytes, failing))?;
+    Ok(*outcome.content.as_slice() == *bytes && outcome.ended(status, text))
 }
 
 #[test]

@@ -1,7 +1,7 @@
 //! Runs of nodes of several configurations, each of which `play` repeats from its trace.
 use crate::audited_runs::is_audited;
 use crate::nodes::{parts_of, plays_again};
-use crate::stage::{CALM, Finished, served};
+use crate::stage::{CALM, Finished, whole_run};
 use gp_round::Config;
 use std::alloc::Global;
 use std::sync::Wait;
@@ -76,27 +76,23 @@ fn is_played_again<W: Threads + Wait + Sync>(
     seed: usize,
 ) -> Result<bool, Fail> {
     let config = config_of(seed)?;
-    let finished = finished(rt, alloc, seed)?;
-    is_upheld_and_played(rt, alloc, config, &finished)
+    let run = run_of(rt, alloc, seed)?;
+    is_upheld_and_played(rt, alloc, config, &run)
 }
 
 fn is_upheld_and_played<W: Threads + Wait + Sync>(
     rt: &W,
     alloc: Global,
     config: Config,
-    finished: &Finished,
+    run: &Finished,
 ) -> Result<bool, Fail> {
-    let is_over = finished.ran.status == 0 && is_audited(rt, alloc, config, finished)?;
-    Ok(is_over && is_same(rt, alloc, finished.sink.written())?)
+    let is_over = run.ran.status == 0 && is_audited(rt, alloc, config, run)?;
+    Ok(is_over && is_same(rt, alloc, run.sink.written())?)
 }
 
-fn finished<W: Threads + Wait + Sync>(
-    rt: &W,
-    alloc: Global,
-    seed: usize,
-) -> Result<Finished, Fail> {
+fn run_of<W: Threads + Wait + Sync>(rt: &W, alloc: Global, seed: usize) -> Result<Finished, Fail> {
     let script = script_with(alloc, seed, OFFERS)?;
-    served(rt, alloc, &["run"], &script, CALM)
+    whole_run(rt, alloc, &["run"], &script, CALM)
 }
 
 fn is_same<W: Threads + Wait + Sync>(rt: &W, alloc: Global, text: &[u8]) -> Result<bool, Fail> {

@@ -1,8 +1,6 @@
 //! Nodes that run in threads.
 use crate::outcome::holds;
 use crate::stage::{CALM, Special, served};
-use gp_cli::{Ran, Trail};
-use gp_edge::MemDisk;
 use std::alloc::Global;
 use std::sync::Wait;
 use std::test::Fail;
@@ -97,14 +95,6 @@ pub fn shows(report: &[u8], learner: &[u8], lines: &[&[u8]]) -> bool {
     true
 }
 
-/// Whether nodes in threads posted the records.
-pub fn is_posted(ran: &Ran<MemDisk>) -> bool {
-    match ran.trail {
-        Trail::Posted(_) => true,
-        Trail::Folded(_) => false,
-    }
-}
-
 /// Whether both learners of the eight commands show them.
 pub fn show_eight(report: &[u8]) -> bool {
     has_report(report, &RUNS[0])
@@ -178,9 +168,9 @@ static RUNS: [Run; 4] = [
 
 // Whether nodes in threads learn all commands, and `run` prints what it has to.
 fn learns_all<W: Threads + Wait + Sync>(rt: &W, alloc: Global, row: &Run) -> Result<bool, Fail> {
-    let finished = served(rt, alloc, &["run"], row.script, row.disk)?;
-    let is_learned = finished.ran.status == 0 && is_posted(&finished.ran);
-    Ok(is_learned && prints_all(rt, alloc, finished.sink.written(), row)?)
+    let outcome = served(rt, alloc, &["run"], row.script, row.disk)?;
+    let is_learned = outcome.status == 0 && outcome.is_posted;
+    Ok(is_learned && prints_all(rt, alloc, &outcome.text, row)?)
 }
 
 fn prints_all<W: Threads + Wait + Sync>(
@@ -221,12 +211,9 @@ fn a_log_has_no_room_for_all_commands(rt: HostRuntime) -> Result<(), Fail> {
 }
 
 fn fills_a_log<W: Threads + Wait + Sync>(rt: &W, alloc: Global) -> Result<bool, Fail> {
-    let finished = served(rt, alloc, &["run", "128"], EIGHT, CALM)?;
-    let is_told = finished
-        .sink
-        .written()
-        .starts_with(b"log full: size 17 need ");
-    Ok(finished.ran.status == 7 && is_posted(&finished.ran) && is_told)
+    let outcome = served(rt, alloc, &["run", "128"], EIGHT, CALM)?;
+    let is_told = outcome.text.starts_with(b"log full: size 17 need ");
+    Ok(outcome.status == 7 && outcome.is_posted && is_told)
 }
 
 // All commands need 202 bytes, which fit under the limit only if no other entry is there.
@@ -237,9 +224,9 @@ fn a_log_without_room_for_one_more_entry_is_renewed(rt: HostRuntime) -> Result<(
 
 // Whether both learners show the eight commands, and an entry was written into the second area.
 fn renews_a_log<W: Threads + Wait + Sync>(rt: &W, alloc: Global) -> Result<bool, Fail> {
-    let finished = served(rt, alloc, &["run", "220"], EIGHT, CALM)?;
-    let is_renewed = finished.ran.status == 0 && finished.content_of(0).len() > 220;
-    Ok(is_renewed && prints_eight(alloc, finished.sink.written())?)
+    let outcome = served(rt, alloc, &["run", "220"], EIGHT, CALM)?;
+    let is_renewed = outcome.status == 0 && outcome.content.len() > 220;
+    Ok(is_renewed && prints_eight(alloc, &outcome.text)?)
 }
 
 fn prints_eight(alloc: Global, text: &[u8]) -> Result<bool, Fail> {
@@ -253,6 +240,6 @@ fn a_script_of_run_has_offers_alone(rt: HostRuntime) -> Result<(), Fail> {
 
 fn refuses_a_beginning<W: Threads + Wait + Sync>(rt: &W, alloc: Global) -> Result<bool, Fail> {
     let script = b"nodes 3 1 1\nbegin c0 1 single\n";
-    let finished = served(rt, alloc, &["run", "64"], script, CALM)?;
-    Ok(finished.ended(3, b"line 2: bad line\n") && !is_posted(&finished.ran))
+    let outcome = served(rt, alloc, &["run", "64"], script, CALM)?;
+    Ok(outcome.ended(3, b"line 2: bad line\n") && !outcome.is_posted)
 }

@@ -1,12 +1,14 @@
 //! What readers see, one call after another in one thread.
-ghost use Rattle.std.specs.Prelude.{◌≡◌, []};
+ghost use Rattle.std.specs.Prelude.{◌≡◌, [], All};
 
+use crate::outcome::holds;
 use crate::replicas_of_puts::replica_of;
 use gp_command::{Key, NoMemory};
 use gp_replica::Replica;
 use gp_store::{KeyStore, Op};
 use gp_views::{Feed, Reader, Unread};
 use std::alloc::Global;
+use std::process::Abort;
 use std::sync::Wait;
 use std::test::Fail;
 
@@ -55,17 +57,35 @@ fn find<R: Wait>(
 
 #[test]
 fn a_reader_sees_what_it_was_told_of(rt: HostRuntime) -> Result<(), Fail> {
-    let alloc = rt.alloc();
+    holds(&rt, is_told(&rt, rt.alloc()))
+}
+
+// Whether two readers find what they have to of four commands.
+fn is_told(rt: &(impl Wait + Abort), alloc: Global) -> Result<bool, Fail> {
     let keys = (Key::new(b"a")?, Key::new(b"b")?);
-    let commands = [
+    let replica = replica_of(rt, alloc, &commands_on(keys))?;
+    finds(rt, alloc, &replica, keys)
+}
+
+fn commands_on(keys: (Key, Key)) -> [(u32, Op); 4] {
+    [
         (1, Op::Put(keys.0, 5)),
         (2, Op::Put(keys.1, 6)),
         (3, Op::Del(keys.1)),
         (4, Op::Add(keys.0, 2)),
-    ];
-    assert!(rt; finds(&rt, alloc, &replica_of(&rt, alloc, &commands)?, keys)?);
-    Ok(())
+    ]
 }
+
+// What the readers have to find.
+const WANTED: Findings = Findings {
+    before: false,
+    values: (None, Some(7)),
+    absent: None,
+    after: true,
+    in_order: true,
+    in_order_alone: true,
+    counts: (0, 4),
+};
 
 // Whether two readers of a new feed find what they have to.
 fn finds<R: Wait>(
@@ -74,16 +94,7 @@ fn finds<R: Wait>(
     replica: &Replica<KeyStore>,
     keys: (Key, Key),
 ) -> Result<bool, Fail> {
-    let want = Findings {
-        before: false,
-        values: (None, Some(7)),
-        absent: None,
-        after: true,
-        in_order: true,
-        in_order_alone: true,
-        counts: (0, 4),
-    };
-    Ok(found(rt, alloc, replica, keys)? == Some(want))
+    Ok(found(rt, alloc, replica, keys)? == Some(WANTED))
 }
 
 fn found<R: Wait>(
@@ -93,14 +104,31 @@ fn found<R: Wait>(
     keys: (Key, Key),
 ) -> Result<Option<Findings>, NoMemory> {
     let (mut feed, mut readers) = Feed::new(rt, alloc, 2)?;
-    let found = match (readers.pop(), readers.pop()) {
-        (Some(mut first), Some(mut second)) => {
-            find(rt, &mut feed, &mut first, &mut second, replica, keys)
-        }
-        _ => None,
+    let found = match readers.pop() {
+        Some(first) => find_with(rt, &mut feed, first, &mut readers, replica, keys),
+        None => None,
     };
     feed.close(rt);
     Ok(found)
+}
+
+// What the first reader finds, and the last of the others.
+fn find_with<R: Wait>(
+    rt: &R,
+    feed: &mut Feed,
+    first: Reader,
+    others: &mut Vec<Reader>,
+    replica: &Replica<KeyStore>,
+    keys: (Key, Key),
+) -> Option<Findings>
+    requires first { (feed.old.list ≡ []) × (first.feed ≡ feed.old.feed) }
+    requires others { All (λ r. r.feed ≡ feed.old.feed) others.old.items }
+{
+    let mut first = first;
+    match others.pop() {
+        Some(mut second) => find(rt, feed, &mut first, &mut second, replica, keys),
+        None => None,
+    }
 }
 
 #[test]

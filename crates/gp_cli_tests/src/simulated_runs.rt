@@ -54,8 +54,17 @@ fn begins<W: Threads + Wait + Sync>(
     let begin = format!(in alloc;
         "sim {seed} {commands}\nlearned {commands} {commands}\nsame yes\n"
     )?;
-    let finished = served(rt, alloc, &["sim", seed, commands], b"", CALM)?;
-    Ok(finished.ran.status == 0 && finished.sink.written().starts_with(begin.as_bytes()))
+    begins_with(rt, alloc, &["sim", seed, commands], begin.as_bytes())
+}
+
+fn begins_with<W: Threads + Wait + Sync>(
+    rt: &W,
+    alloc: Global,
+    words: &[&str],
+    begin: &[u8],
+) -> Result<bool, Fail> {
+    let outcome = served(rt, alloc, words, b"", CALM)?;
+    Ok(outcome.status == 0 && outcome.text.starts_with(begin))
 }
 
 #[test]

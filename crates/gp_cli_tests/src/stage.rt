@@ -1,7 +1,7 @@
 //! Runs of the program in memory.
 ghost use Rattle.std.specs.Prelude.{◌≡◌, IfOk, length};
 
-use gp_cli::{Ran, serve};
+use gp_cli::{Ran, Trail, serve};
 use gp_edge::{CalmSink, CalmSource, Gate, Idle, MemDisk};
 use std::alloc::Global;
 use std::sync::Wait;
@@ -46,18 +46,55 @@ pub struct Finished {
 }
 
 impl Finished {
-    /// Whether the command ended with this status and printed this.
-    pub fn ended(&self, status: u8, text: &[u8]) -> bool {
-        self.ran.status == status && self.sink.written() == text
-    }
-
-    /// What a disk holds after the command.
-    pub fn content_of(&self, number: usize) -> &[u8] {
-        match self.ran.disks.get(number) {
+    // What a disk holds after the command.
+    fn content_of(&self, number: u64) -> &[u8] {
+        match self.ran.disks.get(number as usize) {
             Some(disk) => disk.content(),
             None => b"",
         }
     }
+
+    // Whether nodes in threads posted the records.
+    fn is_posted(&self) -> bool {
+        match self.ran.trail {
+            Trail::Posted(_) => true,
+            Trail::Folded(_) => false,
+        }
+    }
+}
+
+/// What a command came to. It owns little, so that tests which drop it are short to prove.
+#[derive(Drop)]
+pub struct Outcome {
+    pub status: u8,
+    /// What it printed.
+    pub text: Vec<u8>,
+    /// What the special disk holds.
+    pub content: Vec<u8>,
+    /// How many records the run has.
+    pub records: usize,
+    /// Whether nodes in threads posted them.
+    pub is_posted: bool,
+}
+
+impl Outcome {
+    /// Whether the command ended with this status and printed this.
+    pub fn ended(&self, status: u8, text: &[u8]) -> bool {
+        self.status == status && *self.text.as_slice() == *text
+    }
+}
+
+// The outcome of a command, whose special disk has this number.
+fn outcome_of(alloc: Global, finished: &Finished, number: u64) -> Result<Outcome, Fail> {
+    let text = Vec::from_slice(alloc, finished.sink.written())?;
+    let content = Vec::from_slice(alloc, finished.content_of(number))?;
+    Ok(Outcome {
+        status: finished.ran.status,
+        text,
+        content,
+        records: finished.ran.trail.records().len(),
+        is_posted: finished.is_posted(),
+    })
 }
 
 /// The number of a disk, its bytes, and the calls of it that fail. The other disks are empty and do
@@ -90,6 +127,18 @@ pub fn served<W: Threads + Wait + Sync>(
     words: &[&str],
     input: &[u8],
     disk: Special<'_>,
+) -> Result<Outcome, Fail> {
+    let finished = whole_run(rt, alloc, words, input, disk)?;
+    outcome_of(alloc, &finished, disk.0)
+}
+
+/// The same with the run itself.
+pub fn whole_run<W: Threads + Wait + Sync>(
+    rt: &W,
+    alloc: Global,
+    words: &[&str],
+    input: &[u8],
+    disk: Special<'_>,
 ) -> Result<Finished, Fail> {
     let words = owned(alloc, words)?;
     let mut source = CalmSource::new(alloc, input)?;
@@ -103,8 +152,7 @@ pub fn all_print<W: Threads + Wait + Sync>(
     rows: &[(&[&str], &[u8])],
 ) -> Result<bool, Fail> {
     for (words, text) in rows {
-        let finished = served(rt, alloc, words, b"", CALM)?;
-        if !finished.ended(0, text) {
+        if !served(rt, alloc, words, b"", CALM)?.ended(0, text) {
             return Ok(false);
         }
     }

@@ -1,7 +1,7 @@
 //! The subcommand that renews a log of version 1.
 
 use crate::logs::{OLD_LOG, old_log, old_log_of_a_vote};
-use crate::stage::{Finished, served};
+use crate::stage::{Outcome, served};
 use std::alloc::Global;
 use std::sync::Wait;
 use std::test::Fail;
@@ -28,19 +28,22 @@ fn is_taken_on_once<W: Threads + Wait + Sync>(
     bytes: &[u8],
 ) -> Result<bool, Fail> {
     let first = served(rt, alloc, &UPGRADE, b"", (3, bytes, &[]))?;
-    let new = first.content_of(3);
-    let is_new = new.len() == 182 && new.get(12) == Some(&1);
-    Ok(is_new && is_taken_on(&first) && stays(rt, alloc, new)?)
+    Ok(is_taken_on(&first) && is_new(&first.content) && stays(rt, alloc, &first.content)?)
 }
 
-fn is_taken_on(finished: &Finished) -> bool {
-    finished.ended(0, TAKEN_ON)
+fn is_taken_on(outcome: &Outcome) -> bool {
+    outcome.ended(0, TAKEN_ON)
+}
+
+// Whether a log has this length, and its second area is active.
+fn is_new(log: &[u8]) -> bool {
+    log.len() == 182 && log.get(12) == Some(&1)
 }
 
 // Whether a log that was taken on is shown again, and nothing is written.
 fn stays<W: Threads + Wait + Sync>(rt: &W, alloc: Global, new: &[u8]) -> Result<bool, Fail> {
     let second = served(rt, alloc, &UPGRADE, b"", (3, new, &[3]))?;
-    Ok(is_taken_on(&second) && second.content_of(3) == new)
+    Ok(is_taken_on(&second) && *second.content.as_slice() == *new)
 }
 
 #[test]
@@ -54,8 +57,8 @@ fn a_log_without_room_for_its_last_entry_is_full(rt: HostRuntime) -> Result<(), 
 
 // Whether a log is too full to be taken on, and stays as it is.
 fn is_full<W: Threads + Wait + Sync>(rt: &W, alloc: Global, bytes: &[u8]) -> Result<bool, Fail> {
-    let finished = served(rt, alloc, &UPGRADE, b"", (3, bytes, &[]))?;
-    Ok(finished.ended(7, b"log full: size 17 need 53\n") && finished.content_of(3) == bytes)
+    let outcome = served(rt, alloc, &UPGRADE, b"", (3, bytes, &[]))?;
+    Ok(outcome.ended(7, b"log full: size 17 need 53\n") && *outcome.content.as_slice() == *bytes)
 }
 
 // Whether a log is whole: `log` shows both entries, or the last one.
@@ -71,8 +74,8 @@ fn stops_at<W: Threads + Wait + Sync>(
     bytes: &[u8],
     call: u64,
 ) -> Result<bool, Fail> {
-    let finished = served(rt, alloc, &UPGRADE, b"", (3, bytes, &[call]))?;
-    Ok(finished.ended(6, b"disk fault\n") && is_whole(rt, alloc, finished.content_of(3))?)
+    let outcome = served(rt, alloc, &UPGRADE, b"", (3, bytes, &[call]))?;
+    Ok(outcome.ended(6, b"disk fault\n") && is_whole(rt, alloc, &outcome.content)?)
 }
 
 // Whether each of the seven calls may fail so, and an eighth is not made.

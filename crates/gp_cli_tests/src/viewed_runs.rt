@@ -45,9 +45,9 @@ fn run_viewed<W: Threads + Wait + Sync>(
     key: &str,
     script: &[u8],
 ) -> Result<Viewed, Fail> {
-    let finished = served(rt, alloc, &["views", key], script, CALM)?;
-    if finished.ran.status == 0 {
-        viewed_in(alloc, finished.sink.written())
+    let outcome = served(rt, alloc, &["views", key], script, CALM)?;
+    if outcome.status == 0 {
+        viewed_in(alloc, &outcome.text)
     } else {
         Err(Fail::from("not all is learned"))
     }
@@ -196,8 +196,8 @@ fn each_read_shows_a_beginning_of_the_order(rt: HostRuntime) -> Result<(), Fail>
 }
 
 fn ends_with_no_looks<W: Threads + Wait + Sync>(rt: &W, alloc: Global) -> Result<bool, Fail> {
-    let finished = served(rt, alloc, &["views", "a"], EIGHT, (0, b"", &[0]))?;
-    Ok(finished.ended(6, b"disk fault\n"))
+    let outcome = served(rt, alloc, &["views", "a"], EIGHT, (0, b"", &[0]))?;
+    Ok(outcome.ended(6, b"disk fault\n"))
 }
 
 #[test]

@@ -26,8 +26,8 @@ fn are_refused<W: Threads + Wait + Sync>(
     alloc: Global,
     words: &[&str],
 ) -> Result<bool, Fail> {
-    let finished = served(rt, alloc, words, SCRIPT, CALM)?;
-    Ok(finished.ended(2, USAGE) && finished.ran.trail.records().is_empty())
+    let outcome = served(rt, alloc, words, SCRIPT, CALM)?;
+    Ok(outcome.ended(2, USAGE) && outcome.records == 0)
 }
 
 // Words that name no subcommand, or one with other words than it takes.
