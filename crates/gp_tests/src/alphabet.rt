@@ -20,22 +20,35 @@ pub static LETTERS: [u8; 9] = *b"ABRSWVYKL";
 
 /// The command of a letter. A byte that is not a letter is read as `L`.
 pub fn command(alloc: Global, letter: u8) -> Result<Command, Fail> {
-    let (proposer, draft) = match letter {
-        b'A' => (0, touching(alloc, b"x", Access::Add)?),
-        b'B' => (1, touching(alloc, b"x", Access::Add)?),
-        b'R' => (2, touching(alloc, b"x", Access::Read)?),
-        b'S' => (3, touching(alloc, b"x", Access::Read)?),
-        b'W' => (4, touching(alloc, b"x", Access::Write)?),
-        b'V' => (5, touching(alloc, b"x", Access::Write)?),
-        b'Y' => (6, touching(alloc, b"y", Access::Write)?),
-        b'K' => (7, Draft::checkpoint(alloc, b"checkpoint")?),
-        _ => (8, Draft::checkpoint(alloc, b"checkpoint")?),
-    };
     let id = CommandId {
-        proposer,
+        proposer: proposer(letter),
         number: 1,
     };
-    Ok(Command::new(id, draft))
+    Ok(Command::new(id, draft(alloc, letter)?))
+}
+
+fn proposer(letter: u8) -> u32 {
+    match letter {
+        b'A' => 0,
+        b'B' => 1,
+        b'R' => 2,
+        b'S' => 3,
+        b'W' => 4,
+        b'V' => 5,
+        b'Y' => 6,
+        b'K' => 7,
+        _ => 8,
+    }
+}
+
+fn draft(alloc: Global, letter: u8) -> Result<Draft, Fail> {
+    match letter {
+        b'A' | b'B' => touching(alloc, b"x", Access::Add),
+        b'R' | b'S' => touching(alloc, b"x", Access::Read),
+        b'W' | b'V' => touching(alloc, b"x", Access::Write),
+        b'Y' => touching(alloc, b"y", Access::Write),
+        _ => Ok(Draft::checkpoint(alloc, b"checkpoint")?),
+    }
 }
 
 /// The draft with one touch and an empty body.
@@ -64,6 +77,32 @@ pub fn letters<H: Hist>(alloc: Global, history: &H) -> Result<Vec<u8>, Fail> {
     let mut letters = Vec::new(alloc);
     push_letters(history, &mut letters)?;
     Ok(letters)
+}
+
+/// Whether the sequence of a history has these letters, in this order.
+pub fn has_letters<H: Hist>(alloc: Global, history: &H, want: &str) -> Result<bool, Fail> {
+    let letters = letters(alloc, history)?;
+    Ok(letters.as_slice() == want.as_bytes())
+}
+
+/// Whether this is the history of a word.
+pub fn is_history_of<H: Hist>(alloc: Global, have: &H, word: &str) -> Result<bool, Fail> {
+    let want = history(alloc, word)?;
+    Ok(have.same(&want))
+}
+
+/// Pushes the next command in canonical order, if there is one: its letter.
+pub fn take_next<H: Hist>(history: &H, taken: &mut H) -> Result<Option<u8>, Fail> {
+    if !taken.is_prefix(history) {
+        return Err(Fail::from("what was taken is no prefix"));
+    }
+    match history.next_least(taken) {
+        Some(next) => {
+            taken.push(next.copy()?)?;
+            Ok(Some(letter(next)))
+        }
+        None => Ok(None),
+    }
 }
 
 fn push_letters<H: Hist>(history: &H, letters: &mut Vec<u8>) -> Result<(), Fail> {

@@ -1,10 +1,10 @@
 //! The same calls on both representations, and what each of them returns.
-use crate::alphabet::{LETTERS, command, history, letter};
+use crate::alphabet::{LETTERS, command, history, letter, push_letter, take_next};
+use crate::outcome::holds_of;
 use gp_command::Command;
 use gp_history::{Hist, SeqHistory};
 use gp_index::History;
 use std::alloc::Global;
-use std::process::Abort;
 use std::test::Fail;
 
 // The result of a call. A command is given by its letter.
@@ -39,46 +39,36 @@ static OTHERS: [&str; 6] = ["", "WK", "WKY", "YWK", "AKBL", "VYKAB"];
 #[test]
 fn both_answer_alike(rt: HostRuntime) -> Result<(), Fail> {
     for word in &WORDS {
-        are_alike(&rt, rt.alloc(), word)?;
+        holds_of(&rt, word, are_alike(rt.alloc(), word))?;
     }
     Ok(())
 }
 
-fn are_alike(rt: &impl Abort, alloc: Global, word: &str) -> Result<(), Fail> {
-    let listed = see_all::<SeqHistory>(rt, alloc, word)?;
-    let indexed = see_all::<History>(rt, alloc, word)?;
-    assert!(rt; listed.as_slice() == indexed.as_slice(), "of {word}");
-    Ok(())
+fn are_alike(alloc: Global, word: &str) -> Result<bool, Fail> {
+    let listed = see_all::<SeqHistory>(alloc, word)?;
+    let indexed = see_all::<History>(alloc, word)?;
+    Ok(listed.as_slice() == indexed.as_slice())
 }
 
 // Every call, on the history of a word.
-fn see_all<H: Hist>(rt: &impl Abort, alloc: Global, word: &str) -> Result<Vec<Seen>, Fail> {
+fn see_all<H: Hist>(alloc: Global, word: &str) -> Result<Vec<Seen>, Fail> {
     let mut seen = Vec::new(alloc);
-    see_word::<H>(rt, alloc, word, &mut seen)?;
+    see_word::<H>(alloc, word, &mut seen)?;
     Ok(seen)
 }
 
-fn see_word<H: Hist>(
-    rt: &impl Abort,
-    alloc: Global,
-    word: &str,
-    seen: &mut Vec<Seen>,
-) -> Result<(), Fail> {
-    let mut history: H = see_pushes(alloc, word, seen)?;
-    see_reads(rt, alloc, &history, seen)?;
+fn see_word<H: Hist>(alloc: Global, word: &str, seen: &mut Vec<Seen>) -> Result<(), Fail> {
+    let mut history = H::empty(alloc)?;
+    see_pushes(alloc, word, &mut history, seen)?;
+    see_reads(alloc, &history, seen)?;
     see_clear(alloc, &mut history, seen)
 }
 
-fn see_reads<H: Hist>(
-    rt: &impl Abort,
-    alloc: Global,
-    history: &H,
-    seen: &mut Vec<Seen>,
-) -> Result<(), Fail> {
+fn see_reads<H: Hist>(alloc: Global, history: &H, seen: &mut Vec<Seen>) -> Result<(), Fail> {
     see_places(history, seen)?;
     see_letters(alloc, history, seen)?;
     see_others(alloc, history, seen)?;
-    see_next(rt, alloc, history, seen)
+    see_next(alloc, history, seen)
 }
 
 // A copy and the history itself after a clear.
@@ -90,13 +80,17 @@ fn see_clear<H: Hist>(alloc: Global, history: &mut H, seen: &mut Vec<Seen>) -> R
     see_letters(alloc, history, seen)
 }
 
-fn see_pushes<H: Hist>(alloc: Global, word: &str, seen: &mut Vec<Seen>) -> Result<H, Fail> {
-    let mut history = H::empty(alloc)?;
+fn see_pushes<H: Hist>(
+    alloc: Global,
+    word: &str,
+    history: &mut H,
+    seen: &mut Vec<Seen>,
+) -> Result<(), Fail> {
     for letter in word.as_bytes() {
-        let pushed = history.push(command(alloc, *letter)?)?;
+        let pushed = push_letter(alloc, history, *letter)?;
         seen.push(Seen::Pushed(pushed))?;
     }
-    Ok(history)
+    Ok(())
 }
 
 fn see_places<H: Hist>(history: &H, seen: &mut Vec<Seen>) -> Result<(), Fail> {
@@ -138,30 +132,10 @@ fn see_other<H: Hist>(of: &H, other: &H, seen: &mut Vec<Seen>) -> Result<(), Fai
 }
 
 // The canonical order, and a call after its end: no word has more than nine letters.
-fn see_next<H: Hist>(
-    rt: &impl Abort,
-    alloc: Global,
-    history: &H,
-    seen: &mut Vec<Seen>,
-) -> Result<(), Fail> {
+fn see_next<H: Hist>(alloc: Global, history: &H, seen: &mut Vec<Seen>) -> Result<(), Fail> {
     let mut taken = H::empty(alloc)?;
     for _ in 0..10 {
-        see_one_next(rt, history, &mut taken, seen)?;
-    }
-    Ok(())
-}
-
-fn see_one_next<H: Hist>(
-    rt: &impl Abort,
-    history: &H,
-    taken: &mut H,
-    seen: &mut Vec<Seen>,
-) -> Result<(), Fail> {
-    assert!(rt; taken.is_prefix(history));
-    let next = history.next_least(taken);
-    seen.push(Seen::Next(next.map(letter)))?;
-    if let Some(c) = next {
-        taken.push(c.copy()?)?;
+        seen.push(Seen::Next(take_next(history, &mut taken)?))?;
     }
     Ok(())
 }

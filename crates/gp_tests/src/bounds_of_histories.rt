@@ -1,5 +1,6 @@
 //! Compatibility, meets and joins, in both representations.
-use crate::alphabet::history;
+use crate::alphabet::{history, is_history_of};
+use crate::outcome::holds;
 use gp_bounds::{compatible, join, join_all, meet, meet_all};
 use gp_history::{Hist, SeqHistory};
 use gp_index::History;
@@ -57,9 +58,10 @@ static PAIRS: [Pair; 24] = [
 
 #[test]
 fn pairs_have_the_bounds_that_were_worked_out(rt: HostRuntime) -> Result<(), Fail> {
+    let alloc = rt.alloc();
     for pair in &PAIRS {
-        assert!(rt; has_bounds::<SeqHistory>(rt.alloc(), pair)?);
-        assert!(rt; has_bounds::<History>(rt.alloc(), pair)?);
+        holds(&rt, has_bounds::<SeqHistory>(alloc, pair))?;
+        holds(&rt, has_bounds::<History>(alloc, pair))?;
     }
     Ok(())
 }
@@ -72,89 +74,108 @@ fn has_bounds<H: Hist>(alloc: Global, pair: &Pair) -> Result<bool, Fail> {
 
 fn are_bounded<H: Hist>(alloc: Global, a: &H, b: &H, pair: &Pair) -> Result<bool, Fail> {
     let (_, _, want, met, joined) = *pair;
-    Ok(
-        compatible(a, b) == want
-            && compatible(b, a) == want
-            && is_meet(alloc, a, b, met)?
-            && is_meet(alloc, b, a, met)?
-            && is_join(alloc, a, b, joined)?,
-    )
+    if compatible(a, b) != want || compatible(b, a) != want {
+        return Ok(false);
+    }
+    if !is_meet(alloc, a, b, met)? || !is_meet(alloc, b, a, met)? {
+        return Ok(false);
+    }
+    is_join(alloc, a, b, joined)
 }
 
 fn is_meet<H: Hist>(alloc: Global, a: &H, b: &H, word: &str) -> Result<bool, Fail> {
-    let want = history(alloc, word)?;
-    Ok(meet(alloc, a, b)?.same(&want))
+    is_history_of(alloc, &meet(alloc, a, b)?, word)
 }
 
 fn is_join<H: Hist>(alloc: Global, a: &H, b: &H, word: &str) -> Result<bool, Fail> {
-    let want = history(alloc, word)?;
-    Ok(join(alloc, a, b)?.same(&want))
+    is_history_of(alloc, &join(alloc, a, b)?, word)
 }
+
+// Two writes of one key, and the second alone.
+static TWO: [&str; 2] = ["WV", "V"];
+
+// A mask, and the meet of those of the two that it names.
+static TWO_MASKED: [(u8, &str); 3] = [(3, ""), (1, "WV"), (2, "V")];
 
 #[test]
 fn the_meet_of_many_is_that_of_the_masked(rt: HostRuntime) -> Result<(), Fail> {
-    let alloc = rt.alloc();
-    // two writes of one key, and the second alone
-    let words = ["WV", "V"];
-    assert!(rt; is_meet_of(alloc, &words, 3, "")?);
-    assert!(rt; is_meet_of(alloc, &words, 1, "WV")?);
-    assert!(rt; is_meet_of(alloc, &words, 2, "V")?);
+    for &(mask, want) in &TWO_MASKED {
+        holds(&rt, is_meet_of(rt.alloc(), &TWO, mask, want))?;
+    }
     Ok(())
 }
 
+static FOUR: [&str; 4] = ["ABR", "ABS", "BAW", "B"];
+
+// A mask, and the meet of those of the four that it names.
+static FOUR_MASKED: [(u8, &str); 6] = [
+    (1, "ABR"),
+    (2, "ABS"),
+    (3, "AB"),
+    (7, "AB"),
+    (8, "B"),
+    (15, "B"),
+];
+
 #[test]
 fn a_mask_names_places(rt: HostRuntime) -> Result<(), Fail> {
-    for (mask, want) in [
-        (1, "ABR"),
-        (2, "ABS"),
-        (3, "AB"),
-        (7, "AB"),
-        (8, "B"),
-        (15, "B"),
-    ] {
-        assert!(rt; is_meet_of(rt.alloc(), &["ABR", "ABS", "BAW", "B"], mask, want)?);
+    for &(mask, want) in &FOUR_MASKED {
+        holds(&rt, is_meet_of(rt.alloc(), &FOUR, mask, want))?;
     }
     Ok(())
 }
 
 // Whether the elements that the mask names have this meet, in both representations.
 fn is_meet_of(alloc: Global, words: &[&str], mask: u8, word: &str) -> Result<bool, Fail> {
-    Ok(
-        meets::<SeqHistory>(alloc, words, mask, word)?
-            && meets::<History>(alloc, words, mask, word)?,
-    )
+    if !meets::<SeqHistory>(alloc, words, mask, word)? {
+        return Ok(false);
+    }
+    meets::<History>(alloc, words, mask, word)
 }
 
 fn meets<H: Hist>(alloc: Global, words: &[&str], mask: u8, word: &str) -> Result<bool, Fail> {
     let list: Vec<H> = histories(alloc, words)?;
-    let want = history(alloc, word)?;
+    have_meet(alloc, &list, mask, word)
+}
+
+fn have_meet<H: Hist>(alloc: Global, list: &[H], mask: u8, word: &str) -> Result<bool, Fail> {
     if mask == 0 || list.len() > 7 || mask >= 1 << list.len() {
         return Ok(false);
     }
-    Ok(meet_all(alloc, &list, mask)?.same(&want))
+    is_history_of(alloc, &meet_all(alloc, list, mask)?, word)
 }
+
+// Histories, and their join.
+type Joined = (&'static [&'static str], &'static str);
+
+static JOINS: [Joined; 5] = [
+    (&[], ""),
+    (&["KAR", "KAS", "KY"], "KARSY"),
+    (&["KY", "KAS", "KAR"], "KARSY"),
+    // if the list is not compatible in pairs, its order decides
+    (&["W", "V"], "WV"),
+    (&["V", "W"], "VW"),
+];
 
 #[test]
 fn the_join_of_many_is_one_in_every_order(rt: HostRuntime) -> Result<(), Fail> {
-    let alloc = rt.alloc();
-    assert!(rt; is_join_of(alloc, &[], "")?);
-    assert!(rt; is_join_of(alloc, &["KAR", "KAS", "KY"], "KARSY")?);
-    assert!(rt; is_join_of(alloc, &["KY", "KAS", "KAR"], "KARSY")?);
-    // if the list is not compatible in pairs, its order decides
-    assert!(rt; is_join_of(alloc, &["W", "V"], "WV")?);
-    assert!(rt; is_join_of(alloc, &["V", "W"], "VW")?);
+    for &(words, want) in &JOINS {
+        holds(&rt, is_join_of(rt.alloc(), words, want))?;
+    }
     Ok(())
 }
 
 // Whether the elements have this join, in both representations.
 fn is_join_of(alloc: Global, words: &[&str], word: &str) -> Result<bool, Fail> {
-    Ok(joins::<SeqHistory>(alloc, words, word)? && joins::<History>(alloc, words, word)?)
+    if !joins::<SeqHistory>(alloc, words, word)? {
+        return Ok(false);
+    }
+    joins::<History>(alloc, words, word)
 }
 
 fn joins<H: Hist>(alloc: Global, words: &[&str], word: &str) -> Result<bool, Fail> {
     let list: Vec<H> = histories(alloc, words)?;
-    let want = history(alloc, word)?;
-    Ok(join_all(alloc, &list)?.same(&want))
+    is_history_of(alloc, &join_all(alloc, &list)?, word)
 }
 
 fn histories<H: Hist>(alloc: Global, words: &[&str]) -> Result<Vec<H>, Fail> {

@@ -1,9 +1,9 @@
 //! The bytes of commands.
+use crate::outcome::holds;
 use gp_command::{
     Access, Command, CommandId, Draft, Key, ReadRefused, Touch, read_command, write_command,
 };
 use std::alloc::Global;
-use std::process::Abort;
 use std::test::Fail;
 
 // The first offer of proposer 0, `put a 5`: proposer, number, mark, number of touches; the key `a`
@@ -28,42 +28,45 @@ fn put_a_5(alloc: Global) -> Result<Command, Fail> {
 #[test]
 fn a_put_has_21_bytes(rt: HostRuntime) -> Result<(), Fail> {
     let alloc = rt.alloc();
-    let command = put_a_5(alloc)?;
-    assert!(rt; written(&rt, alloc, &command)?.as_slice() == PUT_A_5.as_slice());
-    Ok(())
+    holds(&rt, is_written(alloc, &put_a_5(alloc)?, &PUT_A_5))
 }
 
-// The bytes of a command after others.
-fn written(rt: &impl Abort, alloc: Global, command: &Command) -> Result<Vec<u8>, Fail> {
+// Whether a command is written as these bytes, after what was there.
+fn is_written(alloc: Global, command: &Command, want: &[u8]) -> Result<bool, Fail> {
     let mut bytes = [9].to_vec(alloc)?;
-    write(rt, command, &mut bytes)?;
+    write(command, &mut bytes)?;
+    Ok(follows(9, &bytes, want))
+}
+
+fn follows(first: u8, bytes: &[u8], want: &[u8]) -> bool {
     match bytes.split_first() {
-        Some((9, written)) => Ok(written.to_vec(alloc)?),
-        _ => Err(Fail::from("what was there is lost")),
+        Some((byte, rest)) => *byte == first && rest == want,
+        None => false,
     }
 }
 
-fn write(rt: &impl Abort, command: &Command, bytes: &mut Vec<u8>) -> Result<(), Fail> {
+fn write(command: &Command, bytes: &mut Vec<u8>) -> Result<(), Fail> {
     let id = command.id();
-    assert!(rt; id.proposer < 8 && 1 <= id.number);
+    if id.proposer >= 8 || id.number == 0 {
+        return Err(Fail::from("no command has this identity"));
+    }
     write_command(command, bytes)?;
     Ok(())
 }
 
 #[test]
 fn a_command_is_read_whatever_follows(rt: HostRuntime) -> Result<(), Fail> {
-    let want = put_a_5(rt.alloc())?;
-    for length in [21, 22, 30] {
-        assert!(rt; is_read_from(rt.alloc(), length, &want)?);
+    for &length in &[21, 22, 30] {
+        holds(&rt, is_read_from(rt.alloc(), length))?;
     }
     Ok(())
 }
 
 // Whether the command is read of its 21 bytes in an input of this length.
-fn is_read_from(alloc: Global, length: usize, want: &Command) -> Result<bool, Fail> {
+fn is_read_from(alloc: Global, length: usize) -> Result<bool, Fail> {
     let mut bytes = PUT_A_5.to_vec(alloc)?;
     bytes.resize(length, 0xff)?;
-    is_read(alloc, &bytes, want, 21)
+    is_read(alloc, &bytes, &put_a_5(alloc)?, 21)
 }
 
 fn is_read(alloc: Global, bytes: &[u8], want: &Command, length: usize) -> Result<bool, Fail> {
@@ -71,62 +74,84 @@ fn is_read(alloc: Global, bytes: &[u8], want: &Command, length: usize) -> Result
     Ok(command == *want && len == length)
 }
 
+// How many bytes there are, and where the field is that is not whole.
+static PARTS: [(usize, usize); 12] = [
+    (0, 0),
+    (3, 0),
+    (4, 4),
+    (7, 4),
+    (8, 8),
+    (9, 9),
+    (10, 10),
+    (11, 11),
+    (12, 12),
+    (13, 13),
+    (14, 14),
+    (20, 14),
+];
+
 #[test]
 fn a_part_of_a_command_is_cut_in_the_field_that_is_not_whole(rt: HostRuntime) {
-    for (len, at) in [
-        (0, 0),
-        (3, 0),
-        (4, 4),
-        (7, 4),
-        (8, 8),
-        (9, 9),
-        (10, 10),
-        (11, 11),
-        (12, 12),
-        (13, 13),
-        (14, 14),
-        (20, 14),
-    ] {
-        assert!(rt; len <= PUT_A_5.len());
-        let read = read_command(rt.alloc(), &PUT_A_5[..len]);
-        assert!(rt; read.err() == Some(ReadRefused::Cut { at }));
+    for &(len, at) in &PARTS {
+        assert!(rt; is_cut(rt.alloc(), len, at));
     }
 }
+
+fn is_cut(alloc: Global, len: usize, at: usize) -> bool {
+    len <= PUT_A_5.len() && is_refused(alloc, &PUT_A_5[..len], ReadRefused::Cut { at })
+}
+
+fn is_refused(alloc: Global, bytes: &[u8], why: ReadRefused) -> bool {
+    read_command(alloc, bytes).err() == Some(why)
+}
+
+// A place, the byte that is put there, and the field that it breaks.
+static BROKEN: [(usize, u8, usize); 11] = [
+    (0, 8, 0), // there are 8 proposers, from 0
+    (3, 1, 0), // and they have four bytes
+    (4, 0, 4), // numbers are at least 1
+    (8, 2, 8), // a mark is 0 or 1
+    (8, 1, 9), // a checkpoint has no touches
+    (9, 9, 9), // there are at most 8 touches
+    (10, 0, 10), // a key has at least one byte
+    (10, 17, 10), // and at most 16
+    (11, 0x41, 11), // `A` is no byte of a key
+    (12, 3, 12), // there are three accesses
+    (13, 65, 13), // a body has at most 64 bytes
+];
 
 #[test]
 fn a_field_that_breaks_its_rule_is_bad(rt: HostRuntime) {
-    // a place, the byte that is put there, and the field that it breaks
-    for (place, byte, at) in [
-        (0, 8, 0), // there are 8 proposers, from 0
-        (3, 1, 0), // and they have four bytes
-        (4, 0, 4), // numbers are at least 1
-        (8, 2, 8), // a mark is 0 or 1
-        (8, 1, 9), // a checkpoint has no touches
-        (9, 9, 9), // there are at most 8 touches
-        (10, 0, 10), // a key has at least one byte
-        (10, 17, 10), // and at most 16
-        (11, 0x41, 11), // `A` is no byte of a key
-        (12, 3, 12), // there are three accesses
-        (13, 65, 13), // a body has at most 64 bytes
-    ] {
-        let mut bytes = PUT_A_5;
-        assert!(rt; place < bytes.len());
-        bytes[place] = byte;
-        let read = read_command(rt.alloc(), &bytes);
-        assert!(rt; read.err() == Some(ReadRefused::Bad { at }));
+    for &(place, byte, at) in &BROKEN {
+        assert!(rt; is_bad(rt.alloc(), place, byte, at));
     }
 }
 
+fn is_bad(alloc: Global, place: usize, byte: u8, at: usize) -> bool {
+    let mut bytes = PUT_A_5;
+    if place >= bytes.len() {
+        return false;
+    }
+    bytes[place] = byte;
+    is_refused(alloc, &bytes, ReadRefused::Bad { at })
+}
+
+// Bytes, and the first fault in them.
+static FAULTS: [(&[u8], usize); 2] = [
+    // a mark that breaks its rule, and an input that ends two fields later
+    (&[0, 0, 0, 0, 1, 0, 0, 0, 7, 1], 8),
+    // two touches of one key
+    (
+        &[0, 0, 0, 0, 1, 0, 0, 0, 0, 2, 1, 0x61, 2, 1, 0x61, 2, 0],
+        14,
+    ),
+];
+
 #[test]
 fn the_first_fault_is_told(rt: HostRuntime) {
-    // a mark that breaks its rule, and an input that ends two fields later
-    let marked = [0, 0, 0, 0, 1, 0, 0, 0, 7, 1];
-    let read = read_command(rt.alloc(), &marked);
-    assert!(rt; read.err() == Some(ReadRefused::Bad { at: 8 }));
-    // two touches of one key
-    let twice = [0, 0, 0, 0, 1, 0, 0, 0, 0, 2, 1, 0x61, 2, 1, 0x61, 2, 0];
-    let read = read_command(rt.alloc(), &twice);
-    assert!(rt; read.err() == Some(ReadRefused::Bad { at: 14 }));
+    for &(bytes, at) in &FAULTS {
+        assert!(rt; is_refused(rt.alloc(), bytes, ReadRefused::Bad { at }));
+    }
 }
 
 // Eight keys of 16 bytes, which differ in the last, with the three accesses in turn.
@@ -152,13 +177,21 @@ fn access(digit: u8) -> Access {
 }
 
 // The bytes by the format: proposer 7, the greatest number, no mark, 8 touches, and a body of 64.
+static LONGEST: [&[u8]; 6] = [
+    &[7, 0, 0, 0, 0xff, 0xff, 0xff, 0xff, 0, 8],
+    b"\x10aaaaaaaaaaaaaaa0\x00\x10aaaaaaaaaaaaaaa1\x01",
+    b"\x10aaaaaaaaaaaaaaa2\x02\x10aaaaaaaaaaaaaaa3\x00",
+    b"\x10aaaaaaaaaaaaaaa4\x01\x10aaaaaaaaaaaaaaa5\x02",
+    b"\x10aaaaaaaaaaaaaaa6\x00\x10aaaaaaaaaaaaaaa7\x01",
+    &[64],
+];
+
+// These, with what is in the body.
 fn longest_bytes(alloc: Global) -> Result<Vec<u8>, Fail> {
-    let mut bytes = [7, 0, 0, 0, 0xff, 0xff, 0xff, 0xff, 0, 8].to_vec(alloc)?;
-    bytes.extend_from_slice(b"\x10aaaaaaaaaaaaaaa0\x00\x10aaaaaaaaaaaaaaa1\x01")?;
-    bytes.extend_from_slice(b"\x10aaaaaaaaaaaaaaa2\x02\x10aaaaaaaaaaaaaaa3\x00")?;
-    bytes.extend_from_slice(b"\x10aaaaaaaaaaaaaaa4\x01\x10aaaaaaaaaaaaaaa5\x02")?;
-    bytes.extend_from_slice(b"\x10aaaaaaaaaaaaaaa6\x00\x10aaaaaaaaaaaaaaa7\x01")?;
-    bytes.push(64)?;
+    let mut bytes = Vec::new(alloc);
+    for part in &LONGEST {
+        bytes.extend_from_slice(part)?;
+    }
     bytes.resize(219, 0xfe)?;
     Ok(bytes)
 }
@@ -174,19 +207,18 @@ fn longest_command(alloc: Global) -> Result<Command, Fail> {
 
 #[test]
 fn the_longest_command_goes_both_ways(rt: HostRuntime) -> Result<(), Fail> {
-    let alloc = rt.alloc();
-    goes_both_ways(&rt, alloc, &longest_command(alloc)?, &longest_bytes(alloc)?)
+    holds(&rt, the_longest_goes_both_ways(rt.alloc()))
 }
 
-fn goes_both_ways(
-    rt: &impl Abort,
-    alloc: Global,
-    command: &Command,
-    bytes: &[u8],
-) -> Result<(), Fail> {
-    assert!(rt; written(rt, alloc, command)?.as_slice() == bytes);
-    assert!(rt; is_read(alloc, bytes, command, bytes.len())?);
-    Ok(())
+fn the_longest_goes_both_ways(alloc: Global) -> Result<bool, Fail> {
+    goes_both_ways(alloc, &longest_command(alloc)?, &longest_bytes(alloc)?)
+}
+
+fn goes_both_ways(alloc: Global, command: &Command, bytes: &[u8]) -> Result<bool, Fail> {
+    if !is_written(alloc, command, bytes)? {
+        return Ok(false);
+    }
+    is_read(alloc, bytes, command, bytes.len())
 }
 
 #[test]
@@ -198,5 +230,5 @@ fn a_checkpoint_has_mark_1_and_no_touches(rt: HostRuntime) -> Result<(), Fail> {
     };
     let command = Command::new(id, Draft::checkpoint(alloc, b"checkpoint")?);
     let bytes = b"\x02\0\0\0\x02\x01\0\0\x01\0\x0acheckpoint";
-    goes_both_ways(&rt, alloc, &command, bytes)
+    holds(&rt, goes_both_ways(alloc, &command, bytes))
 }

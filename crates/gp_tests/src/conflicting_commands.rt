@@ -1,36 +1,43 @@
 //! Which commands conflict.
 use crate::alphabet::command;
+use crate::outcome::holds;
 use gp_command::{Access, Command, CommandId, Draft, Key, Touch, conflicts};
 use std::alloc::Global;
 use std::test::Fail;
 
+// Two commands by their letters, and whether they conflict.
+static CONFLICTS: [(u8, u8, bool); 13] = [
+    (b'A', b'B', false), // two additions to one key
+    (b'A', b'R', true), // an addition and a read
+    (b'R', b'S', false), // two reads
+    (b'W', b'V', true), // two writes
+    (b'W', b'R', true), // a write and a read
+    (b'W', b'A', true), // a write and an addition
+    (b'W', b'Y', false), // two keys
+    (b'K', b'A', true), // a checkpoint and any other
+    (b'K', b'R', true),
+    (b'K', b'W', true),
+    (b'K', b'Y', true),
+    (b'K', b'K', false), // a checkpoint and itself
+    (b'W', b'W', false), // a command and itself
+];
+
 #[test]
 fn commands_conflict_by_their_keys_and_accesses(rt: HostRuntime) -> Result<(), Fail> {
-    let alloc = rt.alloc();
-    // two commands by their letters, and whether they conflict
-    for (a, b, want) in [
-        (b'A', b'B', false), // two additions to one key
-        (b'A', b'R', true), // an addition and a read
-        (b'R', b'S', false), // two reads
-        (b'W', b'V', true), // two writes
-        (b'W', b'R', true), // a write and a read
-        (b'W', b'A', true), // a write and an addition
-        (b'W', b'Y', false), // two keys
-        (b'K', b'A', true), // a checkpoint and any other
-        (b'K', b'R', true),
-        (b'K', b'W', true),
-        (b'K', b'Y', true),
-        (b'K', b'K', false), // a checkpoint and itself
-        (b'W', b'W', false), // a command and itself
-    ] {
-        assert!(rt; conflict(alloc, a, b)? == want);
-        assert!(rt; conflict(alloc, b, a)? == want);
+    for &(a, b, want) in &CONFLICTS {
+        holds(&rt, is_conflict(rt.alloc(), a, b, want))?;
     }
     Ok(())
 }
 
-fn conflict(alloc: Global, a: u8, b: u8) -> Result<bool, Fail> {
-    Ok(conflicts(&command(alloc, a)?, &command(alloc, b)?))
+// Whether two commands conflict or not, in both orders.
+fn is_conflict(alloc: Global, a: u8, b: u8, want: bool) -> Result<bool, Fail> {
+    is_conflict_with(alloc, &command(alloc, a)?, b, want)
+}
+
+fn is_conflict_with(alloc: Global, a: &Command, b: u8, want: bool) -> Result<bool, Fail> {
+    let b = command(alloc, b)?;
+    Ok(conflicts(a, &b) == want && conflicts(&b, a) == want)
 }
 
 // A command that reads one key and writes another.
@@ -52,18 +59,19 @@ fn copy_x_to_y(alloc: Global) -> Result<Command, Fail> {
     Ok(Command::new(id, Draft::new(alloc, &touches, b"copy x y")?))
 }
 
-// Whether it conflicts with the command of this letter.
-fn conflicts_with(alloc: Global, letter: u8) -> Result<bool, Fail> {
-    Ok(conflicts(&copy_x_to_y(alloc)?, &command(alloc, letter)?))
-}
+// A command by its letter, and whether it conflicts with that one.
+static CONFLICTS_WITH_TWO: [(u8, bool); 3] = [(b'R', false), (b'A', true), (b'Y', true)];
 
 #[test]
 fn commands_with_two_touches_conflict_at_either(rt: HostRuntime) -> Result<(), Fail> {
-    let alloc = rt.alloc();
-    assert!(rt; !conflicts_with(alloc, b'R')?);
-    assert!(rt; conflicts_with(alloc, b'A')?);
-    assert!(rt; conflicts_with(alloc, b'Y')?);
+    for &(letter, want) in &CONFLICTS_WITH_TWO {
+        holds(&rt, is_conflict_with_two(rt.alloc(), letter, want))?;
+    }
     Ok(())
+}
+
+fn is_conflict_with_two(alloc: Global, letter: u8, want: bool) -> Result<bool, Fail> {
+    is_conflict_with(alloc, &copy_x_to_y(alloc)?, letter, want)
 }
 
 // Whether a command and its draft equal their copies.
@@ -81,7 +89,6 @@ fn is_ordered_by_proposer(alloc: Global) -> Result<bool, Fail> {
 #[test]
 fn equal_commands_are_copies_and_are_ordered_by_proposer(rt: HostRuntime) -> Result<(), Fail> {
     let alloc = rt.alloc();
-    assert!(rt; equals_its_copy(&command(alloc, b'A')?)?);
-    assert!(rt; is_ordered_by_proposer(alloc)?);
-    Ok(())
+    holds(&rt, is_ordered_by_proposer(alloc))?;
+    holds(&rt, equals_its_copy(&command(alloc, b'A')?))
 }

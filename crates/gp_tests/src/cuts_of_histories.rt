@@ -1,5 +1,6 @@
 //! The first checkpoint, the cut there, and the commands of closed epochs.
-use crate::alphabet::{LETTERS, command, history, letter};
+use crate::alphabet::{LETTERS, command, history, is_history_of, letter};
+use crate::outcome::holds;
 use gp_epoch::{Done, cut, first_checkpoint};
 use gp_history::{Hist, SeqHistory};
 use gp_index::History;
@@ -28,9 +29,10 @@ static CUTS: [Cut; 10] = [
 
 #[test]
 fn a_history_is_cut_at_its_first_checkpoint(rt: HostRuntime) -> Result<(), Fail> {
+    let alloc = rt.alloc();
     for row in &CUTS {
-        assert!(rt; is_cut::<SeqHistory>(rt.alloc(), row)?);
-        assert!(rt; is_cut::<History>(rt.alloc(), row)?);
+        holds(&rt, is_cut::<SeqHistory>(alloc, row))?;
+        holds(&rt, is_cut::<History>(alloc, row))?;
     }
     Ok(())
 }
@@ -38,8 +40,10 @@ fn a_history_is_cut_at_its_first_checkpoint(rt: HostRuntime) -> Result<(), Fail>
 fn is_cut<H: Hist>(alloc: Global, row: &Cut) -> Result<bool, Fail> {
     let (word, first, want) = *row;
     let whole: H = history(alloc, word)?;
-    let want: H = history(alloc, want)?;
-    Ok(first_checkpoint(&whole).map(letter) == first && cut(alloc, &whole)?.same(&want))
+    if first_checkpoint(&whole).map(letter) != first {
+        return Ok(false);
+    }
+    is_history_of(alloc, &cut(alloc, &whole)?, want)
 }
 
 // Values, and the commands that are done after them.
@@ -59,7 +63,7 @@ static CLOSED: [Closed; 7] = [
 #[test]
 fn what_values_have_is_done(rt: HostRuntime) -> Result<(), Fail> {
     for &(values, want) in &CLOSED {
-        assert!(rt; has_done(rt.alloc(), values, want)?);
+        holds(&rt, has_done(rt.alloc(), values, want))?;
     }
     Ok(())
 }
@@ -67,7 +71,7 @@ fn what_values_have_is_done(rt: HostRuntime) -> Result<(), Fail> {
 fn has_done(alloc: Global, values: &[&str], want: &str) -> Result<bool, Fail> {
     let mut done = Done::new(alloc)?;
     add_all(alloc, &mut done, values)?;
-    Ok(is_done(alloc, &done, want)? && clears_one(alloc, &mut done, want)?)
+    clears_one(alloc, &mut done, want)
 }
 
 fn add_all(alloc: Global, done: &mut Done, values: &[&str]) -> Result<(), Fail> {
@@ -77,11 +81,15 @@ fn add_all(alloc: Global, done: &mut Done, values: &[&str]) -> Result<(), Fail> 
     Ok(())
 }
 
-// Whether a clear leaves a copy as it is.
+// Whether these letters are done, and a clear leaves a copy as it is.
 fn clears_one(alloc: Global, done: &mut Done, want: &str) -> Result<bool, Fail> {
+    let was_done = is_done(alloc, done, want)?;
     let copy = done.copy()?;
     done.clear();
-    Ok(is_done(alloc, done, "")? && is_done(alloc, &copy, want)?)
+    if !was_done || !is_done(alloc, done, "")? {
+        return Ok(false);
+    }
+    is_done(alloc, &copy, want)
 }
 
 // Whether these letters are done, and no other.

@@ -72,13 +72,29 @@ fn is_row(event: &Event, row: &Row) -> bool {
 
 fn are_rows(alloc: Global) -> Result<bool, Fail> {
     let mut workload = Workload::new(alloc, SEED, COMMANDS)?;
+    gives_rows(&mut workload)
+}
+
+fn gives_rows(workload: &mut Workload) -> Result<bool, Fail> {
     for (have, row) in ROWS.iter().enumerate() {
-        match workload.next(have as u64)? {
-            Some(event) if is_row(&event, row) => {}
-            _ => return Ok(false),
+        if !gives(workload, have as u64, Some(row))? {
+            return Ok(false);
         }
     }
-    Ok(workload.next(15)?.is_none() && workload.next(15)?.is_none())
+    if !gives(workload, 15, None)? {
+        return Ok(false);
+    }
+    gives(workload, 15, None)
+}
+
+// Whether the next event is that of the row, or both are missing.
+fn gives(workload: &mut Workload, have: u64, row: Option<&Row>) -> Result<bool, Fail> {
+    let next = workload.next(have)?;
+    Ok(match (&next, row) {
+        (Some(event), Some(row)) => is_row(event, row),
+        (None, None) => true,
+        _ => false,
+    })
 }
 
 #[test]

@@ -1,9 +1,10 @@
 //! The calls of histories, in both representations.
-use crate::alphabet::{command, history, letters, push_letter};
+use crate::alphabet::{command, has_letters, history, push_letter, take_next};
+use crate::outcome::holds;
+use gp_command::Command;
 use gp_history::{Hist, SeqHistory};
 use gp_index::History;
 use std::alloc::Global;
-use std::process::Abort;
 use std::test::Fail;
 
 // A letter, whether it is pushed, and how many commands there are then.
@@ -19,9 +20,8 @@ static PUSHES: [Push; 5] = [
 
 #[test]
 fn a_history_has_what_was_pushed_once(rt: HostRuntime) -> Result<(), Fail> {
-    assert!(rt; are_pushed_once::<SeqHistory>(rt.alloc())?);
-    assert!(rt; are_pushed_once::<History>(rt.alloc())?);
-    Ok(())
+    holds(&rt, are_pushed_once::<SeqHistory>(rt.alloc()))?;
+    holds(&rt, are_pushed_once::<History>(rt.alloc()))
 }
 
 fn are_pushed_once<H: Hist>(alloc: Global) -> Result<bool, Fail> {
@@ -36,17 +36,20 @@ fn are_pushed_once<H: Hist>(alloc: Global) -> Result<bool, Fail> {
 
 fn is_pushed_once<H: Hist>(alloc: Global, history: &mut H, push: &Push) -> Result<bool, Fail> {
     let (letter, pushed, len) = *push;
-    let command = command(alloc, letter)?;
-    let was_there = history.has(&command);
-    Ok(was_there == !pushed && history.push(command)? == pushed && history.len() == len)
+    let was_there = history.has(&command(alloc, letter)?);
+    let is_new = push_letter(alloc, history, letter)?;
+    Ok(was_there == !pushed && is_new == pushed && history.len() == len)
 }
+
+// A word, and the letters that stand in the sequence.
+static SEQUENCES: [(&str, &str); 3] = [("", ""), ("KWVAR", "KWVAR"), ("WVWYV", "WVY")];
 
 #[test]
 fn a_sequence_stands_as_it_was_pushed(rt: HostRuntime) -> Result<(), Fail> {
     let alloc = rt.alloc();
-    for (word, want) in [("", ""), ("KWVAR", "KWVAR"), ("WVWYV", "WVY")] {
-        assert!(rt; stands_as::<SeqHistory>(alloc, word, want)?);
-        assert!(rt; stands_as::<History>(alloc, word, want)?);
+    for &(word, want) in &SEQUENCES {
+        holds(&rt, stands_as::<SeqHistory>(alloc, word, want))?;
+        holds(&rt, stands_as::<History>(alloc, word, want))?;
     }
     Ok(())
 }
@@ -55,17 +58,10 @@ fn stands_as<H: Hist>(alloc: Global, word: &str, want: &str) -> Result<bool, Fai
     has_letters(alloc, &history::<H>(alloc, word)?, want)
 }
 
-// Whether the sequence has these letters, in this order.
-fn has_letters<H: Hist>(alloc: Global, history: &H, want: &str) -> Result<bool, Fail> {
-    let letters = letters(alloc, history)?;
-    Ok(letters.as_slice() == want.as_bytes())
-}
-
 #[test]
 fn a_copy_stands_by_itself(rt: HostRuntime) -> Result<(), Fail> {
-    assert!(rt; copies_grow_apart::<SeqHistory>(rt.alloc())?);
-    assert!(rt; copies_grow_apart::<History>(rt.alloc())?);
-    Ok(())
+    holds(&rt, copies_grow_apart::<SeqHistory>(rt.alloc()))?;
+    holds(&rt, copies_grow_apart::<History>(rt.alloc()))
 }
 
 fn copies_grow_apart<H: Hist>(alloc: Global) -> Result<bool, Fail> {
@@ -77,66 +73,85 @@ fn copies_grow_apart<H: Hist>(alloc: Global) -> Result<bool, Fail> {
 // Whether each of three copies grows, and the others stay as they are.
 fn grow_apart<H: Hist>(alloc: Global, original: &mut H, copy: &mut H) -> Result<bool, Fail> {
     let last = copy.copy()?;
-    let same = copy.same(original);
-    let grown = push_letter(alloc, original, b'Y')?;
-    let kept = has_letters(alloc, copy, "WK")?;
-    let grown_too = push_letter(alloc, copy, b'L')?;
-    Ok(same && grown && kept && grown_too && are_apart(alloc, original, copy, &last)?)
+    if !copy.same(original) || !grow_one(alloc, original, copy)? {
+        return Ok(false);
+    }
+    are_apart(alloc, original, copy, &last)
+}
+
+// Whether the original grows first and the copy stays as it is, and then the copy grows.
+fn grow_one<H: Hist>(alloc: Global, original: &mut H, copy: &mut H) -> Result<bool, Fail> {
+    if !push_letter(alloc, original, b'Y')? || !has_letters(alloc, copy, "WK")? {
+        return Ok(false);
+    }
+    push_letter(alloc, copy, b'L')
 }
 
 fn are_apart<H: Hist>(alloc: Global, original: &H, copy: &H, last: &H) -> Result<bool, Fail> {
-    Ok(
-        has_letters(alloc, original, "WKY")?
-            && has_letters(alloc, copy, "WKL")?
-            && has_letters(alloc, last, "WK")?,
-    )
+    if !has_letters(alloc, original, "WKY")? || !has_letters(alloc, copy, "WKL")? {
+        return Ok(false);
+    }
+    has_letters(alloc, last, "WK")
 }
 
 #[test]
 fn a_clear_leaves_the_copies(rt: HostRuntime) -> Result<(), Fail> {
-    assert!(rt; clears_one::<SeqHistory>(rt.alloc())?);
-    assert!(rt; clears_one::<History>(rt.alloc())?);
-    Ok(())
+    holds(&rt, clears_one::<SeqHistory>(rt.alloc()))?;
+    holds(&rt, clears_one::<History>(rt.alloc()))
 }
 
 fn clears_one<H: Hist>(alloc: Global) -> Result<bool, Fail> {
     let mut history: H = history(alloc, "KWA")?;
+    clears_alone(alloc, &mut history)
+}
+
+// Whether a copy of `KWA` stays as it is when the history is cleared.
+fn clears_alone<H: Hist>(alloc: Global, history: &mut H) -> Result<bool, Fail> {
     let copy = history.copy()?;
     history.clear();
-    let cleared = history.len() == 0;
-    Ok(cleared && has_letters(alloc, &copy, "KWA")? && begins_anew(alloc, &mut history)?)
+    if history.len() != 0 || !has_letters(alloc, &copy, "KWA")? {
+        return Ok(false);
+    }
+    begins_anew(alloc, history)
 }
 
 fn begins_anew<H: Hist>(alloc: Global, history: &mut H) -> Result<bool, Fail> {
-    Ok(push_letter(alloc, history, b'W')? && has_letters(alloc, history, "W")?)
+    if !push_letter(alloc, history, b'W')? {
+        return Ok(false);
+    }
+    has_letters(alloc, history, "W")
 }
+
+// A letter, and its place in `KWVAR`.
+static PLACES: [(u8, Option<usize>); 4] = [
+    (b'K', Some(0)),
+    (b'V', Some(2)),
+    (b'R', Some(4)),
+    (b'Y', None),
+];
 
 #[test]
 fn a_place_is_found_from_anywhere(rt: HostRuntime) -> Result<(), Fail> {
-    for (letter, want) in [
-        (b'K', Some(0)),
-        (b'V', Some(2)),
-        (b'R', Some(4)),
-        (b'Y', None),
-    ] {
-        find_from_all::<SeqHistory, _>(&rt, rt.alloc(), letter, want)?;
-        find_from_all::<History, _>(&rt, rt.alloc(), letter, want)?;
+    let alloc = rt.alloc();
+    for &(letter, want) in &PLACES {
+        holds(&rt, is_found::<SeqHistory>(alloc, letter, want))?;
+        holds(&rt, is_found::<History>(alloc, letter, want))?;
     }
     Ok(())
 }
 
-fn find_from_all<H: Hist, R: Abort>(
-    rt: &R,
-    alloc: Global,
-    letter: u8,
-    want: Option<usize>,
-) -> Result<(), Fail> {
+fn is_found<H: Hist>(alloc: Global, letter: u8, want: Option<usize>) -> Result<bool, Fail> {
     let history: H = history(alloc, "KWVAR")?;
-    let command = command(alloc, letter)?;
+    Ok(is_found_from_all(&history, &command(alloc, letter)?, want))
+}
+
+fn is_found_from_all<H: Hist>(history: &H, command: &Command, want: Option<usize>) -> bool {
     for near in 0..7 {
-        assert!(rt; history.place_of(&command, near) == want);
+        if history.place_of(command, near) != want {
+            return false;
+        }
     }
-    Ok(())
+    true
 }
 
 // Two histories, whether the first is a prefix of the second, and whether they are equal.
@@ -175,9 +190,10 @@ static COMPARISONS: [Comparison; 24] = [
 
 #[test]
 fn histories_are_compared_by_their_order(rt: HostRuntime) -> Result<(), Fail> {
+    let alloc = rt.alloc();
     for comparison in &COMPARISONS {
-        assert!(rt; is_compared::<SeqHistory>(rt.alloc(), comparison)?);
-        assert!(rt; is_compared::<History>(rt.alloc(), comparison)?);
+        holds(&rt, is_compared::<SeqHistory>(alloc, comparison))?;
+        holds(&rt, is_compared::<History>(alloc, comparison))?;
     }
     Ok(())
 }
@@ -192,7 +208,7 @@ fn is_compared<H: Hist>(alloc: Global, of: &Comparison) -> Result<bool, Fail> {
 #[test]
 fn histories_are_compared_by_their_epochs(rt: HostRuntime) -> Result<(), Fail> {
     for comparison in &COMPARISONS {
-        assert!(rt; is_compared_by_epochs(rt.alloc(), comparison)?);
+        holds(&rt, is_compared_by_epochs(rt.alloc(), comparison))?;
     }
     Ok(())
 }
@@ -219,29 +235,29 @@ static ORDERS: [(&str, &str); 8] = [
 
 #[test]
 fn the_next_least_commands_walk_the_canonical_order(rt: HostRuntime) -> Result<(), Fail> {
+    let alloc = rt.alloc();
     for &(word, want) in &ORDERS {
-        assert!(rt; walks::<SeqHistory, _>(&rt, rt.alloc(), word, want)?);
-        assert!(rt; walks::<History, _>(&rt, rt.alloc(), word, want)?);
+        holds(&rt, walks::<SeqHistory>(alloc, word, want))?;
+        holds(&rt, walks::<History>(alloc, word, want))?;
     }
     Ok(())
 }
 
-fn walks<H: Hist, R: Abort>(rt: &R, alloc: Global, word: &str, want: &str) -> Result<bool, Fail> {
+fn walks<H: Hist>(alloc: Global, word: &str, want: &str) -> Result<bool, Fail> {
     let history: H = history(alloc, word)?;
-    let canonical = canonical(rt, alloc, &history)?;
-    has_letters(alloc, &canonical, want)
+    let mut taken = H::empty(alloc)?;
+    takes_all(alloc, &history, &mut taken, want)
 }
 
-// The same history in its canonical sequence.
-fn canonical<H: Hist>(rt: &impl Abort, alloc: Global, history: &H) -> Result<H, Fail> {
-    let mut taken = H::empty(alloc)?;
-    for _ in 0..history.len() {
-        assert!(rt; taken.is_prefix(history));
-        if let Some(next) = history.next_least(&taken) {
-            taken.push(next.copy()?)?;
+// Whether the next commands have these letters, and there is none after them.
+fn takes_all<H: Hist>(alloc: Global, history: &H, taken: &mut H, want: &str) -> Result<bool, Fail> {
+    for letter in want.as_bytes() {
+        if take_next(history, taken)? != Some(*letter) {
+            return Ok(false);
         }
     }
-    assert!(rt; taken.is_prefix(history));
-    assert!(rt; history.next_least(&taken).is_none());
-    Ok(taken)
+    if take_next(history, taken)? != None {
+        return Ok(false);
+    }
+    has_letters(alloc, taken, want)
 }

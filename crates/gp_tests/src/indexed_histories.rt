@@ -1,51 +1,42 @@
 //! The further calls of histories with an index.
-use crate::alphabet::{LETTERS, command, history, letters, push_letter};
-use crate::outcome::holds;
-use gp_command::{Access, Command, CommandId, Draft, Key, Touch};
+use crate::alphabet::{LETTERS, command, has_letters, history, letters, push_letter};
+use crate::outcome::{holds, holds_of};
 use gp_history::Hist;
 use gp_index::{EpochHistory, History};
 use std::alloc::Global;
 use std::test::Fail;
 
-// The first command of a proposer.
-fn first_of(proposer: u32, draft: Draft) -> Command {
-    let number = 1;
-    Command::new(CommandId { proposer, number }, draft)
-}
+// A write, a checkpoint, a write of another key, and the checkpoint again: whether it is pushed.
+static PUSHES: [(u8, bool); 4] = [(b'W', true), (b'K', true), (b'Y', true), (b'K', false)];
 
-fn put(alloc: Global, key: &[u8], body: &[u8]) -> Result<Draft, Fail> {
-    let key = Key::new(key)?;
-    let access = Access::Write;
-    Ok(Draft::new(alloc, &[Touch { key, access }], body)?)
-}
-
-fn checkpoint(alloc: Global) -> Result<Command, Fail> {
-    Ok(first_of(1, Draft::checkpoint(alloc, b"checkpoint")?))
-}
-
-// A write, a checkpoint, a write of another key, and the checkpoint again: whether only the last was there.
 fn push_four(alloc: Global, history: &mut EpochHistory) -> Result<bool, Fail> {
-    let first = history.push(first_of(0, put(alloc, b"a", b"put a 1")?))?;
-    let close = history.push(checkpoint(alloc)?)?;
-    let last = history.push(first_of(2, put(alloc, b"b", b"put b 2")?))?;
-    let again = history.push(checkpoint(alloc)?)?;
-    Ok(first && close && last && !again)
+    for &(letter, pushed) in &PUSHES {
+        if push_letter(alloc, history, letter)? != pushed {
+            return Ok(false);
+        }
+    }
+    Ok(true)
 }
 
 // Whether the second epoch starts after two of three commands, the last of which is found.
 fn has_two_epochs(alloc: Global, history: &EpochHistory) -> Result<bool, Fail> {
-    let last = first_of(2, put(alloc, b"b", b"put b 2")?);
-    let epochs = history.epochs() == 2 && history.epoch_start(1) == 2;
-    Ok(epochs && history.len() == 3 && history.find(&last) == Some(2))
+    if !has_starts(history, &[0, 2]) || history.len() != 3 {
+        return Ok(false);
+    }
+    finds(alloc, history, b'Y', Some(2))
 }
 
 #[test]
 fn a_checkpoint_starts_an_epoch(rt: HostRuntime) -> Result<(), Fail> {
-    let alloc = rt.alloc();
+    holds(&rt, starts_an_epoch(rt.alloc()))
+}
+
+fn starts_an_epoch(alloc: Global) -> Result<bool, Fail> {
     let mut history = EpochHistory::empty(alloc)?;
-    assert!(rt; push_four(alloc, &mut history)?);
-    assert!(rt; has_two_epochs(alloc, &history)?);
-    Ok(())
+    if !push_four(alloc, &mut history)? {
+        return Ok(false);
+    }
+    has_two_epochs(alloc, &history)
 }
 
 // A word, and where its epochs start.
@@ -68,7 +59,7 @@ static STARTS: [Starts; 10] = [
 #[test]
 fn epochs_start_after_the_checkpoints(rt: HostRuntime) -> Result<(), Fail> {
     for &(word, want) in &STARTS {
-        assert!(rt; starts_at(rt.alloc(), word, want)?, "of {word}");
+        holds_of(&rt, word, starts_at(rt.alloc(), word, want))?;
     }
     Ok(())
 }
@@ -91,22 +82,26 @@ fn has_starts(history: &History, want: &[usize]) -> bool {
     true
 }
 
+static WORDS: [&str; 5] = ["", "W", "LYKVWSRBA", "AKBLY", "YWYKWV"];
+
 #[test]
 fn a_command_is_found_by_the_index(rt: HostRuntime) -> Result<(), Fail> {
-    let alloc = rt.alloc();
-    for word in ["", "W", "LYKVWSRBA", "AKBLY", "YWYKWV"] {
-        assert!(rt; finds_all(alloc, word)?, "in {word}");
+    for word in &WORDS {
+        holds_of(&rt, word, finds_all(rt.alloc(), word))?;
     }
     Ok(())
 }
 
-// Whether each letter is found in its place among the letters of the history, and no other is.
 fn finds_all(alloc: Global, word: &str) -> Result<bool, Fail> {
     let history: History = history(alloc, word)?;
-    let letters = letters(alloc, &history)?;
+    finds_letters(alloc, &history, &letters(alloc, &history)?)
+}
+
+// Whether each letter is found in its place among the letters of the history, and no other is.
+fn finds_letters(alloc: Global, history: &History, letters: &[u8]) -> Result<bool, Fail> {
     for &letter in &LETTERS {
         let want = letters.iter().position(|at| *at == letter);
-        if history.find(&command(alloc, letter)?) != want {
+        if !finds(alloc, history, letter, want)? {
             return Ok(false);
         }
     }
@@ -121,20 +116,21 @@ fn copies_have_their_own_index(rt: HostRuntime) -> Result<(), Fail> {
 fn indexes_grow_apart(alloc: Global) -> Result<bool, Fail> {
     let mut original: History = history(alloc, "WK")?;
     let mut copy = original.copy()?;
-    let grown = push_letter(alloc, &mut original, b'Y')?;
-    let grown_too = push_letter(alloc, &mut copy, b'L')?;
-    Ok(grown && grown_too && are_apart(alloc, &original, &copy)?)
+    grow_apart(alloc, &mut original, &mut copy)
+}
+
+fn grow_apart(alloc: Global, original: &mut History, copy: &mut History) -> Result<bool, Fail> {
+    if !push_letter(alloc, original, b'Y')? || !push_letter(alloc, copy, b'L')? {
+        return Ok(false);
+    }
+    are_apart(alloc, original, copy)
 }
 
 fn are_apart(alloc: Global, original: &History, copy: &History) -> Result<bool, Fail> {
-    Ok(
-        has_starts(original, &[0, 2])
-            && has_starts(copy, &[0, 2, 3])
-            && finds(alloc, original, b'Y', Some(2))?
-            && finds(alloc, copy, b'Y', None)?
-            && finds(alloc, copy, b'L', Some(2))?
-            && finds(alloc, original, b'L', None)?,
-    )
+    if !has_starts(original, &[0, 2]) || !has_starts(copy, &[0, 2, 3]) {
+        return Ok(false);
+    }
+    Ok(finds_letters(alloc, original, b"WKY")? && finds_letters(alloc, copy, b"WKL")?)
 }
 
 fn finds(alloc: Global, history: &History, letter: u8, at: Option<usize>) -> Result<bool, Fail> {
@@ -157,10 +153,7 @@ static ORDERS: [(&str, &str, &str); 8] = [
 #[test]
 fn what_was_not_taken_follows_in_canonical_order(rt: HostRuntime) -> Result<(), Fail> {
     for &(word, taken, want) in &ORDERS {
-        assert!(rt;
-            is_ordered_after(rt.alloc(), word, taken, want)?,
-            "of {word}"
-        );
+        holds_of(&rt, word, is_ordered_after(rt.alloc(), word, taken, want))?;
     }
     Ok(())
 }
@@ -168,24 +161,34 @@ fn what_was_not_taken_follows_in_canonical_order(rt: HostRuntime) -> Result<(), 
 fn is_ordered_after(alloc: Global, word: &str, taken: &str, want: &str) -> Result<bool, Fail> {
     let whole: History = history(alloc, word)?;
     let taken: History = history(alloc, taken)?;
-    if !taken.is_prefix(&whole) {
+    goes_on_in_order(alloc, &whole, &taken, want)
+}
+
+// Whether one history is a prefix of another, which has these letters in its order after that one.
+fn goes_on_in_order(
+    alloc: Global,
+    whole: &History,
+    taken: &History,
+    want: &str,
+) -> Result<bool, Fail> {
+    if !taken.is_prefix(whole) {
         return Ok(false);
     }
-    let letters = letters(alloc, &whole.in_order_after(&taken)?)?;
-    Ok(letters.as_slice() == want.as_bytes())
+    has_letters(alloc, &whole.in_order_after(taken)?, want)
 }
+
+// A word, and its letters in canonical order.
+static WHOLE_ORDERS: [(&str, &str); 3] = [("", ""), ("YWA", "WAY"), ("VYKBAKL", "VYKABL")];
 
 #[test]
 fn a_history_is_put_in_canonical_order(rt: HostRuntime) -> Result<(), Fail> {
-    let alloc = rt.alloc();
-    assert!(rt; is_put_in_order(alloc, "", "")?);
-    assert!(rt; is_put_in_order(alloc, "YWA", "WAY")?);
-    assert!(rt; is_put_in_order(alloc, "VYKBAKL", "VYKABL")?);
+    for &(word, want) in &WHOLE_ORDERS {
+        holds(&rt, is_put_in_order(rt.alloc(), word, want))?;
+    }
     Ok(())
 }
 
 fn is_put_in_order(alloc: Global, word: &str, want: &str) -> Result<bool, Fail> {
     let history: History = history(alloc, word)?;
-    let letters = letters(alloc, &history.in_order()?)?;
-    Ok(letters.as_slice() == want.as_bytes())
+    has_letters(alloc, &history.in_order()?, want)
 }

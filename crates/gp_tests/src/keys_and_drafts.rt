@@ -1,41 +1,51 @@
 //! The limits of keys and drafts.
+use crate::outcome::{holds, holds_of};
 use gp_command::{Access, Draft, DraftRefused, Key, Touch};
 use std::alloc::Global;
 use std::test::Fail;
 
+// What may be a key, and whether it is one.
+static KEYS: [(&str, bool); 16] = [
+    ("", false),
+    ("a", true),
+    ("abcdefghijklmnop", true),
+    ("abcdefghijklmnopq", false),
+    ("z", true),
+    ("`", false),
+    ("{", false),
+    ("0", true),
+    ("9", true),
+    ("/", false),
+    (":", false),
+    ("_", true),
+    ("^", false),
+    ("A", false),
+    ("a b", false),
+    ("ab\n", false),
+];
+
 #[test]
 fn keys_have_1_to_16_bytes_of_their_alphabet(rt: HostRuntime) {
-    for (bytes, want) in [
-        ("", false),
-        ("a", true),
-        ("abcdefghijklmnop", true),
-        ("abcdefghijklmnopq", false),
-        ("z", true),
-        ("`", false),
-        ("{", false),
-        ("0", true),
-        ("9", true),
-        ("/", false),
-        (":", false),
-        ("_", true),
-        ("^", false),
-        ("A", false),
-        ("a b", false),
-        ("ab\n", false),
-    ] {
+    for &(bytes, want) in &KEYS {
         assert!(rt; Key::new(bytes.as_bytes()).is_ok() == want, "{bytes}");
     }
 }
 
+// Two keys, the first less than the second.
+static ORDERED: [(&str, &str); 5] = [("a", "b"), ("a", "aa"), ("0", "a"), ("_", "a"), ("9", "_")];
+
 #[test]
 fn keys_are_ordered_as_byte_strings(rt: HostRuntime) -> Result<(), Fail> {
-    for (less, greater) in [("a", "b"), ("a", "aa"), ("0", "a"), ("_", "a"), ("9", "_")] {
-        let less = Key::new(less.as_bytes())?;
-        let greater = Key::new(greater.as_bytes())?;
-        assert!(rt; less < greater);
-        assert!(rt; less != greater);
+    for &(less, greater) in &ORDERED {
+        holds(&rt, are_ordered(less, greater))?;
     }
     Ok(())
+}
+
+fn are_ordered(less: &str, greater: &str) -> Result<bool, Fail> {
+    let less = Key::new(less.as_bytes())?;
+    let greater = Key::new(greater.as_bytes())?;
+    Ok(less < greater && less != greater)
 }
 
 // Writes of keys of one letter.
@@ -69,7 +79,7 @@ static DRAFTS: [Made; 10] = [
 #[test]
 fn drafts_are_refused_for_their_first_cause(rt: HostRuntime) -> Result<(), Fail> {
     for made in &DRAFTS {
-        assert!(rt; is_made(rt.alloc(), made)?, "of {}", made.0);
+        holds_of(&rt, made.0, is_made(rt.alloc(), made))?;
     }
     Ok(())
 }
@@ -82,20 +92,29 @@ fn is_made(alloc: Global, made: &Made) -> Result<bool, Fail> {
     Ok(Draft::new(alloc, &touches, &body).err() == want)
 }
 
+// The length of the body of a checkpoint, and why it is refused.
+static CHECKPOINTS: [(usize, Option<DraftRefused>); 3] = [
+    (0, None),
+    (64, None),
+    (65, Some(DraftRefused::TooLong { given: 65 })),
+];
+
 #[test]
 fn checkpoints_are_refused_for_a_long_body_alone(rt: HostRuntime) -> Result<(), Fail> {
-    let alloc = rt.alloc();
-    for (len, want) in [
-        (0, None),
-        (64, None),
-        (65, Some(DraftRefused::TooLong { given: 65 })),
-    ] {
-        let body = vec![in alloc; 7; len]?;
-        assert!(rt; Draft::checkpoint(alloc, &body).err() == want);
+    for &(len, want) in &CHECKPOINTS {
+        holds(&rt, is_closed(rt.alloc(), len, want))?;
     }
-    let checkpoint = Draft::checkpoint(alloc, b"checkpoint")?;
-    assert!(rt; checkpoint.is_checkpoint());
-    assert!(rt; checkpoint.foot().len() == 0);
-    assert!(rt; checkpoint.body() == b"checkpoint".as_slice());
-    Ok(())
+    holds(&rt, is_made_checkpoint(rt.alloc()))
+}
+
+// Whether a checkpoint with a body of this length is made, or is refused for this cause.
+fn is_closed(alloc: Global, len: usize, want: Option<DraftRefused>) -> Result<bool, Fail> {
+    let body = vec![in alloc; 7; len]?;
+    Ok(Draft::checkpoint(alloc, &body).err() == want)
+}
+
+fn is_made_checkpoint(alloc: Global) -> Result<bool, Fail> {
+    let made = Draft::checkpoint(alloc, b"checkpoint")?;
+    let body = b"checkpoint".as_slice();
+    Ok(made.is_checkpoint() && made.foot().len() == 0 && made.body() == body)
 }

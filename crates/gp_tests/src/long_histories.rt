@@ -37,14 +37,22 @@ fn command(alloc: Global, shape: Shape, n: u8) -> Result<Command, Fail> {
 }
 
 fn draft(alloc: Global, shape: Shape, n: u8) -> Result<Draft, Fail> {
+    if is_checkpoint(shape, n) {
+        return Ok(Draft::checkpoint(alloc, b"")?);
+    }
     match shape {
         Shape::OneKey => touching(alloc, b"x", Access::Write),
-        Shape::OwnKeys => touching(alloc, &own_key(n), Access::Write),
         Shape::Additions => touching(alloc, b"x", Access::Add),
-        Shape::Checkpoints if n % 16 == 15 => Ok(Draft::checkpoint(alloc, b"")?),
-        Shape::Checkpoints => touching(alloc, &own_key(n), Access::Write),
-        Shape::Mixed if n % 64 == 63 => Ok(Draft::checkpoint(alloc, b"")?),
+        Shape::OwnKeys | Shape::Checkpoints => touching(alloc, &own_key(n), Access::Write),
         Shape::Mixed => touching(alloc, &own_key(n % 4), access(n / 4)),
+    }
+}
+
+fn is_checkpoint(shape: Shape, n: u8) -> bool {
+    match shape {
+        Shape::OneKey | Shape::OwnKeys | Shape::Additions => false,
+        Shape::Checkpoints => n % 16 == 15,
+        Shape::Mixed => n % 64 == 63,
     }
 }
 
@@ -71,12 +79,12 @@ fn pushed<H: Hist>(alloc: Global, shape: Shape, step: u8, count: usize) -> Resul
     Ok(history)
 }
 
-// By number, and scrambled.
-fn both_orders<H: Hist>(alloc: Global, shape: Shape) -> Result<(H, H), Fail> {
-    Ok((
-        pushed(alloc, shape, 1, 256)?,
-        pushed(alloc, shape, SCRAMBLED, 256)?,
-    ))
+fn by_number<H: Hist>(alloc: Global, shape: Shape, count: usize) -> Result<H, Fail> {
+    pushed(alloc, shape, 1, count)
+}
+
+fn scrambled<H: Hist>(alloc: Global, shape: Shape) -> Result<H, Fail> {
+    pushed(alloc, shape, SCRAMBLED, 256)
 }
 
 // A shape, whether both orders are one history, and how many commands the meet has if they are two.
@@ -95,14 +103,15 @@ static ROWS: [Row; 4] = [
 #[test]
 fn long_histories_are_compared(rt: HostRuntime) -> Result<(), Fail> {
     for &(shape, same, met) in &ROWS {
-        assert!(rt; is_compared::<SeqHistory>(rt.alloc(), shape, same, met)?);
-        assert!(rt; is_compared::<History>(rt.alloc(), shape, same, met)?);
+        holds(&rt, is_compared::<SeqHistory>(rt.alloc(), shape, same, met))?;
+        holds(&rt, is_compared::<History>(rt.alloc(), shape, same, met))?;
     }
     Ok(())
 }
 
 fn is_compared<H: Hist>(alloc: Global, shape: Shape, same: bool, met: usize) -> Result<bool, Fail> {
-    let (a, b): (H, H) = both_orders(alloc, shape)?;
+    let a: H = by_number(alloc, shape, 256)?;
+    let b: H = scrambled(alloc, shape)?;
     Ok(are_related(&a, &b, same) && are_bounded(alloc, &a, &b, met)?)
 }
 
@@ -151,37 +160,54 @@ fn walk_alike(alloc: Global, shape: Shape) -> Result<bool, Fail> {
     Ok(alike && listed.len() > 768 && listed.as_slice() == ordered.as_slice())
 }
 
+// What is walked: both orders, their meet, and the join of half of the one with the other.
+#[derive(Clone, Copy)]
+enum Walked {
+    ByNumber,
+    Scrambled,
+    Meet,
+    Join,
+}
+
+static EACH: [Walked; 4] = [
+    Walked::ByNumber,
+    Walked::Scrambled,
+    Walked::Meet,
+    Walked::Join,
+];
+
+fn made<H: Hist>(alloc: Global, shape: Shape, which: Walked) -> Result<H, Fail> {
+    match which {
+        Walked::ByNumber => by_number(alloc, shape, 256),
+        Walked::Scrambled => scrambled(alloc, shape),
+        Walked::Meet => Ok(meet(
+            alloc,
+            &by_number(alloc, shape, 256)?,
+            &scrambled(alloc, shape)?,
+        )?),
+        Walked::Join => Ok(join(
+            alloc,
+            &by_number(alloc, shape, 128)?,
+            &scrambled(alloc, shape)?,
+        )?),
+    }
+}
+
 fn walk_all<H: Hist>(alloc: Global, shape: Shape) -> Result<Vec<CommandId>, Fail> {
     let mut walked = Vec::new(alloc);
-    walk_orders::<H>(alloc, shape, &mut walked)?;
+    walk_each::<H>(alloc, shape, &mut walked)?;
     Ok(walked)
 }
 
-fn walk_orders<H: Hist>(
+fn walk_each<H: Hist>(
     alloc: Global,
     shape: Shape,
     walked: &mut Vec<CommandId>,
 ) -> Result<(), Fail> {
-    let (a, b): (H, H) = both_orders(alloc, shape)?;
-    walk_two(alloc, &a, &b, walked)?;
-    let front: H = pushed(alloc, shape, 1, 128)?;
-    walk_join(alloc, &front, &b, walked)
-}
-
-// Both, and their meet.
-fn walk_two<H: Hist>(alloc: Global, a: &H, b: &H, walked: &mut Vec<CommandId>) -> Result<(), Fail> {
-    walk(alloc, a, walked)?;
-    walk(alloc, b, walked)?;
-    walk(alloc, &meet(alloc, a, b)?, walked)
-}
-
-fn walk_join<H: Hist>(
-    alloc: Global,
-    front: &H,
-    b: &H,
-    walked: &mut Vec<CommandId>,
-) -> Result<(), Fail> {
-    walk(alloc, &join(alloc, front, b)?, walked)
+    for which in &EACH {
+        walk(alloc, &made::<H>(alloc, shape, *which)?, walked)?;
+    }
+    Ok(())
 }
 
 // Appends the identities of the commands in canonical order.
@@ -205,31 +231,10 @@ fn order_all(alloc: Global, shape: Shape) -> Result<Vec<CommandId>, Fail> {
 }
 
 fn order_each(alloc: Global, shape: Shape, ordered: &mut Vec<CommandId>) -> Result<(), Fail> {
-    let (a, b): (History, History) = both_orders(alloc, shape)?;
-    order_two(alloc, &a, &b, ordered)?;
-    let front: History = pushed(alloc, shape, 1, 128)?;
-    order_join(alloc, &front, &b, ordered)
-}
-
-// Both, and their meet.
-fn order_two(
-    alloc: Global,
-    a: &History,
-    b: &History,
-    ordered: &mut Vec<CommandId>,
-) -> Result<(), Fail> {
-    order(a, ordered)?;
-    order(b, ordered)?;
-    order(&meet(alloc, a, b)?, ordered)
-}
-
-fn order_join(
-    alloc: Global,
-    front: &History,
-    b: &History,
-    ordered: &mut Vec<CommandId>,
-) -> Result<(), Fail> {
-    order(&join(alloc, front, b)?, ordered)
+    for which in &EACH {
+        order(&made(alloc, shape, *which)?, ordered)?;
+    }
+    Ok(())
 }
 
 fn order(history: &History, ordered: &mut Vec<CommandId>) -> Result<(), Fail> {

@@ -1,5 +1,6 @@
 //! Checksums over the events of many workloads. The expected ones were made by a separate model of
 //! the generator and the schedule.
+use crate::outcome::holds;
 use gp_msg::{Event, Node};
 use gp_random::{MOST_COMMANDS, Workload};
 use gp_round::Mode;
@@ -105,9 +106,8 @@ fn sum_of_sizes(alloc: Global) -> Result<u64, Fail> {
 
 #[test]
 fn events_are_a_function_of_the_seed(rt: HostRuntime) -> Result<(), Fail> {
-    let alloc = rt.alloc();
     for row in &SEEDS {
-        assert!(rt; is_sum(alloc, *row)?);
+        holds(&rt, is_sum(rt.alloc(), *row))?;
     }
     Ok(())
 }

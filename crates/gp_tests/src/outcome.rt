@@ -7,3 +7,9 @@ pub fn holds(rt: &impl Abort, what: Result<bool, Fail>) -> Result<(), Fail> {
     assert!(rt; what?);
     Ok(())
 }
+
+/// The same of a word, which the failure names.
+pub fn holds_of(rt: &impl Abort, word: &str, what: Result<bool, Fail>) -> Result<(), Fail> {
+    assert!(rt; what?, "of {word}");
+    Ok(())
+}

@@ -1,14 +1,13 @@
 //! What replicas of the key store run of the histories that they learn, and what they reply.
 
 use crate::outcome::holds;
-use crate::steps::{A, B, Step, draft};
-use gp_command::{Command, CommandId, Key};
+use crate::steps::{A, B, Step, draft, has_value};
+use gp_command::{Command, CommandId};
 use gp_history::Hist;
 use gp_index::History;
 use gp_replica::{Replica, Reply, has_distinct_ids};
 use gp_store::KeyStore;
 use std::alloc::Global;
-use std::process::Abort;
 use std::test::Fail;
 
 // A command: its proposer, its number, and what it does.
@@ -17,8 +16,11 @@ type Row = (u32, u32, Step);
 // What was run: the command's proposer and number, and the reply.
 type Run = (u32, u32, Reply);
 
+// What is learned at one time, and how many commands are run then.
+type Stage = (&'static [Row], usize);
+
 // Commands of two proposers. The first command is not the least, and conflicts with no other.
-static LEARNED: [Row; 4] = [
+const LEARNED: &[Row] = &[
     (1, 1, Step::Put(B, 5)),
     (0, 1, Step::Put(A, 1)),
     (1, 2, Step::Add(A, 2)),
@@ -26,7 +28,7 @@ static LEARNED: [Row; 4] = [
 ];
 
 // The same in the canonical order.
-static RAN: [Run; 4] = [
+const RAN: &[Run] = &[
     (0, 1, Reply::Done),
     (1, 1, Reply::Done),
     (1, 2, Reply::Done),
@@ -34,10 +36,10 @@ static RAN: [Run; 4] = [
 ];
 
 // A command that is learned later.
-const LATER: Row = (0, 3, Step::Copy(A, B));
+const LATER: &[Row] = &[(0, 3, Step::Copy(A, B))];
 
 // It is run after those that were run before.
-static RAN_LATER: [Run; 5] = [
+const RAN_LATER: &[Run] = &[
     (0, 1, Reply::Done),
     (1, 1, Reply::Done),
     (1, 2, Reply::Done),
@@ -46,7 +48,7 @@ static RAN_LATER: [Run; 5] = [
 ];
 
 // The commands of a key service, one after another.
-static SERVED: [Row; 8] = [
+const SERVED: &[Row] = &[
     (0, 1, Step::Put(A, 1)),
     (0, 2, Step::Add(A, 3)),
     (0, 3, Step::Get(A)),
@@ -57,7 +59,7 @@ static SERVED: [Row; 8] = [
     (0, 8, Step::Copy(A, B)),
 ];
 
-static SERVED_RAN: [Run; 8] = [
+const SERVED_RAN: &[Run] = &[
     (0, 1, Reply::Done),
     (0, 2, Reply::Done),
     (0, 3, Reply::Value(4)),
@@ -78,23 +80,20 @@ fn learn(learned: &mut History, alloc: Global, row: Row) -> Result<(), Fail> {
     Ok(())
 }
 
-fn history(alloc: Global, rows: &[Row]) -> Result<History, Fail> {
-    let mut learned = History::empty(alloc)?;
+fn learn_all(learned: &mut History, alloc: Global, rows: &[Row]) -> Result<(), Fail> {
     for row in rows {
-        learn(&mut learned, alloc, *row)?;
+        learn(learned, alloc, *row)?;
     }
-    Ok(learned)
+    Ok(())
 }
 
 // Catches up, if the history is one with which a replica may catch up.
-fn caught_up(
-    rt: &impl Abort,
-    replica: &mut Replica<KeyStore>,
-    learned: &History,
-) -> Result<usize, Fail> {
-    assert!(rt; replica.ran().is_prefix(learned));
+fn caught_up(replica: &mut Replica<KeyStore>, learned: &History) -> Result<usize, Fail> {
+    if !replica.ran().is_prefix(learned) {
+        return Err(Fail::from("what was run is not learned"));
+    }
     if !has_distinct_ids(learned) {
-        panic!(rt; "two commands have the same identity");
+        return Err(Fail::from("two commands have the same identity"));
     }
     Ok(replica.catch_up(learned)?)
 }
@@ -103,23 +102,34 @@ fn caught_up(
 fn has_run(replica: &Replica<KeyStore>, runs: &[Run]) -> bool {
     replica.ran().len() == runs.len()
         && replica.replies().len() == runs.len()
-        && runs
-            .iter()
-            .zip(replica.replies())
-            .all(|(run, kept)| *kept == (id(run.0, run.1), run.2))
+        && replied(replica.replies(), runs)
+}
+
+fn replied(replies: &[(CommandId, Reply)], runs: &[Run]) -> bool {
+    for (kept, run) in replies.iter().zip(runs) {
+        if *kept != (id(run.0, run.1), run.2) {
+            return false;
+        }
+    }
+    true
 }
 
 // Whether the replies are found under the identities, and none under that of a command that nobody offers.
 fn answers(replica: &Replica<KeyStore>, runs: &[Run]) -> bool {
+    for &(proposer, number, reply) in runs {
+        if replica.reply(id(proposer, number)) != Some(reply) {
+            return false;
+        }
+    }
     replica.reply(id(7, 9)) == None
-        && runs
-            .iter()
-            .all(|run| replica.reply(id(run.0, run.1)) == Some(run.2))
 }
 
 fn has_values(replica: &Replica<KeyStore>, a: Option<u64>, b: Option<u64>) -> Result<bool, Fail> {
     let store = replica.machine();
-    Ok(store.get(Key::new(A)?) == a && store.get(Key::new(B)?) == b)
+    if !has_value(store, A, a)? {
+        return Ok(false);
+    }
+    has_value(store, B, b)
 }
 
 // Whether these were run, with these replies, and the two keys have these values then.
@@ -129,93 +139,99 @@ fn shows(
     a: Option<u64>,
     b: Option<u64>,
 ) -> Result<bool, Fail> {
-    Ok(has_run(replica, runs) && answers(replica, runs) && has_values(replica, a, b)?)
+    if !has_run(replica, runs) || !answers(replica, runs) {
+        return Ok(false);
+    }
+    has_values(replica, a, b)
 }
 
 #[test]
 fn a_replica_has_run_nothing_at_first(rt: HostRuntime) -> Result<(), Fail> {
-    let replica = Replica::<KeyStore>::new(rt.alloc())?;
-    assert!(rt; shows(&replica, &[], None, None)?);
-    assert!(rt; replica.machine().pairs().is_empty());
-    Ok(())
+    holds(&rt, is_new(rt.alloc()))
 }
 
-#[test]
-fn what_is_learned_is_run_in_the_canonical_order(rt: HostRuntime) -> Result<(), Fail> {
-    holds(&rt, runs_in_order(&rt, rt.alloc()))
+fn is_new(alloc: Global) -> Result<bool, Fail> {
+    let replica = Replica::<KeyStore>::new(alloc)?;
+    has_nothing(&replica)
 }
 
-fn runs_in_order(rt: &impl Abort, alloc: Global) -> Result<bool, Fail> {
-    let learned = history(alloc, &LEARNED)?;
-    let mut replica = Replica::new(alloc)?;
-    runs_all(rt, &mut replica, &learned, &RAN, (Some(3), Some(5)))
+// Whether nothing was run, and the store is empty.
+fn has_nothing(replica: &Replica<KeyStore>) -> Result<bool, Fail> {
+    if !replica.machine().pairs().is_empty() {
+        return Ok(false);
+    }
+    shows(replica, &[], None, None)
 }
 
-// Whether a replica runs all that is learned, as these runs, and the two keys have these values then.
-fn runs_all(
-    rt: &impl Abort,
-    replica: &mut Replica<KeyStore>,
-    learned: &History,
-    runs: &[Run],
+// What a replica learns, one stage after another, what it has run then, and the values of the two
+// keys.
+struct Case {
+    stages: &'static [Stage],
+    ran: &'static [Run],
     values: (Option<u64>, Option<u64>),
-) -> Result<bool, Fail> {
-    let count = caught_up(rt, replica, learned)?;
-    Ok(count == runs.len() && shows(replica, runs, values.0, values.1)?)
 }
 
-// Whether a replica that has run all that is learned runs nothing more.
-fn runs_once(
-    rt: &impl Abort,
-    replica: &mut Replica<KeyStore>,
-    learned: &History,
-) -> Result<bool, Fail> {
-    let first = caught_up(rt, replica, learned)?;
-    let second = caught_up(rt, replica, learned)?;
-    Ok((first, second) == (4, 0) && shows(replica, &RAN, Some(3), Some(5))?)
-}
-
-#[test]
-fn what_was_run_is_not_run_again(rt: HostRuntime) -> Result<(), Fail> {
-    holds(&rt, is_run_once(&rt, rt.alloc()))
-}
-
-fn is_run_once(rt: &impl Abort, alloc: Global) -> Result<bool, Fail> {
-    let learned = history(alloc, &LEARNED)?;
+fn runs(alloc: Global, case: &Case) -> Result<bool, Fail> {
+    let mut learned = History::empty(alloc)?;
     let mut replica = Replica::new(alloc)?;
-    runs_once(rt, &mut replica, &learned)
+    runs_in_stages(alloc, &mut replica, &mut learned, case)
 }
 
-// Whether a command that is learned later is run after those that were run before.
-fn runs_in_turn(
-    rt: &impl Abort,
+fn runs_in_stages(
     alloc: Global,
     replica: &mut Replica<KeyStore>,
     learned: &mut History,
+    case: &Case,
 ) -> Result<bool, Fail> {
-    let first = caught_up(rt, replica, learned)?;
-    learn(learned, alloc, LATER)?;
-    let second = caught_up(rt, replica, learned)?;
-    Ok((first, second) == (4, 1) && shows(replica, &RAN_LATER, Some(3), Some(3))?)
+    for &(rows, count) in case.stages {
+        learn_all(learned, alloc, rows)?;
+        if caught_up(replica, learned)? != count {
+            return Ok(false);
+        }
+    }
+    shows(replica, case.ran, case.values.0, case.values.1)
 }
+
+static AT_ONCE: Case = Case {
+    stages: &[(LEARNED, 4)],
+    ran: RAN,
+    values: (Some(3), Some(5)),
+};
+
+#[test]
+fn what_is_learned_is_run_in_the_canonical_order(rt: HostRuntime) -> Result<(), Fail> {
+    holds(&rt, runs(rt.alloc(), &AT_ONCE))
+}
+
+static NOTHING_MORE: Case = Case {
+    stages: &[(LEARNED, 4), (&[], 0)],
+    ran: RAN,
+    values: (Some(3), Some(5)),
+};
+
+#[test]
+fn what_was_run_is_not_run_again(rt: HostRuntime) -> Result<(), Fail> {
+    holds(&rt, runs(rt.alloc(), &NOTHING_MORE))
+}
+
+static ONE_MORE: Case = Case {
+    stages: &[(LEARNED, 4), (LATER, 1)],
+    ran: RAN_LATER,
+    values: (Some(3), Some(3)),
+};
 
 #[test]
 fn what_is_learned_later_is_run_after_the_rest(rt: HostRuntime) -> Result<(), Fail> {
-    holds(&rt, is_run_in_turn(&rt, rt.alloc()))
+    holds(&rt, runs(rt.alloc(), &ONE_MORE))
 }
 
-fn is_run_in_turn(rt: &impl Abort, alloc: Global) -> Result<bool, Fail> {
-    let mut learned = history(alloc, &LEARNED)?;
-    let mut replica = Replica::new(alloc)?;
-    runs_in_turn(rt, alloc, &mut replica, &mut learned)
-}
+static SERVICE: Case = Case {
+    stages: &[(SERVED, 8)],
+    ran: SERVED_RAN,
+    values: (None, Some(9)),
+};
 
 #[test]
 fn a_key_is_served(rt: HostRuntime) -> Result<(), Fail> {
-    holds(&rt, is_served(&rt, rt.alloc()))
-}
-
-fn is_served(rt: &impl Abort, alloc: Global) -> Result<bool, Fail> {
-    let learned = history(alloc, &SERVED)?;
-    let mut replica = Replica::new(alloc)?;
-    runs_all(rt, &mut replica, &learned, &SERVED_RAN, (None, Some(9)))
+    holds(&rt, runs(rt.alloc(), &SERVICE))
 }

@@ -1,6 +1,6 @@
 //! Operations as steps, whose keys are byte strings, for tables.
-use gp_command::{Draft, Key};
-use gp_store::{Op, draft_of};
+use gp_command::{BadKey, Draft, Key};
+use gp_store::{KeyStore, Op, draft_of};
 use std::alloc::Global;
 use std::test::Fail;
 
@@ -26,13 +26,26 @@ pub fn draft(alloc: Global, step: Step) -> Result<Draft, Fail> {
     Ok(draft_of(alloc, op(step)?)?)
 }
 
-fn op(step: Step) -> Result<Op, Fail> {
+fn op(step: Step) -> Result<Op, BadKey> {
+    let key = Key::new(first_key(step))?;
     Ok(match step {
-        Step::Put(key, value) => Op::Put(Key::new(key)?, value),
-        Step::Add(key, value) => Op::Add(Key::new(key)?, value),
-        Step::Get(key) => Op::Get(Key::new(key)?),
-        Step::Del(key) => Op::Del(Key::new(key)?),
-        Step::Cas(key, old, new) => Op::Cas(Key::new(key)?, old, new),
-        Step::Copy(from, into) => Op::Copy(Key::new(from)?, Key::new(into)?),
+        Step::Put(_, value) => Op::Put(key, value),
+        Step::Add(_, value) => Op::Add(key, value),
+        Step::Get(_) => Op::Get(key),
+        Step::Del(_) => Op::Del(key),
+        Step::Cas(_, old, new) => Op::Cas(key, old, new),
+        Step::Copy(_, into) => Op::Copy(key, Key::new(into)?),
     })
+}
+
+fn first_key(step: Step) -> &'static [u8] {
+    match step {
+        Step::Put(key, _) | Step::Add(key, _) | Step::Get(key) => key,
+        Step::Del(key) | Step::Cas(key, _, _) | Step::Copy(key, _) => key,
+    }
+}
+
+/// Whether a key has this value.
+pub fn has_value(store: &KeyStore, key: &[u8], value: Option<u64>) -> Result<bool, Fail> {
+    Ok(store.get(Key::new(key)?) == value)
 }

@@ -1,6 +1,7 @@
 //! What operations do to a key store and what they reply.
-use crate::steps::{A, B, C, Step, draft};
-use gp_command::{Command, CommandId, Draft, Key};
+use crate::outcome::holds;
+use crate::steps::{A, B, C, Step, draft, has_value};
+use gp_command::{Command, CommandId, Draft};
 use gp_replica::{Machine, Reply};
 use gp_store::{KeyStore, Op, draft_of};
 use std::alloc::Global;
@@ -34,14 +35,16 @@ fn replies(store: &mut KeyStore, draft: Draft, reply: Reply) -> Result<bool, Fai
     Ok(store.apply(&Command::new(FIRST, draft))? == reply)
 }
 
-// Whether the keys have the values that the run leaves.
+// Keys, and the values that the run leaves.
+static LEFT: [(&[u8], Option<u64>); 3] = [(A, None), (B, Some(9)), (C, Some(3))];
+
 fn is_run(store: &KeyStore) -> Result<bool, Fail> {
-    Ok(
-        store.get(Key::new(A)?) == None
-            && store.get(Key::new(B)?) == Some(9)
-            && store.get(Key::new(C)?) == Some(3)
-            && store.pairs().len() == 2,
-    )
+    for &(key, value) in &LEFT {
+        if !has_value(store, key, value)? {
+            return Ok(false);
+        }
+    }
+    Ok(store.pairs().len() == 2)
 }
 
 fn run_all(alloc: Global, store: &mut KeyStore) -> Result<bool, Fail> {
@@ -55,26 +58,32 @@ fn run_all(alloc: Global, store: &mut KeyStore) -> Result<bool, Fail> {
 
 #[test]
 fn operations_do_what_they_say(rt: HostRuntime) -> Result<(), Fail> {
-    let alloc = rt.alloc();
+    holds(&rt, are_run(rt.alloc()))
+}
+
+fn are_run(alloc: Global) -> Result<bool, Fail> {
     let mut store = KeyStore::opening(alloc)?;
-    assert!(rt; run_all(alloc, &mut store)?);
-    assert!(rt; is_run(&store)?);
-    Ok(())
+    if !run_all(alloc, &mut store)? {
+        return Ok(false);
+    }
+    is_run(&store)
 }
 
 #[test]
 fn a_command_that_is_no_operation_changes_nothing(rt: HostRuntime) -> Result<(), Fail> {
-    let alloc = rt.alloc();
+    holds(&rt, is_unchanged(rt.alloc()))
+}
+
+fn is_unchanged(alloc: Global) -> Result<bool, Fail> {
     let mut store = KeyStore::opening(alloc)?;
-    assert!(rt; passes_over(alloc, &mut store)?);
-    assert!(rt; store.pairs().is_empty());
-    Ok(())
+    Ok(passes_over(alloc, &mut store)? && store.pairs().is_empty())
 }
 
 // Whether a command without touches finds nothing, and a checkpoint is done.
 fn passes_over(alloc: Global, store: &mut KeyStore) -> Result<bool, Fail> {
     let untouched = Draft::new(alloc, &[], b"put a 5")?;
-    let absent = replies(store, untouched, Reply::Absent)?;
-    let checkpoint = draft_of(alloc, Op::Checkpoint)?;
-    Ok(absent && replies(store, checkpoint, Reply::Done)?)
+    if !replies(store, untouched, Reply::Absent)? {
+        return Ok(false);
+    }
+    replies(store, draft_of(alloc, Op::Checkpoint)?, Reply::Done)
 }
