@@ -1,5 +1,9 @@
 //! Disks that are lent and given back.
+ghost use Rattle.std.specs.Prelude.{◌≡◌, IfOk, length};
+ghost use Rattle.gp_shelf.specs.Places.{logged};
+
 use crate::lent_disks::{Holds, disks_with, hold, remade};
+use crate::outcome::holds;
 use Holds::{Log as L, Own};
 use gp_edge::MemDisk;
 use gp_round::Config;
@@ -66,38 +70,57 @@ fn lent_and_back(alloc: Global, config: Config) -> Result<Vec<MemDisk>, Fail> {
     let Ok(Lent { logs, shelf }) = lend(alloc, config, 64, disks) else {
         return Err(Fail::from("not lent"));
     };
+    let logs = made_anew(alloc, config, logs)?;
+    Ok(give_back(shelf, logs))
+}
+
+// The logs of the nodes, made again, if they were new.
+fn made_anew(
+    alloc: Global,
+    config: Config,
+    logs: Vec<Log<MemDisk>>,
+) -> Result<Vec<Log<MemDisk>>, Fail>
+    ensures { IfOk result (λ made. length made.items ≡ logged config) }
+{
     if !are_new(&logs) {
         return Err(Fail::from("not new"));
     }
-    let logs = remade(alloc, logs)?;
-    if logs.len() != (config.acceptors() + config.coordinators()) as usize {
+    let made = remade(alloc, logs)?;
+    if made.len() != (config.acceptors() + config.coordinators()) as usize {
         return Err(Fail::from("another number of logs"));
     }
-    Ok(give_back(shelf, logs))
+    Ok(made)
 }
 
 #[test]
 fn disks_come_back_in_order(rt: HostRuntime) -> Result<(), Fail> {
-    let disks = lent_and_back(rt.alloc(), Config::new(3, 2, 1)?)?;
-    assert!(rt; hold(&disks, &FIVE_LENT));
-    Ok(())
+    holds(
+        &rt,
+        come_back(rt.alloc(), Config::new(3, 2, 1)?, &FIVE_LENT),
+    )
+}
+
+fn come_back(alloc: Global, config: Config, table: &[Holds]) -> Result<bool, Fail> {
+    let disks = lent_and_back(alloc, config)?;
+    Ok(hold(&disks, table))
 }
 
 #[test]
 fn the_greatest_configuration_is_lent_all_disks(rt: HostRuntime) -> Result<(), Fail> {
-    let disks = lent_and_back(rt.alloc(), Config::new(7, 5, 1)?)?;
-    assert!(rt; hold(&disks, &ALL_LENT));
-    Ok(())
+    holds(&rt, come_back(rt.alloc(), Config::new(7, 5, 1)?, &ALL_LENT))
 }
 
 #[test]
 fn all_disks_come_back_in_order_if_one_fails(rt: HostRuntime) -> Result<(), Fail> {
-    let disks = disks_with(rt.alloc(), 7, &[0])?;
-    let Err(unlent) = lend(rt.alloc(), Config::new(3, 2, 1)?, 80, disks) else {
-        return Err(Fail::from("lent"));
-    };
-    assert!(rt; unlent.why == LendFault::Disk && hold(&unlent.disks, &THREE_MADE));
-    Ok(())
+    holds(&rt, come_back_unlent(rt.alloc(), Config::new(3, 2, 1)?))
+}
+
+fn come_back_unlent(alloc: Global, config: Config) -> Result<bool, Fail> {
+    let disks = disks_with(alloc, 7, &[0])?;
+    match lend(alloc, config, 80, disks) {
+        Ok(_) => Ok(false),
+        Err(unlent) => Ok(unlent.why == LendFault::Disk && hold(&unlent.disks, &THREE_MADE)),
+    }
 }
 
 #[test]

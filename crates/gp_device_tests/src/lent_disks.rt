@@ -1,7 +1,7 @@
 //! Twelve disks in memory, and what they hold.
 ghost use Rattle.std.specs.Prelude.{◌≡◌, IfOk, length};
 
-use gp_edge::{Disk, MemDisk};
+use gp_edge::MemDisk;
 use gp_vlog::Log;
 use std::alloc::Global;
 use std::test::Fail;
@@ -12,12 +12,8 @@ pub fn disks_with(alloc: Global, number: u8, failing: &[u64]) -> Result<Vec<MemD
 {
     let mut disks = Vec::new(alloc);
     for count in 0..12 {
-        let disk = if count == number {
-            MemDisk::new(alloc, &[count], failing)?
-        } else {
-            MemDisk::new(alloc, &[count], &[])?
-        };
-        disks.push(disk)?;
+        let failing = if count == number { failing } else { &[] };
+        disks.push(MemDisk::new(alloc, &[count], failing)?)?;
     }
     Ok(disks)
 }
@@ -57,7 +53,7 @@ pub fn hold(disks: &[MemDisk], table: &[Holds]) -> bool {
 
 /// Makes a log on the disk of each log. The first has the least limit, 64, and each further one a
 /// limit greater by one.
-pub fn remade<D: Disk>(alloc: Global, logs: Vec<Log<D>>) -> Result<Vec<Log<D>>, Fail> {
+pub fn remade(alloc: Global, logs: Vec<Log<MemDisk>>) -> Result<Vec<Log<MemDisk>>, Fail> {
     let mut left = logs;
     let mut made = Vec::new(alloc);
     for limit in 64..90 {

@@ -1,19 +1,23 @@
 //! What a crash inside an append or a renewal may leave of a log. Each prefix and each suffix of each
 //! write, with zeros or ones in the place of what was lost, opens to the entries before the call or
 //! after it.
-use crate::parts::{Opens, append_part, created, opens, renew_part};
+use crate::outcome::holds;
+use crate::parts::{Opens, appends_part, created, opened, opens, renews_part};
 use gp_edge::CalmDisk;
-use gp_vlog::Log;
+use gp_vlog::{Log, OpenFault};
 use std::alloc::Global;
 use std::test::Fail;
 
-/// One call on a log: the bytes before it and after it, and what both open to.
-#[derive(Drop)]
-struct Change {
-    old: Vec<u8>,
+/// One call on a log. The log is made by appending the first `appended` parts, and then renewing it
+/// with each of `renewed`. The call appends the part `next` or renews the log with it.
+struct Call {
+    appended: usize,
+    renewed: &'static [usize],
+    next: usize,
+    renews: bool,
     before: Opens,
-    new: Vec<u8>,
     after: Opens,
+    writes: Writes,
 }
 
 /// The places of the two writes of a call: the piece, which ends before `end`, and the byte that makes
@@ -25,6 +29,15 @@ struct Writes {
     mark: usize,
 }
 
+/// The bytes of a log before a call and after it, and what both open to.
+#[derive(Drop)]
+struct Change {
+    old: Vec<u8>,
+    before: Opens,
+    new: Vec<u8>,
+    after: Opens,
+}
+
 // The old bytes with the new ones of a range. What lies past the old end is noise elsewhere.
 fn torn(
     alloc: Global,
@@ -32,7 +45,7 @@ fn torn(
     from: usize,
     to: usize,
     noise: u8,
-) -> Result<Vec<u8>, Fail> {
+) -> Result<Vec<u8>, OpenFault> {
     let mut image = Vec::new(alloc);
     for i in 0..to.max(change.old.len()) {
         let byte = if from <= i && i < to {
@@ -45,62 +58,79 @@ fn torn(
     Ok(image)
 }
 
+fn opens_torn(alloc: Global, change: &Change, from: usize, to: usize, noise: u8) -> Opens {
+    let image = torn(alloc, change, from, to, noise)?;
+    opens(alloc, &image)
+}
+
 // Whether the bytes open to the entries before the call while the piece is written.
-fn are_before(alloc: Global, change: &Change, writes: Writes, noise: u8) -> Result<bool, Fail> {
+fn are_before(alloc: Global, change: &Change, writes: Writes, noise: u8) -> bool {
     for k in writes.piece..=writes.end {
-        let prefix = torn(alloc, change, writes.piece, k, noise)?;
-        if opens(alloc, &prefix)? != change.before {
-            return Ok(false);
+        if opens_torn(alloc, change, writes.piece, k, noise) != change.before {
+            return false;
         }
-        let suffix = torn(alloc, change, k, writes.end, noise)?;
-        if opens(alloc, &suffix)? != change.before {
-            return Ok(false);
+        if opens_torn(alloc, change, k, writes.end, noise) != change.before {
+            return false;
         }
     }
-    Ok(true)
+    true
 }
 
 // Whether they open to the entries before it or after it when the last byte is written: a crash may
 // leave any value of it.
-fn are_before_or_after(alloc: Global, change: &Change, writes: Writes) -> Result<bool, Fail> {
-    let mut image = torn(alloc, change, writes.piece, writes.end, 0)?;
-    let was_zero = change.old.get(writes.mark) == Some(&0);
+fn are_before_or_after(alloc: Global, change: &Change, writes: Writes) -> bool {
+    match torn(alloc, change, writes.piece, writes.end, 0) {
+        Ok(mut image) => are_by_mark(alloc, change, &mut image, writes.mark),
+        Err(_) => false,
+    }
+}
+
+fn are_by_mark(alloc: Global, change: &Change, image: &mut [u8], place: usize) -> bool {
+    let was_zero = change.old.get(place) == Some(&0);
+    if image.len() <= place {
+        return false;
+    }
     for mark in 0..=255 {
-        let Some(place) = image.get_mut(writes.mark) else {
-            return Ok(false);
-        };
-        *place = mark;
+        image[place] = mark;
         let wanted = if (mark == 0) == was_zero {
             change.before
         } else {
             change.after
         };
-        if opens(alloc, &image)? != wanted {
+        if opens(alloc, image) != wanted {
+            return false;
+        }
+    }
+    true
+}
+
+fn is_safe(alloc: Global, change: &Change, writes: Writes) -> bool {
+    are_before(alloc, change, writes, 0)
+        && are_before(alloc, change, writes, 255)
+        && are_before_or_after(alloc, change, writes)
+}
+
+// Whether the call turns the log that it is made on from what it has to be before into what it has to be after, and a
+// crash in its writes leaves one of the two.
+fn is_safe_call(alloc: Global, call: &Call) -> Result<bool, Fail> {
+    let change = changed(alloc, call)?;
+    let is_this = change.before == call.before && change.after == call.after;
+    Ok(is_this && is_safe(alloc, &change, call.writes))
+}
+
+fn are_safe_calls(alloc: Global, calls: &[Call]) -> Result<bool, Fail> {
+    for call in calls {
+        if !is_safe_call(alloc, call)? {
             return Ok(false);
         }
     }
     Ok(true)
 }
 
-fn is_safe(alloc: Global, change: &Change, writes: Writes) -> Result<bool, Fail> {
-    Ok(
-        are_before(alloc, change, writes, 0)?
-            && are_before(alloc, change, writes, 255)?
-            && are_before_or_after(alloc, change, writes)?,
-    )
-}
-
-// A call on a log: what the log was before and after it. The log is made by appending the first
-// `appended` parts, and then renewing it with each of `renewed`.
-fn changed(
-    alloc: Global,
-    appended: usize,
-    renewed: &[usize],
-    next: usize,
-    renews: bool,
-) -> Result<Change, Fail> {
-    let old = made(alloc, appended, renewed)?;
-    let (before, new, after) = called(alloc, &old, next, renews)?;
+// What a log was before a call and after it.
+fn changed(alloc: Global, call: &Call) -> Result<Change, Fail> {
+    let old = made(alloc, call)?;
+    let (before, new, after) = called(alloc, &old, call)?;
     Ok(Change {
         old,
         before,
@@ -109,119 +139,136 @@ fn changed(
     })
 }
 
-// The bytes of a log that is made so.
-fn made(alloc: Global, appended: usize, renewed: &[usize]) -> Result<Vec<u8>, Fail> {
-    let mut log = created(alloc, 200)?;
-    for i in 0..appended {
-        append_part(alloc, &mut log, i)?;
-    }
-    for i in renewed {
-        renew_part(alloc, &mut log, *i)?;
-    }
-    bytes_of(alloc, log)
-}
-
 // What these bytes open to, the bytes after a call on that log, and what these open to.
-fn called(
-    alloc: Global,
-    old: &[u8],
-    next: usize,
-    renews: bool,
-) -> Result<(Opens, Vec<u8>, Opens), Fail> {
+fn called(alloc: Global, old: &[u8], call: &Call) -> Result<(Opens, Vec<u8>, Opens), Fail> {
     let mut log = opened(alloc, old)?;
-    let before = Ok((log.count(), log.size()));
-    if renews {
-        renew_part(alloc, &mut log, next)?;
+    let before = stands(&log);
+    let is_done = is_done(alloc, &mut log, call);
+    let after = stands(&log);
+    Ok((before, bytes_of(alloc, log, is_done)?, after))
+}
+
+// The bytes of the log on which a call is made.
+fn made(alloc: Global, call: &Call) -> Result<Vec<u8>, Fail> {
+    let mut log = created(alloc, 200)?;
+    let is_made = is_made(alloc, &mut log, call);
+    bytes_of(alloc, log, is_made)
+}
+
+fn is_made(alloc: Global, log: &mut Log<CalmDisk>, call: &Call) -> bool {
+    for i in 0..call.appended {
+        if !appends_part(alloc, log, i) {
+            return false;
+        }
+    }
+    for i in call.renewed {
+        if !renews_part(alloc, log, *i) {
+            return false;
+        }
+    }
+    true
+}
+
+fn is_done(alloc: Global, log: &mut Log<CalmDisk>, call: &Call) -> bool {
+    if call.renews {
+        renews_part(alloc, log, call.next)
     } else {
-        append_part(alloc, &mut log, next)?;
-    }
-    let after = Ok((log.count(), log.size()));
-    Ok((before, bytes_of(alloc, log)?, after))
-}
-
-fn opened(alloc: Global, bytes: &[u8]) -> Result<Log<CalmDisk>, Fail> {
-    match Log::open(alloc, CalmDisk::new(alloc, bytes)?) {
-        Ok(log) => Ok(log),
-        Err(_) => Err(Fail::from("not opened")),
+        appends_part(alloc, log, call.next)
     }
 }
 
-fn bytes_of(alloc: Global, log: Log<CalmDisk>) -> Result<Vec<u8>, Fail> {
-    let disk = log.into_disk();
-    Ok(disk.content().to_vec(alloc)?)
+fn stands(log: &Log<CalmDisk>) -> Opens {
+    Ok((log.count(), log.size()))
 }
 
-const fn places(piece: usize, end: usize, mark: usize) -> Writes {
-    Writes { piece, end, mark }
+// The bytes of a log, if the calls before have succeeded.
+fn bytes_of(alloc: Global, log: Log<CalmDisk>, is_done: bool) -> Result<Vec<u8>, Fail> {
+    if is_done {
+        Ok(log.into_disk().content().to_vec(alloc)?)
+    } else {
+        Err(Fail::from("not done"))
+    }
 }
+
+// The first entry, a whole one, and an addition.
+static APPENDS: [Call; 3] = [
+    Call {
+        appended: 0,
+        renewed: &[],
+        next: 0,
+        renews: false,
+        before: Ok((0, 17)),
+        after: Ok((1, 49)),
+        writes: Writes {
+            piece: 17,
+            end: 49,
+            mark: 16,
+        },
+    },
+    Call {
+        appended: 1,
+        renewed: &[],
+        next: 1,
+        renews: false,
+        before: Ok((1, 49)),
+        after: Ok((2, 102)),
+        writes: Writes {
+            piece: 49,
+            end: 102,
+            mark: 48,
+        },
+    },
+    Call {
+        appended: 2,
+        renewed: &[],
+        next: 2,
+        renews: false,
+        before: Ok((2, 102)),
+        after: Ok((3, 155)),
+        writes: Writes {
+            piece: 102,
+            end: 155,
+            mark: 101,
+        },
+    },
+];
+
+// Into the second area, and back into the first one.
+static RENEWALS: [Call; 2] = [
+    Call {
+        appended: 2,
+        renewed: &[],
+        next: 2,
+        renews: true,
+        before: Ok((2, 102)),
+        after: Ok((1, 91)),
+        writes: Writes {
+            piece: 200,
+            end: 275,
+            mark: 12,
+        },
+    },
+    Call {
+        appended: 2,
+        renewed: &[2],
+        next: 1,
+        renews: true,
+        before: Ok((1, 91)),
+        after: Ok((1, 70)),
+        writes: Writes {
+            piece: 16,
+            end: 70,
+            mark: 12,
+        },
+    },
+];
 
 #[test]
 fn a_crash_in_an_append_leaves_the_old_entries_or_the_new(rt: HostRuntime) -> Result<(), Fail> {
-    let alloc = rt.alloc();
-    // the first entry, a whole one, and an addition
-    assert!(rt; appends(alloc, 0, [Ok((0, 17)), Ok((1, 49))], places(17, 49, 16))?);
-    assert!(rt; appends(alloc, 1, [Ok((1, 49)), Ok((2, 102))], places(49, 102, 48))?);
-    assert!(rt;
-        appends(
-            alloc,
-            2,
-            [Ok((2, 102)), Ok((3, 155))],
-            places(102, 155, 101)
-        )?
-    );
-    Ok(())
-}
-
-// Whether the part after the first `count` ones turns a log of them from the first of these into the second, and a crash
-// in its writes leaves one of the two.
-fn appends(alloc: Global, count: usize, opens: [Opens; 2], writes: Writes) -> Result<bool, Fail> {
-    let change = changed(alloc, count, &[], count, false)?;
-    is_safe_change(alloc, &change, opens, writes)
-}
-
-fn is_safe_change(
-    alloc: Global,
-    change: &Change,
-    opens: [Opens; 2],
-    writes: Writes,
-) -> Result<bool, Fail> {
-    let is_this = change.before == opens[0] && change.after == opens[1];
-    Ok(is_this && is_safe(alloc, change, writes)?)
+    holds(&rt, are_safe_calls(rt.alloc(), &APPENDS))
 }
 
 #[test]
 fn a_crash_in_a_renewal_leaves_the_old_entries_or_the_new(rt: HostRuntime) -> Result<(), Fail> {
-    let alloc = rt.alloc();
-    // into the second area, and back into the first one
-    assert!(rt;
-        renews(
-            alloc,
-            &[],
-            2,
-            [Ok((2, 102)), Ok((1, 91))],
-            places(200, 275, 12)
-        )?
-    );
-    assert!(rt;
-        renews(
-            alloc,
-            &[2],
-            1,
-            [Ok((1, 91)), Ok((1, 70))],
-            places(16, 70, 12)
-        )?
-    );
-    Ok(())
-}
-
-// The same of a renewal of a log of two parts that was renewed before.
-fn renews(
-    alloc: Global,
-    renewed: &[usize],
-    next: usize,
-    opens: [Opens; 2],
-    writes: Writes,
-) -> Result<bool, Fail> {
-    let change = changed(alloc, 2, renewed, next, true)?;
-    is_safe_change(alloc, &change, opens, writes)
+    holds(&rt, are_safe_calls(rt.alloc(), &RENEWALS))
 }

@@ -1,5 +1,6 @@
 //! A log in a real file: written, read again, and cut.
-use crate::parts::{append_part, broken, opens_on, renew_part};
+use crate::outcome::holds;
+use crate::parts::{appends_part, broken, opens_on, renews_part};
 use gp_edge::{Disk, FileDisk};
 use gp_vlog::Log;
 use std::alloc::Global;
@@ -19,9 +20,9 @@ fn file_disk(rt: HostRuntime) -> Result<FileDisk<HostRuntime>, Fail> {
 #[test]
 fn a_log_in_a_file_is_written_reopened_and_cut(rt: HostRuntime) -> Result<(), Fail> {
     let _ = fs::remove_dir_all(&rt, FOLDER);
-    assert!(rt; is_created(rt)?);
-    assert!(rt; opens_on(rt.alloc(), file_disk(rt)?) == Ok((1, 91)));
-    assert!(rt; breaks_when_cut(rt)?);
+    holds(&rt, is_created(rt))?;
+    holds(&rt, is_opened(rt))?;
+    holds(&rt, breaks_when_cut(rt))?;
     fs::remove_dir_all(&rt, FOLDER)?;
     Ok(())
 }
@@ -30,7 +31,11 @@ fn is_created(rt: HostRuntime) -> Result<bool, Fail> {
     let Ok(mut log) = Log::create(rt.alloc(), file_disk(rt)?, 128) else {
         return Err(Fail::from("not created"));
     };
-    is_written_and_reopened(rt.alloc(), &mut log)
+    Ok(is_written_and_reopened(rt.alloc(), &mut log))
+}
+
+fn is_opened(rt: HostRuntime) -> Result<bool, Fail> {
+    Ok(opens_on(rt.alloc(), file_disk(rt)?) == Ok((1, 91)))
 }
 
 fn breaks_when_cut(rt: HostRuntime) -> Result<bool, Fail> {
@@ -41,11 +46,10 @@ fn breaks_when_cut(rt: HostRuntime) -> Result<bool, Fail> {
 }
 
 // Whether the log has one entry after two were appended and it was renewed and opened again.
-fn is_written_and_reopened<D: Disk>(alloc: Global, log: &mut Log<D>) -> Result<bool, Fail> {
-    append_part(alloc, log, 0)?;
-    append_part(alloc, log, 1)?;
-    renew_part(alloc, log, 2)?;
-    Ok(log.reopen().is_ok() && log.is_ready() && log.count() == 1 && log.size() == 91)
+fn is_written_and_reopened<D: Disk>(alloc: Global, log: &mut Log<D>) -> bool {
+    let are_appended = appends_part(alloc, log, 0) && appends_part(alloc, log, 1);
+    let is_reopened = are_appended && renews_part(alloc, log, 2) && log.reopen().is_ok();
+    is_reopened && log.is_ready() && log.count() == 1 && log.size() == 91
 }
 
 // Whether the disk has 203 bytes, and the last one is cut off.

@@ -1,8 +1,9 @@
 //! Logs of both versions: complete, cut and wrong.
 use crate::bytes::{NEW_LOG, OLD_LOG, with_limit};
-use crate::parts::{Opens, append_part, broken, created, opens, opens_cut, renew_part};
+use crate::outcome::holds;
+use crate::parts::{Opens, appends_part, broken, created, opened, opens, opens_cut, renews_part};
 use gp_edge::CalmDisk;
-use gp_vlog::Log;
+use gp_vlog::{Log, OpenFault};
 use std::alloc::Global;
 use std::test::Fail;
 
@@ -11,44 +12,35 @@ const LIMIT: u32 = 67_108_864;
 #[test]
 fn a_gate_that_is_not_zero_is_open_and_needs_a_whole_entry(rt: HostRuntime) -> Result<(), Fail> {
     let mut bytes = OLD_LOG;
-    assert!(rt; needs_a_whole_entry(rt.alloc(), &mut bytes)?);
+    assert!(rt; needs_a_whole_entry(rt.alloc(), &mut bytes));
     Ok(())
 }
 
-fn needs_a_whole_entry(alloc: Global, bytes: &mut [u8]) -> Result<bool, Fail> {
+fn needs_a_whole_entry(alloc: Global, bytes: &mut [u8]) -> bool {
     if bytes.len() != 94 {
-        return Ok(false);
+        return false;
     }
-    let open = are_gates(alloc, bytes, Ok((2, 94)), broken(44))?;
+    let open = is_open_gate(alloc, bytes);
     bytes[44] = 0;
-    let closed = opens_cut(alloc, bytes, 70)? == Ok((1, 45));
+    let closed = opens_cut(alloc, bytes, 70, Ok((1, 45)));
     bytes[44] = 55;
-    Ok(open && closed && are_gates(alloc, bytes, Ok((2, 94)), broken(44))?)
+    open && closed && is_open_gate(alloc, bytes)
 }
 
-// Whether the bytes open to the first of these, and the first 70 bytes to the second.
-fn are_gates(alloc: Global, bytes: &[u8], whole: Opens, cut: Opens) -> Result<bool, Fail> {
-    Ok(opens(alloc, bytes)? == whole && opens_cut(alloc, bytes, 70)? == cut)
+// Whether the bytes open to two entries, and the first 70 bytes break at the gate.
+fn is_open_gate(alloc: Global, bytes: &[u8]) -> bool {
+    opens(alloc, bytes) == Ok((2, 94)) && opens_cut(alloc, bytes, 70, broken(44))
 }
 
 #[test]
 fn two_appends_write_a_log_of_version_2(rt: HostRuntime) -> Result<(), Fail> {
-    let disk = appended(rt.alloc())?;
-    assert!(rt; disk.content() == NEW_LOG.as_slice());
-    Ok(())
+    holds(&rt, are_written_as_version_2(rt.alloc()))
 }
 
-// The disk of a log with two parts.
-fn appended(alloc: Global) -> Result<CalmDisk, Fail> {
+fn are_written_as_version_2(alloc: Global) -> Result<bool, Fail> {
     let mut log = created(alloc, LIMIT)?;
-    append_two(alloc, &mut log)?;
-    Ok(log.into_disk())
-}
-
-fn append_two(alloc: Global, log: &mut Log<CalmDisk>) -> Result<(), Fail> {
-    append_part(alloc, log, 0)?;
-    append_part(alloc, log, 1)?;
-    Ok(())
+    let are_appended = appends_part(alloc, &mut log, 0) && appends_part(alloc, &mut log, 1);
+    Ok(are_appended && log.into_disk().content() == NEW_LOG.as_slice())
 }
 
 // What the first n bytes are, by the places of the second and of the last gate.
@@ -66,23 +58,23 @@ fn cut_at(n: usize, second: usize, last: usize) -> Opens {
 
 #[test]
 fn a_cut_log_breaks_at_its_end_or_at_the_last_whole_gate(rt: HostRuntime) -> Result<(), Fail> {
-    assert!(rt; breaks_where_cut(rt.alloc(), &OLD_LOG, 44, 93)?);
-    assert!(rt; breaks_where_cut(rt.alloc(), &NEW_LOG, 48, 101)?);
+    assert!(rt; breaks_where_cut(rt.alloc(), &OLD_LOG, 44, 93));
+    assert!(rt; breaks_where_cut(rt.alloc(), &NEW_LOG, 48, 101));
     Ok(())
 }
 
 // Whether each beginning of a log that ends with its last gate is what it has to be.
-fn breaks_where_cut(alloc: Global, log: &[u8], second: usize, last: usize) -> Result<bool, Fail> {
+fn breaks_where_cut(alloc: Global, log: &[u8], second: usize, last: usize) -> bool {
     for n in 0..=log.len() {
-        if opens_cut(alloc, log, n)? != cut_at(n, second, last) {
-            return Ok(false);
+        if !opens_cut(alloc, log, n, cut_at(n, second, last)) {
+            return false;
         }
     }
-    Ok(log.len() == last.saturating_add(1))
+    log.len() == last.saturating_add(1)
 }
 
 // What these bytes are with one of them changed.
-fn opens_changed(alloc: Global, bytes: &[u8], place: usize, value: u8) -> Result<Opens, Fail> {
+fn opens_changed(alloc: Global, bytes: &[u8], place: usize, value: u8) -> Opens {
     let mut changed = bytes.to_vec(alloc)?;
     if place < changed.len() {
         changed[place] = value;
@@ -126,18 +118,18 @@ static NEW_CHANGES: [Change; 8] = [
 
 #[test]
 fn a_wrong_byte_is_answered_by_its_place(rt: HostRuntime) -> Result<(), Fail> {
-    assert!(rt; breaks_where_changed(rt.alloc(), &OLD_LOG, &OLD_CHANGES)?);
-    assert!(rt; breaks_where_changed(rt.alloc(), &NEW_LOG, &NEW_CHANGES)?);
+    assert!(rt; breaks_where_changed(rt.alloc(), &OLD_LOG, &OLD_CHANGES));
+    assert!(rt; breaks_where_changed(rt.alloc(), &NEW_LOG, &NEW_CHANGES));
     Ok(())
 }
 
-fn breaks_where_changed(alloc: Global, log: &[u8], changes: &[Change]) -> Result<bool, Fail> {
+fn breaks_where_changed(alloc: Global, log: &[u8], changes: &[Change]) -> bool {
     for (place, value, at) in changes {
-        if opens_changed(alloc, log, *place, *value)? != broken(*at) {
-            return Ok(false);
+        if opens_changed(alloc, log, *place, *value) != broken(*at) {
+            return false;
         }
     }
-    Ok(true)
+    true
 }
 
 // A limit, and where the format breaks with it, if it does.
@@ -149,49 +141,53 @@ static NEW_LIMITS: [Limited; 3] = [(67_108_865, Some(8)), (101, Some(48)), (102,
 
 #[test]
 fn a_limit_is_in_range_and_above_each_gate(rt: HostRuntime) -> Result<(), Fail> {
-    assert!(rt; opens_by_limit(rt.alloc(), &OLD_LOG, &OLD_LIMITS)?);
-    assert!(rt; opens_by_limit(rt.alloc(), &NEW_LOG, &NEW_LIMITS)?);
+    assert!(rt; opens_by_limit(rt.alloc(), &OLD_LOG, &OLD_LIMITS));
+    assert!(rt; opens_by_limit(rt.alloc(), &NEW_LOG, &NEW_LIMITS));
     Ok(())
 }
 
 // Whether a log with two entries opens to these with each limit.
-fn opens_by_limit(alloc: Global, log: &[u8], limits: &[Limited]) -> Result<bool, Fail> {
+fn opens_by_limit(alloc: Global, log: &[u8], limits: &[Limited]) -> bool {
     for (limit, breaks_at) in limits {
         let want = breaks_at.map_or(Ok((2, log.len() as u64)), broken);
-        if opens(alloc, &with_limit(alloc, log, *limit)?)? != want {
-            return Ok(false);
+        if opens_with_limit(alloc, log, *limit) != want {
+            return false;
         }
     }
-    Ok(true)
+    true
+}
+
+fn opens_with_limit(alloc: Global, log: &[u8], limit: u32) -> Opens {
+    match with_limit(alloc, log, limit) {
+        Ok(bytes) => opens(alloc, &bytes),
+        Err(_) => Err(OpenFault::NoMemory),
+    }
 }
 
 #[test]
 fn an_old_log_is_upgraded_by_renewing_its_last_entry(rt: HostRuntime) -> Result<(), Fail> {
-    let disk = upgraded(rt.alloc())?;
-    assert!(rt; is_in_second_area(rt.alloc(), disk.content())?);
-    Ok(())
+    holds(&rt, is_upgraded(rt.alloc()))
 }
 
-fn upgraded(alloc: Global) -> Result<CalmDisk, Fail> {
-    let disk = CalmDisk::new(alloc, &with_limit(alloc, &OLD_LOG, 128)?)?;
-    let Ok(mut log) = Log::open(alloc, disk) else {
-        return Err(Fail::from("not opened"));
-    };
-    if is_upgraded(alloc, &mut log)? {
-        Ok(log.into_disk())
-    } else {
-        Err(Fail::from("not upgraded"))
-    }
+fn is_upgraded(alloc: Global) -> Result<bool, Fail> {
+    let mut log = old_log(alloc)?;
+    let is_new = becomes_new(alloc, &mut log);
+    Ok(is_new && is_in_second_area(alloc, log.into_disk().content()))
 }
 
-fn is_in_second_area(alloc: Global, bytes: &[u8]) -> Result<bool, Fail> {
+fn old_log(alloc: Global) -> Result<Log<CalmDisk>, Fail> {
+    let bytes = with_limit(alloc, &OLD_LOG, 128)?;
+    opened(alloc, &bytes)
+}
+
+fn is_in_second_area(alloc: Global, bytes: &[u8]) -> bool {
     let is_there = bytes.len() == 182 && bytes[12] == 1 && bytes[128] == 1 && bytes[181] == 0;
-    Ok(is_there && opens(alloc, bytes)? == Ok((1, 70)))
+    is_there && opens(alloc, bytes) == Ok((1, 70))
 }
 
 // Whether an old log that is ready is one of version 2 after it was renewed, with one entry.
-fn is_upgraded(alloc: Global, log: &mut Log<CalmDisk>) -> Result<bool, Fail> {
+fn becomes_new(alloc: Global, log: &mut Log<CalmDisk>) -> bool {
     let was_old = log.is_old() && log.is_ready();
-    renew_part(alloc, log, 1)?;
-    Ok(was_old && !log.is_old() && log.count() == 1 && log.size() == 70)
+    let is_renewed = was_old && renews_part(alloc, log, 1);
+    is_renewed && !log.is_old() && log.count() == 1 && log.size() == 70
 }

@@ -1,58 +1,54 @@
 //! Logs that are created, appended to, renewed and opened again.
 use crate::outcome::holds;
 use crate::parts::{
-    append, append_part, broken, created, opens, part, put, renew_part, single, votes,
+    append, appends_part, broken, created, opens, part, pushes, renews_part, single, votes,
 };
 use gp_edge::CalmDisk;
 use gp_history::Hist;
 use gp_index::History;
 use gp_msg::Durable;
 use gp_vlog::{AppendFault, Log};
-use std::alloc::Global;
+use std::alloc::{AllocError, Global};
 use std::test::Fail;
 
 #[test]
 fn a_full_log_tells_its_size_and_the_need(rt: HostRuntime) -> Result<(), Fail> {
     let mut log = created(rt.alloc(), 90)?;
-    assert!(rt; fills(rt.alloc(), &mut log)?);
-    Ok(())
+    holds(&rt, Ok(fills(rt.alloc(), &mut log)))
 }
 
 // Whether the second part does not fit, and the log tells so and stays as it is.
-fn fills(alloc: Global, log: &mut Log<CalmDisk>) -> Result<bool, Fail> {
-    let was_empty = log.size() == 17;
-    append_part(alloc, log, 0)?;
-    let has_one = log.size() == 49;
-    let full = Err(AppendFault::Full { size: 49, need: 53 });
-    let is_full = append(log, &part(alloc, 1)?) == full;
-    Ok(was_empty && has_one && is_full && log.is_ready() && log.count() == 1)
+fn fills(alloc: Global, log: &mut Log<CalmDisk>) -> bool {
+    let has_one = log.size() == 17 && appends_part(alloc, log, 0) && log.size() == 49;
+    let is_full = has_one && is_full_for(alloc, log, 1, 49);
+    is_full && log.is_ready() && log.count() == 1
+}
+
+// Whether a log of this size is too full for the part with so many commands.
+fn is_full_for(alloc: Global, log: &mut Log<CalmDisk>, commands: usize, size: u64) -> bool {
+    match part(alloc, commands) {
+        Some(entry) => append(log, &entry) == Err(AppendFault::Full { size, need: 53 }),
+        None => false,
+    }
 }
 
 // Whether a log is renewed with the part for which it is too full.
-fn renew_full(alloc: Global, log: &mut Log<CalmDisk>) -> Result<bool, Fail> {
-    append_part(alloc, log, 0)?;
-    append_part(alloc, log, 1)?;
-    let full = Err(AppendFault::Full {
-        size: 102,
-        need: 53,
-    });
-    let is_full = append(log, &part(alloc, 2)?) == full;
-    renew_part(alloc, log, 2)?;
-    Ok(is_full && log.count() == 1 && log.size() == 91)
+fn renew_full(alloc: Global, log: &mut Log<CalmDisk>) -> bool {
+    let has_two = appends_part(alloc, log, 0) && appends_part(alloc, log, 1);
+    let is_renewed = has_two && is_full_for(alloc, log, 2, 102) && renews_part(alloc, log, 2);
+    is_renewed && log.count() == 1 && log.size() == 91
 }
 
 // Whether a log is renewed again, and one entry is appended.
-fn renew_again(alloc: Global, log: &mut Log<CalmDisk>) -> Result<bool, Fail> {
+fn renew_again(alloc: Global, log: &mut Log<CalmDisk>) -> bool {
     let is_new = log.count() == 1 && !log.is_old();
-    renew_part(alloc, log, 1)?;
-    append_part(alloc, log, 2)?;
-    Ok(is_new && log.size() == 123)
+    is_new && renews_part(alloc, log, 1) && appends_part(alloc, log, 2) && log.size() == 123
 }
 
 // The disk of a log that is renewed when it is full.
 fn renewed(alloc: Global) -> Result<CalmDisk, Fail> {
     let mut log = created(alloc, 128)?;
-    if renew_full(alloc, &mut log)? {
+    if renew_full(alloc, &mut log) {
         Ok(log.into_disk())
     } else {
         Err(Fail::from("not renewed"))
@@ -61,10 +57,15 @@ fn renewed(alloc: Global) -> Result<CalmDisk, Fail> {
 
 // The disk after it was renewed again, and one entry was appended.
 fn renewed_again(alloc: Global, disk: CalmDisk) -> Result<CalmDisk, Fail> {
-    let Ok(mut log) = Log::open(alloc, disk) else {
-        return Err(Fail::from("not opened"));
-    };
-    if renew_again(alloc, &mut log)? {
+    match Log::open(alloc, disk) {
+        Ok(log) => renewed_log(alloc, log),
+        Err(_) => Err(Fail::from("not opened")),
+    }
+}
+
+fn renewed_log(alloc: Global, log: Log<CalmDisk>) -> Result<CalmDisk, Fail> {
+    let mut log = log;
+    if renew_again(alloc, &mut log) {
         Ok(log.into_disk())
     } else {
         Err(Fail::from("not renewed"))
@@ -103,39 +104,41 @@ fn voted(epoch: u32, vote: History) -> Durable {
     }
 }
 
-fn append_vote(log: &mut Log<CalmDisk>, epoch: u32, vote: &History) -> Result<(), Fail> {
-    append(log, &voted(epoch, vote.copy()?))?;
-    Ok(())
+fn appends_vote(log: &mut Log<CalmDisk>, epoch: u32, vote: &History) -> bool {
+    match vote.copy() {
+        Ok(copy) => append(log, &voted(epoch, copy)).is_ok(),
+        Err(_) => false,
+    }
 }
 
-// How large a log is after a vote, and its disk after two more: the vote with two commands more, and the same
-// in the next epoch.
-fn grown(alloc: Global) -> Result<(u64, CalmDisk), Fail> {
+// The disk of a log after a vote, the vote with two commands more, and the same in the next epoch.
+fn grown(alloc: Global) -> Result<CalmDisk, Fail> {
     let mut log = created(alloc, 1000)?;
-    let size = grow(alloc, &mut log)?;
-    Ok((size, log.into_disk()))
+    if grows(alloc, &mut log)? {
+        Ok(log.into_disk())
+    } else {
+        Err(Fail::from("not grown"))
+    }
 }
 
-fn grow(alloc: Global, log: &mut Log<CalmDisk>) -> Result<u64, Fail> {
+fn grows(alloc: Global, log: &mut Log<CalmDisk>) -> Result<bool, Fail> {
     let mut vote = History::empty(alloc)?;
-    grow_with(alloc, log, &mut vote)
+    Ok(grows_with(alloc, log, &mut vote))
 }
 
-fn grow_with(alloc: Global, log: &mut Log<CalmDisk>, vote: &mut History) -> Result<u64, Fail> {
-    vote.push(put(alloc, 5, "k", "")?)?;
-    append_vote(log, 0, vote)?;
-    let size = log.size();
+fn grows_with(alloc: Global, log: &mut Log<CalmDisk>, vote: &mut History) -> bool {
+    let is_one = pushes(alloc, vote, 5, "k", "") && appends_vote(log, 0, vote);
+    if !is_one || log.size() != 63 {
+        return false;
+    }
     // the write of proposer 0 waits for that of proposer 5, so that of proposer 1 comes first
-    vote.push(put(alloc, 0, "k", "")?)?;
-    vote.push(put(alloc, 1, "j", "")?)?;
-    append_vote(log, 0, vote)?;
-    // of another epoch, so it is whole
-    append_vote(log, 1, vote)?;
-    Ok(size)
+    let are_more = pushes(alloc, vote, 0, "k", "") && pushes(alloc, vote, 1, "j", "");
+    // the second time of another epoch, so it is whole
+    are_more && appends_vote(log, 0, vote) && appends_vote(log, 1, vote)
 }
 
 // The bytes with the two commands of the addition in the other order.
-fn swapped(alloc: Global, bytes: &[u8]) -> Result<Vec<u8>, Fail> {
+fn swapped(alloc: Global, bytes: &[u8]) -> Result<Vec<u8>, AllocError> {
     let mut swapped = bytes.to_vec(alloc)?;
     for i in 0..14 {
         if 108 + i < swapped.len() {
@@ -161,9 +164,8 @@ fn what_is_added_stands_in_the_order_of_the_whole_vote(rt: HostRuntime) -> Resul
 }
 
 fn stands_in_order(alloc: Global) -> Result<bool, Fail> {
-    let (size, disk) = grown(alloc)?;
-    let has_addition = size == 63 && has_addition(disk.content());
-    let is_ordered = has_addition && breaks_if_swapped(alloc, disk.content())?;
+    let disk = grown(alloc)?;
+    let is_ordered = has_addition(disk.content()) && breaks_if_swapped(alloc, disk.content());
     Ok(is_ordered && ends_with_three(alloc, disk))
 }
 
@@ -174,6 +176,9 @@ fn has_addition(bytes: &[u8]) -> bool {
     is_ordered && bytes[122] == 1 && bytes[127] == 17
 }
 
-fn breaks_if_swapped(alloc: Global, bytes: &[u8]) -> Result<bool, Fail> {
-    Ok(opens(alloc, &swapped(alloc, bytes)?)? == broken(62))
+fn breaks_if_swapped(alloc: Global, bytes: &[u8]) -> bool {
+    match swapped(alloc, bytes) {
+        Ok(swapped) => opens(alloc, &swapped) == broken(62),
+        Err(_) => false,
+    }
 }

@@ -18,41 +18,55 @@ pub fn single(count: u32) -> Round {
     }
 }
 
-/// A write of one key by the first offer of a proposer.
-pub fn put(alloc: Global, proposer: u32, key: &str, body: &str) -> Result<Command, Fail> {
-    let key = Key::new(key.as_bytes())?;
+/// A write of one key by the first offer of a proposer. `None` if memory runs out.
+pub fn put(alloc: Global, proposer: u32, key: &str, body: &str) -> Option<Command> {
     let touch = Touch {
-        key,
+        key: Key::new(key.as_bytes()).ok()?,
         access: Access::Write,
     };
     let id = CommandId {
         proposer,
         number: 1,
     };
-    Ok(Command::new(id, Draft::new(alloc, &[touch], body.as_bytes())?))
+    let draft = Draft::new(alloc, &[touch], body.as_bytes()).ok()?;
+    Some(Command::new(id, draft))
 }
 
 /// The acceptor's part of round 1, which voted in it for as many of the commands `put a 5` of proposer 0
-/// and `put b 2` of proposer 1; with none it has voted in no round.
-pub fn part(alloc: Global, commands: usize) -> Result<Durable, Fail> {
-    let mut vote = History::empty(alloc)?;
-    if commands > 0 {
-        vote.push(put(alloc, 0, "a", "put a 5")?)?;
-    }
-    if commands > 1 {
-        vote.push(put(alloc, 1, "b", "put b 2")?)?;
-    }
+/// and `put b 2` of proposer 1; with none it has voted in no round. `None` if memory runs out.
+pub fn part(alloc: Global, commands: usize) -> Option<Durable> {
     let voted = if commands > 0 {
         single(1)
     } else {
         Round::zero()
     };
-    Ok(Durable::Acceptor {
+    Some(Durable::Acceptor {
         epoch: 0,
         round: single(1),
         voted,
-        vote,
+        vote: vote_for(alloc, commands)?,
     })
+}
+
+// The proposers of the commands of a vote, their keys, and their bodies.
+static VOTED: [(u32, &str, &str); 2] = [(0, "a", "put a 5"), (1, "b", "put b 2")];
+
+fn vote_for(alloc: Global, commands: usize) -> Option<History> {
+    let mut vote = History::empty(alloc).ok()?;
+    for (proposer, key, body) in &VOTED[..commands.min(2)] {
+        if !pushes(alloc, &mut vote, *proposer, key, body) {
+            return None;
+        }
+    }
+    Some(vote)
+}
+
+/// Whether a write of one key by the first offer of a proposer is added to a vote.
+pub fn pushes(alloc: Global, vote: &mut History, proposer: u32, key: &str, body: &str) -> bool {
+    match put(alloc, proposer, key, body) {
+        Some(command) => vote.push(command).is_ok(),
+        None => false,
+    }
 }
 
 /// How many commands the vote of an acceptor's part has.
@@ -71,6 +85,14 @@ pub fn created(alloc: Global, limit: u32) -> Result<Log<CalmDisk>, Fail> {
     match Log::create(alloc, CalmDisk::new(alloc, b"what was there")?, limit) {
         Ok(log) => Ok(log),
         Err(_) => Err(Fail::from("not created")),
+    }
+}
+
+/// The log on a disk with these bytes.
+pub fn opened(alloc: Global, bytes: &[u8]) -> Result<Log<CalmDisk>, Fail> {
+    match Log::open(alloc, CalmDisk::new(alloc, bytes)?) {
+        Ok(log) => Ok(log),
+        Err(_) => Err(Fail::from("not opened")),
     }
 }
 
@@ -99,26 +121,31 @@ pub fn renew<D: Disk>(log: &mut Log<D>, part: &Durable) -> Result<(), AppendFaul
     log.renew(part)
 }
 
-/// Appends the part with so many commands.
-pub fn append_part<D: Disk>(alloc: Global, log: &mut Log<D>, commands: usize) -> Result<(), Fail> {
-    let entry = part(alloc, commands)?;
-    append(log, &entry)?;
-    Ok(())
+/// Whether the part with so many commands is appended.
+pub fn appends_part<D: Disk>(alloc: Global, log: &mut Log<D>, commands: usize) -> bool {
+    match part(alloc, commands) {
+        Some(entry) => append(log, &entry).is_ok(),
+        None => false,
+    }
 }
 
-/// Makes the part with so many commands the only entry.
-pub fn renew_part<D: Disk>(alloc: Global, log: &mut Log<D>, commands: usize) -> Result<(), Fail> {
-    let entry = part(alloc, commands)?;
-    renew(log, &entry)?;
-    Ok(())
+/// Whether the part with so many commands becomes the only entry.
+pub fn renews_part<D: Disk>(alloc: Global, log: &mut Log<D>, commands: usize) -> bool {
+    match part(alloc, commands) {
+        Some(entry) => renew(log, &entry).is_ok(),
+        None => false,
+    }
 }
 
 /// The result of opening: the number of entries and the size, or why it was refused.
 pub type Opens = Result<(usize, u64), OpenFault>;
 
 /// The result of opening these bytes.
-pub fn opens(alloc: Global, bytes: &[u8]) -> Result<Opens, Fail> {
-    Ok(opens_on(alloc, CalmDisk::new(alloc, bytes)?))
+pub fn opens(alloc: Global, bytes: &[u8]) -> Opens {
+    match CalmDisk::new(alloc, bytes) {
+        Ok(disk) => opens_on(alloc, disk),
+        Err(_) => Err(OpenFault::NoMemory),
+    }
 }
 
 /// The result of opening the log on this disk.
@@ -129,13 +156,9 @@ pub fn opens_on<D: Disk>(alloc: Global, disk: D) -> Opens {
     }
 }
 
-/// The result of opening the first bytes.
-pub fn opens_cut(alloc: Global, bytes: &[u8], len: usize) -> Result<Opens, Fail> {
-    if len <= bytes.len() {
-        opens(alloc, &bytes[..len])
-    } else {
-        Err(Fail::from("too short"))
-    }
+/// Whether there are so many bytes, and opening them has this result.
+pub fn opens_cut(alloc: Global, bytes: &[u8], len: usize, wanted: Opens) -> bool {
+    len <= bytes.len() && opens(alloc, &bytes[..len]) == wanted
 }
 
 /// The bytes break the format at this place.

@@ -1,4 +1,5 @@
 //! Sources and sinks, call by call.
+use crate::outcome::holds;
 use gp_edge::{
     CalmSink, CalmSource, Failed, MemSink, MemSource, ReadSource, Refused, Sink, Source, WriteSink,
 };
@@ -87,8 +88,7 @@ fn reads<S: Source>(source: &mut S, answer: Result<usize, Failed>, bytes: &[u8; 
 #[test]
 fn a_source_loses_no_byte_at_a_failure(rt: HostRuntime) -> Result<(), Fail> {
     let mut source = MemSource::new(rt.alloc(), b"abcde", 2, &[1])?;
-    assert!(rt; loses_no_byte(&mut source));
-    Ok(())
+    holds(&rt, Ok(loses_no_byte(&mut source)))
 }
 
 // Call 1 of the source fails.
@@ -103,8 +103,7 @@ fn loses_no_byte(source: &mut MemSource) -> bool {
 #[test]
 fn a_calm_source_fills_each_piece(rt: HostRuntime) -> Result<(), Fail> {
     let mut source = CalmSource::new(rt.alloc(), b"abcde")?;
-    assert!(rt; fills_each_piece(&mut source));
-    Ok(())
+    holds(&rt, Ok(fills_each_piece(&mut source)))
 }
 
 fn fills_each_piece(source: &mut CalmSource) -> bool {
@@ -114,8 +113,7 @@ fn fills_each_piece(source: &mut CalmSource) -> bool {
 #[test]
 fn a_sink_writes_nothing_at_a_failure(rt: HostRuntime) -> Result<(), Fail> {
     let mut sink = MemSink::new(rt.alloc(), 2, &[1])?;
-    assert!(rt; writes_nothing_at_a_failure(&mut sink));
-    Ok(())
+    holds(&rt, Ok(writes_nothing_at_a_failure(&mut sink)))
 }
 
 // Call 1 of the sink fails.
@@ -129,8 +127,7 @@ fn writes_nothing_at_a_failure(sink: &mut MemSink) -> bool {
 #[test]
 fn a_calm_sink_takes_whole_pieces(rt: HostRuntime) -> Result<(), Fail> {
     let mut sink = CalmSink::new(rt.alloc())?;
-    assert!(rt; takes_whole_pieces(&mut sink));
-    Ok(())
+    holds(&rt, Ok(takes_whole_pieces(&mut sink)))
 }
 
 fn takes_whole_pieces(sink: &mut CalmSink) -> bool {

@@ -87,12 +87,18 @@ fn reads_twice(alloc: Global, row: &TwoReads) -> Result<bool, Fail> {
 
 #[test]
 fn a_calm_source_is_read_in_more_than_one_piece(rt: HostRuntime) -> Result<(), Fail> {
-    let alloc = rt.alloc();
-    let bytes = vec![in alloc; 7; 10_000]?;
-    let mut source = CalmSource::new(alloc, &bytes)?;
-    assert!(rt; read_up_to(alloc, &mut source, 9_999)?.as_slice() == &bytes[..9_999]);
-    assert!(rt; reads(alloc, &mut source, 9_999, Ok("\u{7}")));
-    Ok(())
+    let mut source = CalmSource::new(rt.alloc(), &SEVENS)?;
+    holds(&rt, Ok(is_read_in_two_pieces(rt.alloc(), &mut source)))
+}
+
+static SEVENS: [u8; 10_000] = [7; 10_000];
+
+fn is_read_in_two_pieces(alloc: Global, source: &mut CalmSource) -> bool {
+    let is_read = match read_up_to(alloc, source, 9_999) {
+        Ok(bytes) => bytes.as_slice() == &SEVENS[..9_999],
+        Err(_) => false,
+    };
+    is_read && reads(alloc, source, 9_999, Ok("\u{7}"))
 }
 
 // A reader that fails.
@@ -162,30 +168,47 @@ fn writes(alloc: Global, row: &Row) -> Result<bool, Fail> {
 #[test]
 fn an_empty_text_makes_no_call(rt: HostRuntime) -> Result<(), Fail> {
     let mut sink = MemSink::new(rt.alloc(), 9, &[0])?;
-    assert!(rt; write_whole(&mut sink, b"") == Ok(()));
-    assert!(rt; write_whole(&mut sink, b"a") == Err(Refused::Failed));
-    Ok(())
+    let is_written = write_whole(&mut sink, b"") == Ok(());
+    holds(
+        &rt,
+        Ok(is_written && write_whole(&mut sink, b"a") == Err(Refused::Failed)),
+    )
 }
 
 #[test]
 fn a_text_stands_behind_what_was_written(rt: HostRuntime) -> Result<(), Fail> {
     let mut sink = CalmSink::new(rt.alloc())?;
-    assert!(rt; write_whole(&mut sink, b"ab") == Ok(()));
-    assert!(rt; write_whole(&mut sink, b"cde") == Ok(()));
-    assert!(rt; sink.written() == b"abcde".as_slice());
-    Ok(())
+    let are_written = write_whole(&mut sink, b"ab").is_ok()
+        && write_whole(&mut sink, b"cde").is_ok();
+    holds(
+        &rt,
+        Ok(are_written && sink.written() == b"abcde".as_slice()),
+    )
 }
 
 #[test]
 fn a_sink_that_takes_no_more_has_failed(rt: HostRuntime) -> Result<(), Fail> {
-    let mut sink = WriteSink::new(Cursor::new([0u8; 10]));
-    assert!(rt; write_whole(&mut sink, b"0123456") == Ok(()));
-    assert!(rt; write_whole(&mut sink, b"789") == Ok(()));
-    assert!(rt; sink.faults() == 0);
-    assert!(rt; write_whole(&mut sink, b"x") == Err(Refused::Failed));
-    assert!(rt; sink.faults() == 1);
-    let mut sink = WriteSink::new(Cursor::new([0u8; 10]));
-    assert!(rt; write_whole(&mut sink, b"0123456789x") == Err(Refused::Failed));
-    assert!(rt; sink.faults() == 1);
+    assert!(rt; are_answered(&mut WriteSink::new(Cursor::new([0u8; 10])), &TEN_AND_ONE));
+    assert!(rt; are_answered(&mut WriteSink::new(Cursor::new([0u8; 10])), &ELEVEN));
     Ok(())
+}
+
+// A text that is written to a sink, the answer, and how many faults there are then.
+type Written = (&'static str, Result<(), Refused>, u64);
+
+static TEN_AND_ONE: [Written; 3] = [
+    ("0123456", Ok(()), 0),
+    ("789", Ok(()), 0),
+    ("x", Err(Refused::Failed), 1),
+];
+
+static ELEVEN: [Written; 1] = [("0123456789x", Err(Refused::Failed), 1)];
+
+fn are_answered(sink: &mut WriteSink<Cursor<[u8; 10]>>, rows: &[Written]) -> bool {
+    for (text, answer, faults) in rows {
+        if write_whole(sink, text.as_bytes()) != *answer || sink.faults() != *faults {
+            return false;
+        }
+    }
+    true
 }
