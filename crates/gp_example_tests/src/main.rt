@@ -1,13 +1,13 @@
 //! Runs the examples in the folders that its arguments name, and compares the exit status and the
 //! output of each with the page `NAME.md` beside it. A script `NAME.txt` of the key store, or
 //! `NAME.bank` of accounts, is played. What a run printed, `NAME.audit`, is audited. A log
-//! `NAME.log` is shown.
+//! `NAME.log` is written to the file of disk 0 and shown. The disks are those of the program.
 #![tactic(auto)]
 
 ghost use Rattle.std.specs.Prelude.{◌≡◌, IfOk, length};
 
-use gp_cli::{DISKS, serve};
-use gp_edge::{CalmDisk, Idle, ReadSource, WriteSink};
+use gp_cli::{file_disks, serve};
+use gp_edge::{FileDisk, Idle, ReadSource, WriteSink};
 use std::alloc::Global;
 use std::fs::{self, File};
 use std::io::ErrorKind;
@@ -28,18 +28,19 @@ fn names_in(rt: &HostRuntime, folder: &str, ending: &str) -> io::Result<Vec<Stri
     Ok(names)
 }
 
-// Twelve disks in memory with these bytes.
-fn disks_with(alloc: Global, bytes: &[u8]) -> io::Result<Vec<CalmDisk>>
+// The folder of the disks' files, and the file of disk 0.
+const FOLDER: &str = "mcgp-data";
+
+const FIRST: &str = "mcgp-data/0";
+
+// The disks of the program.
+fn disks(rt: &HostRuntime) -> io::Result<Vec<FileDisk<HostRuntime>>>
     ensures { IfOk result (λ disks. length disks.items ≡ 12) }
 {
-    let mut disks = Vec::new(alloc);
-    for _count in 0..DISKS {
-        match CalmDisk::new(alloc, bytes) {
-            Ok(disk) => disks.push(disk)?,
-            Err(_) => return Err(io::Error::from(ErrorKind::OutOfMemory)),
-        }
+    match file_disks(rt.alloc(), *rt) {
+        Ok(disks) => Ok(disks),
+        Err(_) => Err(io::Error::from(ErrorKind::OutOfMemory)),
     }
-    Ok(disks)
 }
 
 // The words with which a page gives the exit status and the output of a command.
@@ -48,7 +49,7 @@ fn passage(
     alloc: Global,
     words: &[String],
     input: File,
-    disks: Vec<CalmDisk>,
+    disks: Vec<FileDisk<HostRuntime>>,
 ) -> io::Result<String>
     requires { length disks.items ≡ 12 }
 {
@@ -69,8 +70,7 @@ fn served(
 ) -> io::Result<String> {
     let alloc = rt.alloc();
     let words = [String::from_str(alloc, word)?];
-    let disks = disks_with(alloc, b"")?;
-    passage(wait, alloc, &words, fs::open(rt, path)?, disks)
+    passage(wait, alloc, &words, fs::open(rt, path)?, disks(rt)?)
 }
 
 // The passage of a log, which is shown as that of disk 0.
@@ -80,8 +80,9 @@ fn shown(rt: &HostRuntime, wait: &(impl Threads + Wait + Sync), path: &str) -> i
         String::from_str(alloc, "log")?,
         String::from_str(alloc, "0")?,
     ];
-    let disks = disks_with(alloc, &fs::read(rt, path)?)?;
-    passage(wait, alloc, &words, fs::open(rt, path)?, disks)
+    fs::create_dir_all(rt, FOLDER)?;
+    fs::write(rt, FIRST, &fs::read(rt, path)?)?;
+    passage(wait, alloc, &words, fs::open(rt, path)?, disks(rt)?)
 }
 
 // Prints how the page of an example compares with what its command gave.
