@@ -1,8 +1,7 @@
 //! Runs and their reports, and whether an input is upheld or refused.
 use crate::long_texts::joined;
 use gp_verdict::{AuditReason, Unaudited, audit};
-use std::alloc::Global;
-use std::test::Fail;
+use std::alloc::{AllocError, Global};
 
 /// One put in a single round, which one learner hears.
 pub const ONE_PUT: &[u8] = b"\
@@ -41,7 +40,7 @@ events 0 messages 0
 ";
 
 /// A trace, a line `--`, and a report.
-pub fn printed(alloc: Global, trace: &[u8], report: &[u8]) -> Result<Vec<u8>, Fail> {
+pub fn printed(alloc: Global, trace: &[u8], report: &[u8]) -> Result<Vec<u8>, AllocError> {
     let mut input = joined(alloc, trace, b"--\n")?;
     input.extend_from_slice(report)?;
     Ok(input)

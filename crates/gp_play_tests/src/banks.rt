@@ -35,30 +35,33 @@ static RUN: [(Step, Reply); 16] = [
 ];
 
 // Whether the bank has this reply to the command with this draft.
-fn replies(bank: &mut Bank, draft: Draft, reply: Reply) -> Result<bool, Fail> {
+fn replies(bank: &mut Bank, draft: Draft, reply: Reply) -> bool {
     let command = Command::new(FIRST, draft);
-    let answer = bank.apply(&command)?;
-    Ok(answer == reply)
+    match bank.apply(&command) {
+        Ok(answer) => answer == reply,
+        Err(_) => false,
+    }
 }
 
 fn does(alloc: Global, bank: &mut Bank, row: (Step, Reply)) -> Result<bool, Fail> {
     let (step, reply) = row;
-    replies(bank, draft(alloc, step)?, reply)
+    Ok(replies(bank, draft(alloc, step)?, reply))
 }
 
-// The balance of an account that exists.
-fn balance(bank: &Bank, key: &[u8]) -> Result<Option<u64>, Fail> {
-    Ok(bank.accounts().get(&Key::new(key)?).copied())
+// Whether an account has this balance, or does not exist.
+fn has_balance(bank: &Bank, key: &[u8], balance: Option<u64>) -> bool {
+    match Key::new(key) {
+        Ok(key) => bank.accounts().get(&key).copied() == balance,
+        Err(_) => false,
+    }
 }
 
 // Whether the accounts are those that the run leaves.
-fn is_run(bank: &Bank) -> Result<bool, Fail> {
-    Ok(
-        balance(bank, A)? == Some(6)
-            && balance(bank, B)? == Some(4294967295)
-            && balance(bank, C)? == None
-            && bank.accounts().len() == 2,
-    )
+fn is_run(bank: &Bank) -> bool {
+    has_balance(bank, A, Some(6))
+        && has_balance(bank, B, Some(4294967295))
+        && has_balance(bank, C, None)
+        && bank.accounts().len() == 2
 }
 
 fn run_all(alloc: Global, bank: &mut Bank) -> Result<bool, Fail> {
@@ -81,7 +84,7 @@ fn does_all(alloc: Global) -> Result<bool, Fail> {
 }
 
 fn runs(alloc: Global, bank: &mut Bank) -> Result<bool, Fail> {
-    Ok(run_all(alloc, bank)? && is_run(bank)?)
+    Ok(run_all(alloc, bank)? && is_run(bank))
 }
 
 #[test]
@@ -96,5 +99,5 @@ fn passes_over(alloc: Global) -> Result<bool, Fail> {
 
 fn stays_empty(alloc: Global, bank: &mut Bank) -> Result<bool, Fail> {
     let untouched = Draft::new(alloc, &[], b"deposit a 5")?;
-    Ok(replies(bank, untouched, Reply::Absent)? && bank.accounts().is_empty())
+    Ok(replies(bank, untouched, Reply::Absent) && bank.accounts().is_empty())
 }

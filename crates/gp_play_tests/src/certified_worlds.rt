@@ -44,20 +44,21 @@ pub enum Step {
     Fall(Node),
 }
 
-fn put(alloc: Global, letter: u8, value: u64) -> Result<Draft, Fail> {
-    let key = Key::new(&[letter])?;
-    Ok(draft_of(alloc, Op::Put(key, value))?)
+fn put(alloc: Global, letter: u8, value: u64) -> Option<Draft> {
+    let key = Key::new(&[letter]).ok()?;
+    draft_of(alloc, Op::Put(key, value)).ok()
 }
 
-fn event(alloc: Global, step: Step) -> Result<Event, Fail> {
-    Ok(match step {
+// The event of a step. `None` if memory runs out.
+fn event(alloc: Global, step: Step) -> Option<Event> {
+    Some(match step {
         Step::Put(proposer, letter, value) => Event::Offer {
             proposer,
             draft: put(alloc, letter, value)?,
         },
         Step::Checkpoint(proposer) => Event::Offer {
             proposer,
-            draft: draft_of(alloc, Op::Checkpoint)?,
+            draft: draft_of(alloc, Op::Checkpoint).ok()?,
         },
         Step::Begin(round) => Event::Begin {
             coordinator: 0,
@@ -73,15 +74,20 @@ pub fn two_learners(alloc: Global) -> Result<World, Fail> {
     Ok(World::new(alloc, Config::new(3, 1, 2)?)?)
 }
 
-/// Executes the steps, one after another.
-pub fn happens(world: &mut World, alloc: Global, steps: &[Step]) -> Result<(), Fail> {
+/// Executes the steps, one after another. Whether all succeed.
+pub fn happens(world: &mut World, alloc: Global, steps: &[Step]) -> bool {
     for step in steps {
         if world.records().len() > MANY {
-            return Ok(());
+            return false;
         }
-        world.step(event(alloc, *step)?)?;
+        let Some(event) = event(alloc, *step) else {
+            return false;
+        };
+        if world.step(event).is_err() {
+            return false;
+        }
     }
-    Ok(())
+    true
 }
 
 /// A put that two acceptors vote for, and that learner 0 learns.

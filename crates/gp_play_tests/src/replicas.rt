@@ -1,5 +1,6 @@
 //! What replicas of the bank reply, and what they hold.
 use crate::histories::{Row, caught_up};
+use crate::stage;
 use crate::steps::{A, B, C, Step};
 use gp_bank::{Bank, Totals, totals};
 use gp_command::{CommandId, Key};
@@ -69,19 +70,21 @@ fn are_answered(replica: &Replica<Bank>) -> bool {
     replica.ran().len() == ANSWERS.len()
 }
 
-fn holds(replica: &Replica<Bank>, row: (&[u8], u64)) -> Result<bool, Fail> {
+fn holds(replica: &Replica<Bank>, row: (&[u8], u64)) -> bool {
     let (key, balance) = row;
-    let key = Key::new(key)?;
-    Ok(replica.machine().accounts().get(&key).copied() == Some(balance))
+    match Key::new(key) {
+        Ok(key) => replica.machine().accounts().get(&key).copied() == Some(balance),
+        Err(_) => false,
+    }
 }
 
-fn holds_all(replica: &Replica<Bank>) -> Result<bool, Fail> {
+fn holds_all(replica: &Replica<Bank>) -> bool {
     for row in &HELD {
-        if !holds(replica, *row)? {
-            return Ok(false);
+        if !holds(replica, *row) {
+            return false;
         }
     }
-    Ok(replica.machine().accounts().len() == HELD.len())
+    replica.machine().accounts().len() == HELD.len()
 }
 
 fn has_totals(replica: &Replica<Bank>, wanted: &Totals) -> bool {
@@ -89,21 +92,19 @@ fn has_totals(replica: &Replica<Bank>, wanted: &Totals) -> bool {
 }
 
 // Whether all commands that are run together were run.
-fn is_together(replica: &Replica<Bank>) -> Result<bool, Fail> {
-    Ok(are_answered(replica) && has_totals(replica, &TOTALS) && holds_all(replica)?)
+fn is_together(replica: &Replica<Bank>) -> bool {
+    are_answered(replica) && has_totals(replica, &TOTALS) && holds_all(replica)
 }
 
 #[test]
 fn a_replica_holds_nothing_at_first(rt: HostRuntime) -> Result<(), Fail> {
     let replica = Replica::<Bank>::new(rt.alloc())?;
-    assert!(rt; has_totals(&replica, &NOTHING));
-    Ok(())
+    stage::holds(&rt, Ok(has_totals(&replica, &NOTHING)))
 }
 
 #[test]
 fn a_replica_holds_what_was_not_withdrawn(rt: HostRuntime) -> Result<(), Fail> {
-    assert!(rt; holds_the_rest(&rt, rt.alloc())?);
-    Ok(())
+    stage::holds(&rt, holds_the_rest(&rt, rt.alloc()))
 }
 
 fn holds_the_rest(rt: &impl Abort, alloc: Global) -> Result<bool, Fail> {
@@ -118,7 +119,7 @@ fn learns_all(
     replica: &mut Replica<Bank>,
     count: usize,
 ) -> Result<bool, Fail> {
-    Ok(caught_up(rt, alloc, replica, &TOGETHER)? == count && is_together(replica)?)
+    Ok(caught_up(rt, alloc, replica, &TOGETHER)? == count && is_together(replica))
 }
 
 // Whether a replica that learns some commands before the others agrees.
@@ -134,6 +135,5 @@ fn learns_early(rt: &impl Abort, alloc: Global, replica: &mut Replica<Bank>) -> 
 
 #[test]
 fn a_replica_that_learns_in_another_order_agrees(rt: HostRuntime) -> Result<(), Fail> {
-    assert!(rt; agrees_in_another_order(&rt, rt.alloc())?);
-    Ok(())
+    stage::holds(&rt, agrees_in_another_order(&rt, rt.alloc()))
 }

@@ -2,7 +2,7 @@
 use crate::audited_inputs::upholds;
 use crate::stage::holds;
 use gp_audit::{Cause, Proof, certify};
-use gp_round::Mode;
+use gp_round::{Mode, Round};
 use gp_sim::simulate;
 use gp_text::{report, trace};
 use gp_world::World;
@@ -24,21 +24,27 @@ fn mode_name(mode: Mode) -> &'static str {
 
 // The line of a certificate.
 fn proof_line(alloc: Global, learner: u32, proof: &Proof) -> Result<String, Fail> {
-    let proposer = proof.id.proposer;
-    let number = proof.id.number;
+    let cause = cause_text(alloc, proof.cause)?;
+    let id = proof.id;
     let at = proof.at;
-    Ok(match proof.cause {
-        Cause::Quorum { epoch, round, mask } => {
-            let name = mode_name(round.mode);
-            format!(in alloc;
-                "l{learner} p{proposer}.{number} at {at} epoch {epoch} round {}.{name}.{} quorum {mask}\n",
-                round.count, round.lead
-            )?
-        }
-        Cause::Final { message } => {
-            format!(in alloc; "l{learner} p{proposer}.{number} at {at} final {message}\n")?
-        }
-    })
+    Ok(format!(in alloc;
+        "l{learner} p{}.{} at {at} {cause}\n",
+        id.proposer, id.number
+    )?)
+}
+
+fn cause_text(alloc: Global, cause: Cause) -> Result<String, Fail> {
+    match cause {
+        Cause::Quorum { epoch, round, mask } => quorum_text(alloc, epoch, round, mask),
+        Cause::Final { message } => Ok(format!(in alloc; "final {message}")?),
+    }
+}
+
+fn quorum_text(alloc: Global, epoch: u32, round: Round, mask: u8) -> Result<String, Fail> {
+    let name = mode_name(round.mode);
+    let count = round.count;
+    let lead = round.lead;
+    Ok(format!(in alloc; "epoch {epoch} round {count}.{name}.{lead} quorum {mask}")?)
 }
 
 fn write_proofs(

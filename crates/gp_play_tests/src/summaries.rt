@@ -23,24 +23,22 @@ events 11 messages 7
 ";
 
 // Whether this is the summary of a world, as one that was drawn from seed 0 for 1 command.
-fn sums_up(alloc: Global, world: &World, lines: &[u8]) -> Result<bool, Fail> {
+fn sums_up(alloc: Global, world: &World, lines: &[u8]) -> bool {
     if world.config().learners() < 2 {
-        return Ok(false);
+        return false;
     }
     let mut text = Vec::new(alloc);
-    summary(alloc, 0, 1, world, &mut text)?;
-    Ok(text.as_slice() == lines)
+    summary(alloc, 0, 1, world, &mut text).is_ok() && text.as_slice() == lines
 }
 
-fn sums_up_before_and_after(alloc: Global, world: &mut World) -> Result<bool, Fail> {
-    let before = sums_up(alloc, world, NOTHING_HAPPENED)?;
-    happens(world, alloc, &ONE_PUT)?;
-    Ok(before && sums_up(alloc, world, ONE_LEARNED)?)
+fn sums_up_before_and_after(alloc: Global, world: &mut World) -> bool {
+    let before = sums_up(alloc, world, NOTHING_HAPPENED);
+    before && happens(world, alloc, &ONE_PUT) && sums_up(alloc, world, ONE_LEARNED)
 }
 
 fn tells_learners_apart(alloc: Global) -> Result<bool, Fail> {
     let mut world = two_learners(alloc)?;
-    sums_up_before_and_after(alloc, &mut world)
+    Ok(sums_up_before_and_after(alloc, &mut world))
 }
 
 #[test]
