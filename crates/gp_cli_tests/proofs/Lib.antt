@@ -1,0 +1,5 @@
+pub mod Working
+pub mod Passing
+pub mod Small
+pub mod Making
+pub mod Taking

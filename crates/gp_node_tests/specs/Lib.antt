@@ -1,4 +1,0 @@
-pub mod Alone
-pub mod Phases
-pub mod Posters
-pub mod Scenes
