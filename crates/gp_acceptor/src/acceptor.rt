@@ -13,7 +13,7 @@ use std::marker::Model;
 
 /// An acceptor: its epoch and its state there. The epoch, its round, the round of its last vote and
 /// that vote survive a crash.
-#[derive(Drop, Debug)]
+#[derive(Drop)]
 pub struct Acceptor {
     alloc: Global,
     epoch: u32,

@@ -22,7 +22,7 @@ use std::marker::Model;
 
 /// The state of an acceptor in its epoch. Its round, the round of its last vote and that vote
 /// survive a crash. The values that are held of coordinators do not.
-#[derive(Drop, Debug)]
+#[derive(Drop)]
 pub struct Part {
     alloc: Global,
     config: Config,

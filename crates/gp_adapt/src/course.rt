@@ -8,7 +8,7 @@ use std::marker::Model;
 /// What an adapting coordinator remembers of its calls: whether there was one, and the scene.
 ///
 /// A contract sees these, and the number of calls without a collision that make a calm.
-#[derive(Drop, Debug)]
+#[derive(Drop)]
 pub struct Course {
     calm: u32,
     begun: bool,

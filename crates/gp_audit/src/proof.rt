@@ -28,7 +28,7 @@ pub struct Proof {
 }
 
 /// Proofs, in the order of their commands. A contract sees them as a list.
-#[derive(Drop, Debug)]
+#[derive(Drop)]
 pub struct Proofs {
     items: Vec<Proof>,
 }

@@ -14,7 +14,7 @@ use gp_index::History;
 use gp_round::Round;
 
 /// What a learner took.
-#[derive(Drop, Debug)]
+#[derive(Drop)]
 pub enum Source {
     /// A vote of a round of its epoch. The quorums are those whose votes are all held then, each
     /// with the meet of its votes.

@@ -11,7 +11,7 @@ use gp_store::OpFault;
 use gp_words::number_of;
 
 /// An operation's name, and the tokens of its keys and its amount.
-#[derive(Clone, Copy, Debug)]
+#[derive(Clone, Copy)]
 pub enum BankForm<'a> {
     /// `deposit K V`
     Deposit(&'a [u8], &'a [u8]),

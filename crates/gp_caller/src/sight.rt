@@ -22,7 +22,7 @@ use std::marker::Model;
 use std::sync::Wait;
 
 /// A watch over one round of one epoch that sees the messages of a wire in their order.
-#[derive(Drop, Debug)]
+#[derive(Drop)]
 pub struct Sight {
     watch: Watch,
     // how many messages the watch saw

@@ -5,7 +5,7 @@ use gp_msg::Durable;
 
 /// What was found in a log: the durable part of its node, which is the last entry if there is one;
 /// and whether the entries are of version 1 of the format.
-#[derive(Drop, Debug)]
+#[derive(Drop)]
 pub(crate) struct Found {
     pub(crate) part: Durable,
     pub(crate) has_entry: bool,

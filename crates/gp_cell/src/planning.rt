@@ -18,7 +18,7 @@ use gp_work::Move;
 use std::alloc::Global;
 
 /// What a move would make: the next core of the node, and the record of its step.
-#[derive(Drop, Debug)]
+#[derive(Drop)]
 pub struct Plan {
     pub next: Core,
     pub made: Record,

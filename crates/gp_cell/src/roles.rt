@@ -5,7 +5,7 @@ use gp_learner::Learner;
 use gp_proposer::Proposer;
 
 /// The protocol state of a node, by its role.
-#[derive(Drop, Debug)]
+#[derive(Drop)]
 pub enum Core {
     Proposer(Proposer),
     Coordinator(Coordinator),

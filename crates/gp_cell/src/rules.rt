@@ -8,7 +8,7 @@ use gp_wire::Rules;
 /// The rules of the protocol for a configuration. A record is legal after a list if its event fits
 /// the list, and its messages are those that the tables of its node's role give for the state that
 /// the node's own records make.
-#[derive(Clone, Copy, Debug)]
+#[derive(Clone, Copy)]
 pub struct PaxosRules {
     pub config: Config,
 }

@@ -26,7 +26,7 @@ use std::marker::Model;
 ///
 /// A contract sees a watch as its epoch and round, and a finite map from senders to the values that
 /// it keeps of them, as histories.
-#[derive(Drop, Debug)]
+#[derive(Drop)]
 pub struct Watch {
     epoch: u32,
     round: Round,

@@ -19,7 +19,7 @@ use std::marker::Model;
 /// *Multicoordinated Paxos*, 2007): its epoch, its state there, and the commands that are done,
 /// which are those in the Finals that it took since its last crash. The epoch and the round survive
 /// a crash.
-#[derive(Drop, Debug)]
+#[derive(Drop)]
 pub struct Coordinator {
     alloc: Global,
     epoch: u32,

@@ -25,7 +25,7 @@ use std::marker::Model;
 /// It is in one round at a time. It takes answers of phase 1 only while it is awake: after it began
 /// its round, or entered a multi round that another coordinator began, and until a crash or the
 /// next epoch. A contract sees the answer of each acceptor, and the value as a history.
-#[derive(Drop, Debug)]
+#[derive(Drop)]
 pub struct Part {
     alloc: Global,
     config: Config,

@@ -60,7 +60,7 @@ pub fn take_all<S: Stage, W: Wait>(
 }
 
 /// A role whose nodes take messages.
-#[derive(Clone, Copy, Debug)]
+#[derive(Clone, Copy)]
 pub enum Role {
     Coordinator,
     Acceptor,

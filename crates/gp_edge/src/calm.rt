@@ -12,7 +12,7 @@ use std::alloc::Global;
 use std::marker::Model;
 
 /// A source in memory that never fails. A contract sees the remaining bytes.
-#[derive(Drop, Debug)]
+#[derive(Drop)]
 pub struct CalmSource {
     unread: Unread,
 }
@@ -53,7 +53,7 @@ impl Source for CalmSource {
 
 /// A sink in memory that never fails. It takes whole pieces unless memory runs out. A contract sees
 /// what was written.
-#[derive(Drop, Debug)]
+#[derive(Drop)]
 pub struct CalmSink {
     bytes: Vec<u8>,
 }

@@ -19,7 +19,7 @@ use std::marker::Model;
 ///
 /// A contract sees the bytes with which it was made, and a record of the later calls that changed
 /// its bytes or what a crash may leave. What a crash at any moment may leave follows from these.
-#[derive(Drop, Debug)]
+#[derive(Drop)]
 pub struct CalmDisk {
     medium: Medium,
 }
@@ -120,7 +120,7 @@ impl Disk for CalmDisk {
 /// the record of calls.
 ///
 /// A contract sees the same as of a `CalmDisk`, and which calls are to fail.
-#[derive(Drop, Debug)]
+#[derive(Drop)]
 pub struct MemDisk {
     medium: Medium,
     schedule: Schedule,

@@ -18,7 +18,7 @@ use std::marker::Model;
 /// moves.
 ///
 /// A contract sees the remaining bytes, that limit, and the calls.
-#[derive(Drop, Debug)]
+#[derive(Drop)]
 pub struct MemSource {
     unread: Unread,
     piece: usize,
@@ -82,7 +82,7 @@ impl Source for MemSource {
 /// A sink in memory with chosen calls that fail, and with a limit on the bytes that one call takes.
 ///
 /// A contract sees what was written, that limit, and the calls.
-#[derive(Drop, Debug)]
+#[derive(Drop)]
 pub struct MemSink {
     bytes: Vec<u8>,
     piece: usize,

@@ -15,7 +15,7 @@ use std::marker::Model;
 
 /// A source over a reader. A contract sees the remaining bytes of the reader, if it reveals them,
 /// and how many reads have failed.
-#[derive(Drop, Debug)]
+#[derive(Drop)]
 pub struct ReadSource<R: Read> {
     reader: R,
     faults: u64,
@@ -73,7 +73,7 @@ impl<R: Read> Source for ReadSource<R> {
 /// A sink over a writer. Nothing flushes the writer, so it should not buffer. A contract sees the
 /// bytes that the writer holds, if it reveals them, and how many writes have failed or have taken
 /// nothing of a piece that is not empty.
-#[derive(Drop, Debug)]
+#[derive(Drop)]
 pub struct WriteSink<W: Write> {
     writer: W,
     faults: u64,

@@ -8,7 +8,7 @@ use std::marker::Model;
 
 /// The numbers, from 0, of the calls that are to fail; how many calls there were; and how many of
 /// them failed. The two counts end at 2^64 - 1.
-#[derive(Drop, Debug)]
+#[derive(Drop)]
 pub(crate) struct Schedule {
     failing: Vec<u64>,
     made: u64,

@@ -8,7 +8,7 @@ use std::marker::Model;
 /// A history, kept as its sequence.
 ///
 /// A contract sees it as the list of its commands, without duplicates.
-#[derive(Drop, Debug)]
+#[derive(Drop)]
 pub struct SeqHistory {
     commands: Vec<Command>,
 }

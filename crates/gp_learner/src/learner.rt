@@ -25,7 +25,7 @@ use std::marker::Model;
 /// The meet of the votes of all members of a quorum in a round is chosen. A learner that holds
 /// these votes learns it (Lamport, *Generalized Consensus and Paxos*, 2005). A learned checkpoint
 /// closes the epoch. Nothing of a learner survives a crash.
-#[derive(Drop, Debug)]
+#[derive(Drop)]
 pub struct Learner {
     alloc: Global,
     epoch: u32,

@@ -17,7 +17,7 @@ use std::collections::BTreeMap;
 use std::marker::Model;
 
 /// The votes that a learner holds in its epoch, and its part, which is what it learned from them.
-#[derive(Drop, Debug)]
+#[derive(Drop)]
 pub struct Part {
     alloc: Global,
     config: Config,

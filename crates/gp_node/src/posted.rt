@@ -18,7 +18,7 @@ use std::marker::Model;
 /// The records that the cells of a wire posted, in their order. Only `finish` makes one, and it
 /// cannot be copied. A cell begins without a record of its node, and only `step` and `rise` post
 /// for that node. So each record was posted by a call of `step` or `rise`. A contract sees a list.
-#[derive(Drop, Debug)]
+#[derive(Drop)]
 pub struct Posted {
     records: Records,
 }

@@ -7,7 +7,7 @@ use std::marker::Model;
 
 /// Offers, in their order: for each the number of its proposer, and the draft that is offered. A
 /// contract sees them as a list.
-#[derive(Drop, Debug)]
+#[derive(Drop)]
 pub struct OfferList {
     items: Vec<(u32, Draft)>,
 }

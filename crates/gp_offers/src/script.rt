@@ -13,7 +13,7 @@ use gp_words::{first_line, text_of};
 use std::alloc::Global;
 
 /// A configuration, and what is offered to its proposers, in the order of the script.
-#[derive(Drop, Debug)]
+#[derive(Drop)]
 pub struct Offers {
     pub config: Config,
     pub list: OfferList,

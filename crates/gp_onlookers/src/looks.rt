@@ -11,7 +11,7 @@ pub struct Look {
 
 /// The commands in the order in which they were run, and what each of two readers saw of the key,
 /// one read after another.
-#[derive(Drop, Debug)]
+#[derive(Drop)]
 pub struct Looks {
     pub order: Vec<CommandId>,
     pub first: Vec<Look>,

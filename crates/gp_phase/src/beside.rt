@@ -29,7 +29,7 @@ pub trait Beside<N, P: Process<N>> {
 }
 
 /// No work beside the work phases.
-#[derive(Clone, Copy, Debug, PartialEq, Eq)]
+#[derive(Clone, Copy, PartialEq, Eq)]
 pub struct Nothing;
 
 impl<N, P: Process<N>> Beside<N, P> for Nothing {

@@ -24,7 +24,7 @@ const LAST_MESSAGES: u64 = 32;
 const TURNS: u32 = 8;
 
 /// What is left of a workload.
-#[derive(Clone, Drop, Debug)]
+#[derive(Clone, Drop)]
 pub struct Plan {
     /// The generator of the commands.
     pub commands: ChaCha20Rng,

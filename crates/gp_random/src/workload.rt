@@ -18,7 +18,7 @@ pub const MOST_COMMANDS: u32 = 256;
 /// everything that the plan leaves open: stream 0 makes the commands, and stream 1 the schedule. So
 /// the events are a function of the seed, the number of commands, and how many messages were sent
 /// before each event.
-#[derive(Drop, Debug)]
+#[derive(Drop)]
 pub struct Workload {
     plan: Plan,
     alloc: Global,

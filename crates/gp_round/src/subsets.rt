@@ -31,7 +31,7 @@ pub fn count_members(mask: u8, n: u32) -> u32
 /// masks.
 ///
 /// A contract sees it as the list of the masks that are still to come.
-#[derive(Drop, Debug)]
+#[derive(Drop)]
 pub struct Subsets {
     n: u32,
     size: u32,

@@ -13,7 +13,7 @@ use gp_round::{Config, Round};
 use std::alloc::Global;
 
 /// What an acceptor answered in phase 1: the last round in which it voted, and its vote there.
-#[derive(Drop, Debug)]
+#[derive(Drop)]
 pub struct Answer {
     pub acceptor: u32,
     pub round: Round,

@@ -8,7 +8,7 @@ use gp_round::Mode;
 use gp_words::has_empty;
 
 /// What a crash keeps, with the tokens of its numbers.
-#[derive(Clone, Copy, Debug)]
+#[derive(Clone, Copy)]
 pub enum KeptForm<'a> {
     /// Nothing but what was durable before.
     Nothing,
@@ -19,7 +19,7 @@ pub enum KeptForm<'a> {
 }
 
 /// A line, with the tokens of its names and numbers.
-#[derive(Clone, Copy, Debug)]
+#[derive(Clone, Copy)]
 pub enum Form<'t, 'a> {
     /// The numbers of acceptors, coordinators and learners.
     Nodes(&'a [u8], &'a [u8], &'a [u8]),

@@ -17,7 +17,7 @@ use gp_service::{Service, Unsaid};
 use std::alloc::Global;
 
 /// What a line after the `nodes` line says.
-#[derive(Drop, Debug)]
+#[derive(Drop)]
 pub enum Item {
     /// A proposer is given the draft of an operation to offer.
     Offer { proposer: u32, draft: Draft },

@@ -8,7 +8,7 @@ use gp_round::Config;
 use std::alloc::Global;
 
 /// The role of a node.
-#[derive(Clone, Copy, Debug)]
+#[derive(Clone, Copy)]
 pub enum Role {
     Acceptor,
     Coordinator,

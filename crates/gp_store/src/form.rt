@@ -10,7 +10,7 @@ use gp_command::Key;
 use gp_words::number_of;
 
 /// An operation's name, and the tokens of its keys and values.
-#[derive(Clone, Copy, Debug)]
+#[derive(Clone, Copy)]
 pub enum OpForm<'a> {
     /// `put K V`
     Put(&'a [u8], &'a [u8]),

@@ -45,7 +45,7 @@ impl<T: Drop> From<AllocFailed<T>> for Unread {
 }
 
 /// What the body of an entry holds.
-#[derive(Clone, Copy, Debug, PartialEq, Eq)]
+#[derive(Clone, Copy, PartialEq, Eq)]
 pub(crate) enum Kind {
     /// An acceptor's part.
     Whole,

@@ -10,7 +10,7 @@ use std::marker::Model;
 
 /// The place of a message: the index of its record, and its index among the messages of that
 /// record.
-#[derive(Clone, Copy, Debug)]
+#[derive(Clone, Copy)]
 pub(crate) struct Place {
     pub index: usize,
     pub at: usize,

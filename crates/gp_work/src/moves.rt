@@ -18,7 +18,7 @@ pub enum Move {
 }
 
 /// Moves, in their order. A contract sees them as a list.
-#[derive(Drop, Debug)]
+#[derive(Drop)]
 pub struct Moves {
     pub(crate) items: Vec<Move>,
 }

@@ -13,7 +13,7 @@ use gp_msg::{Event, Msg, Record, Records};
 use std::alloc::Global;
 
 /// The records of a run, the oldest first.
-#[derive(Drop, Debug)]
+#[derive(Drop)]
 pub struct Log {
     pub records: Vec<Record>,
     /// Entry k is the index of the record that has message k.

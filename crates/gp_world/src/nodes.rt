@@ -20,7 +20,7 @@ use std::alloc::Global;
 use std::marker::Model;
 
 /// The nodes of a configuration, each kind in the order of its numbers.
-#[derive(Drop, Debug)]
+#[derive(Drop)]
 pub struct Nodes {
     alloc: Global,
     proposers: Vec<Proposer>,

@@ -27,7 +27,7 @@ use std::marker::Model;
 
 /// All nodes of a configuration, with the records of what they did. The records of a world are a
 /// legal run, whatever events it was given, and what learners show in it agrees.
-#[derive(Drop, Debug)]
+#[derive(Drop)]
 pub struct World {
     config: Config,
     nodes: Nodes,
