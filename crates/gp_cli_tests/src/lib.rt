@@ -73,6 +73,8 @@ mod settled_cells;
 #[cfg(test)]
 mod settled_worlds;
 #[cfg(test)]
+mod sharing;
+#[cfg(test)]
 mod simulated_runs;
 #[cfg(test)]
 mod stage;

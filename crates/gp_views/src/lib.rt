@@ -6,7 +6,6 @@ mod book;
 mod feed;
 mod image;
 mod reader;
-pub mod sharing;
 mod sight;
 mod told;
 
