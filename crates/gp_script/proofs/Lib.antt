@@ -5,3 +5,4 @@ pub mod ItemLemmas
 pub mod LineLemmas
 pub mod CountsLemmas
 pub mod BrokenTokens
+pub mod OwnReasons

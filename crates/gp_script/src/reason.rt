@@ -5,7 +5,8 @@ ghost use Rattle.gp_script.specs.Reasons.{fault_reason};
 
 use gp_store::OpFault;
 
-/// Why a line of a script is refused. The first cause in the order of a line's tokens decides.
+/// Why a line of a script, or of what an audit reads, is refused. The first cause in the order of a
+/// line's tokens decides.
 #[derive(Clone, Copy, Debug, PartialEq, Eq)]
 pub enum Reason {
     /// The line holds the byte at place 1,048,576 of the input, counted from 0.
@@ -33,6 +34,11 @@ pub enum Reason {
     TooManyCommands,
     /// It is the 16,385th event.
     TooManyEvents,
+    /// Of an audit alone: no line `--` follows the trace. The refused line is the one after the last.
+    NoReport,
+    /// Of an audit alone: the line differs from the line of the report at its place, or the report
+    /// has no line at its place, or it is the line after the last and the report has more lines.
+    WrongReport,
 }
 
 impl From<OpFault> for Reason {

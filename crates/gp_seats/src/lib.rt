@@ -8,7 +8,7 @@ mod offering;
 mod seating;
 mod seats;
 
-pub use gp_offers::OfferList;
+pub use gp_msg::OfferList;
 pub use nodes::{Role, all_nodes};
 pub use offering::offer_all;
 pub use seating::{Seated, Unseated, seat_all};

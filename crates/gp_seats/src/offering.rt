@@ -12,9 +12,8 @@ ghost use Rattle.gp_seats.specs.Offering.{is_proposer, own_move, moves_of, given
 
 use gp_command::{Draft, NoMemory};
 use gp_edge::{Disk, Gate};
-use gp_msg::Node;
+use gp_msg::{Node, OfferList};
 use gp_node::{Job, Move, Moves, PaxosRules, workers};
-use gp_offers::OfferList;
 use gp_wire::Wire;
 use gp_work::Process;
 use std::alloc::Global;

@@ -60,6 +60,8 @@ mod many_workloads;
 #[cfg(test)]
 mod messages;
 #[cfg(test)]
+mod offer_lists;
+#[cfg(test)]
 mod outcome;
 #[cfg(test)]
 mod parts_of_logs;

@@ -7,8 +7,13 @@ use Rattle.gp_round.specs.Ranges.{AreInRange}
 use Rattle.gp_service.specs.Languages.{Language}
 use Rattle.gp_words.specs.Lines.{lines_of, text_of}
 use Rattle.gp_script.specs.declared.reason.Reason.{Reason}
+use Rattle.gp_script.specs.declared.reason.Reason.TheVariants.{TooLong, NoNodesLine, BadLine, NoMessage, TooManyCommands, TooManyEvents}
+use Rattle.gp_script.specs.declared.items.Item.{Item}
+use Rattle.gp_script.specs.declared.items.Item.TheVariants as item
+use Rattle.gp_script.specs.Reasons.{is_of_report}
+use Rattle.gp_script.proofs.OwnReasons.{Own, is_own, line_own, counts_own}
 use Rattle.gp_text.specs.Reading.{Reading, Whole, Refused, Sofar, Script, nothing, said_so_far, is_passed, holds_limit, nodes_line, after_line, follow, reading_from, reading_in}
-use Rattle.gp_text.specs.Refusals.{size_of, IsRefusedFirst, IsRefusedBehind, BreaksFrom, BreaksAt}
+use Rattle.gp_text.specs.Refusals.{size_of, IsWrongNodes, IsFull, MayNotFollow, IsWrongLine, IsRefusedFirst, IsRefusedBehind, Breaks, BreaksFrom, BreaksAt}
 use Rattle.gp_text.proofs.SaidLegally.{nodes_in_range}
 use Rattle.gp_text.proofs.WrongLines.{wrong_line, wrong_nodes}
 use Rattle.gp_text.proofs.LineSteps.{reading_opens, reading_from_end, reading_from_too_long, reading_from_passed, reading_from_goes, reading_from_refused, follow_end, follow_too_long, follow_goes, follow_refused}
@@ -162,3 +167,49 @@ module _ (language : Language) where
 
   pub breaks_at : (bytes : List ℕ) (number : ℕ) (reason : Reason) (before : Option Script) → reading_in language bytes ≡ Refused number reason before → BreaksAt language (lines_of bytes) number reason before
   breaks_at bytes number reason before refused = subst (Opens 1 0 (lines_of bytes)) (reading_opens language bytes ∙ refused) (opens 1 0 (lines_of bytes))
+
+  -- ---- the reason
+
+  is_full_own : (said : Sofar) (reason : Reason) → IsFull said reason → Own reason
+  is_full_own said reason f = is_own TooManyEvents reason refl f.1
+
+  follow_own : (c : Counts) (said : Sofar) (says : Item) (reason : Reason) → MayNotFollow c said says reason → Own reason
+  follow_own c said (item.Offer proposer draft) reason (inl m) = is_own TooManyCommands reason refl m.1
+  follow_own c said (item.Offer proposer draft) reason (inr f) = is_full_own said reason f
+  follow_own c said (item.Begin coordinator round) reason f = is_full_own said reason f
+  follow_own c said (item.Take node message) reason (inl m) = is_own NoMessage reason refl m.1
+  follow_own c said (item.Take node message) reason (inr f) = is_full_own said reason f
+  follow_own c said (item.Fall node what) reason (inl m) = is_own NoMessage reason refl m.1
+  follow_own c said (item.Fall node what) reason (inr f) = is_full_own said reason f
+  follow_own c said (item.Show learner) reason m = absurd m
+
+  wrong_own : (c : Counts) (said : Sofar) (text : List ℕ) (reason : Reason) → IsWrongLine language c said text reason → Own reason
+  wrong_own c said text reason (inl w) = is_own BadLine reason refl w.1
+  wrong_own c said text reason (inr (form, is, inl b)) = line_own language c form reason b
+  wrong_own c said text reason (inr (form, is, inr (says, of, m))) = follow_own c said says reason m
+
+  nodes_own : (text : List ℕ) (reason : Reason) → IsWrongNodes text reason → Own reason
+  nodes_own text reason (inl w) = is_own NoNodesLine reason refl w.1
+  nodes_own text reason (inr (nodes, inl w)) = is_own BadLine reason refl w.1
+  nodes_own text reason (inr (nodes, inr (form, is, b))) = counts_own form reason b
+
+  first_own : (place : ℕ) (lines : List (List ℕ)) (reason : Reason) → IsRefusedFirst place lines reason → Own reason
+  first_own place [] reason w = is_own NoNodesLine reason refl w
+  first_own place (line ∷ lines) reason (inl w) = is_own TooLong reason refl w.1
+  first_own place (line ∷ lines) reason (inr (short, read_it, w)) = nodes_own (text_of line) reason w
+
+  behind_own : (c : Counts) (said : Sofar) (place : ℕ) (lines : List (List ℕ)) (reason : Reason) → IsRefusedBehind language c said place lines reason → Own reason
+  behind_own c said place [] reason w = absurd w
+  behind_own c said place (line ∷ lines) reason (inl w) = is_own TooLong reason refl w.1
+  behind_own c said place (line ∷ lines) reason (inr (short, read_it, w)) = wrong_own c said (text_of line) reason w
+
+  breaks_own : (n place : ℕ) (front rest : List (List ℕ)) (reason : Reason) (before : Option Script) → Breaks language n place front rest reason before → Own reason
+  breaks_own n place front rest reason None b = first_own (place + size_of front) rest reason b.1
+  breaks_own n place front rest reason (Some script) b = behind_own script.config b.0 (place + size_of front) rest reason b.3
+
+  opened_own : (n place : ℕ) (lines : List (List ℕ)) (number : ℕ) (reason : Reason) (before : Option Script) → Opens n place lines (Refused number reason before) → Own reason
+  opened_own n place lines number reason before b = breaks_own n place b.front b.rest reason before b.breaks
+
+  -- a script is not refused for a reason of a report
+  pub reason_own : (n place : ℕ) (lines : List (List ℕ)) (number : ℕ) (reason : Reason) (before : Option Script) → reading_from language n place lines ≡ Refused number reason before → is_of_report reason ≡ false
+  reason_own n place lines number reason before refused = opened_own n place lines number reason before (subst (Opens n place lines) refused (opens n place lines))

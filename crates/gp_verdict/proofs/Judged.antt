@@ -17,7 +17,7 @@ use Rattle.gp_text.specs.Reading.{Reading, Whole, reading}
 use Rattle.gp_text.specs.Texts.{shown_text}
 use Rattle.gp_text.specs.Playing.{Stops, IsPlayed}
 use Rattle.gp_text.proofs.LineSteps.{no_lines, reading_opens}
-use Rattle.gp_verdict.specs.declared.reason.AuditReason.TheVariants as reason
+use Rattle.gp_script.specs.declared.reason.Reason.TheVariants as reason
 use Rattle.gp_verdict.specs.declared.answer.Unaudited.{Unaudited}
 use Rattle.gp_verdict.specs.declared.answer.Unaudited.TheVariants as unaudited
 use Rattle.gp_verdict.specs.Parts.{texts_of, is_divider, trace_lines, after_trace, short_lines, first_difference}
@@ -33,7 +33,7 @@ unfolding ending_verdict
 no_report world events number rest none run = record { before = said world.config events; ruled = ap (λ bs. ending_verdict world.config events number (lines_of bs)) none ∙ ap (ending_verdict world.config events number) no_lines; run = run }
 
 pub no_divider_at : (config : Counts) (events : List Event) (number : ℕ) (line : List ℕ) (lines : List (List ℕ)) → is_divider (text_of line) ≡ false
-    → ending_verdict config events number (line ∷ lines) ≡ Rejected number (reason.Script BadLine) (said config events)
+    → ending_verdict config events number (line ∷ lines) ≡ Rejected number BadLine (said config events)
 unfolding ending_verdict
 no_divider_at config events number line lines differs_there = rw differs_there refl
 
@@ -43,7 +43,7 @@ unfolding ending_verdict
 divider_at config events number line lines divides = rw divides refl
 
 pub no_divider : (world : WorldState) (events : List Event) (number : ℕ) (rest line after : List ℕ) → lines_of rest ≡ line ∷ lines_of after → is_divider (text_of line) ≡ false → entries_of world ≡ run_of world.config events
-    → Refuses (ending_verdict world.config events number (lines_of rest)) (unaudited.Bad number (reason.Script BadLine) world.records)
+    → Refuses (ending_verdict world.config events number (lines_of rest)) (unaudited.Bad number BadLine world.records)
 no_divider world events number rest line after first differs_there run = record {
   before = said world.config events;
   ruled = ap (ending_verdict world.config events number) first ∙ no_divider_at world.config events number line (lines_of after) differs_there;

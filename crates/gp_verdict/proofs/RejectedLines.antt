@@ -14,7 +14,8 @@ use Rattle.gp_words.specs.Tokens.{tokens_of}
 use Rattle.gp_words.proofs.LineLemmas.{lines_whole}
 use Rattle.gp_service.specs.Stores.{store_language}
 use Rattle.gp_script.specs.declared.reason.Reason.{Reason}
-use Rattle.gp_script.specs.declared.reason.Reason.TheVariants.{TooLong, BadLine}
+use Rattle.gp_script.specs.declared.reason.Reason.TheVariants.{TooLong, BadLine, NoReport, WrongReport}
+use Rattle.gp_script.specs.Reasons.{is_of_report}
 use Rattle.gp_report.specs.Texts.{report}
 use Rattle.gp_text.specs.declared.limits.TheConstants.{MOST_BYTES}
 use Rattle.gp_text.specs.Reading.{Reading, Whole, Refused, Script, Sofar, holds_limit, reading_in}
@@ -23,8 +24,6 @@ use Rattle.gp_text.proofs.LineSteps.{reading_opens}
 use Rattle.gp_text.proofs.RefusedLines.{breaks_at, no_more}
 use Rattle.gp_round.proofs.Counting.{left_true}
 use Rattle.gp_text.proofs.ShortScripts.{before_limit}
-use Rattle.gp_verdict.specs.declared.reason.AuditReason.{AuditReason}
-use Rattle.gp_verdict.specs.declared.reason.AuditReason.TheVariants as reason
 use Rattle.gp_verdict.specs.Parts.{texts_of, is_divider, is_show, ends_trace, trace_lines, after_trace, short_lines, first_difference}
 use Rattle.gp_verdict.specs.Verdicts.{Verdict, Upheld, Rejected, said, script_of, on_difference, ending_verdict, on_script, lines_verdict, too_long_after, verdict}
 use Rattle.gp_verdict.specs.Rejections.{EndsTrace, BreaksTraceAt, ShowsAt, IsBelowLimit, said_in, IsRefusedBelow, IsTooLongAt}
@@ -85,27 +84,34 @@ record IsBad (own : Counts) (events : List Event) (number : ℕ) (lines : List (
   why_is : why ≡ BadLine
   before_is : before ≡ said own events
 
-difference_bad : (own : Counts) (events : List Event) (difference : Option ℕ) (line : ℕ) (why : Reason) (before : Option Script) → on_difference own events difference ≡ Rejected line (reason.Script why) before → false ≡ true
-difference_bad own events None line why before e = absurd cc
-difference_bad own events (Some place) line why before e = absurd cc
+difference_bad : (own : Counts) (events : List Event) (difference : Option ℕ) (line : ℕ) (why : Reason) (before : Option Script) → is_of_report why ≡ false → on_difference own events difference ≡ Rejected line why before → false ≡ true
+difference_bad own events None line why before of_trace e = absurd cc
+difference_bad own events (Some place) line why before of_trace e =
+    let same : WrongReport ≡ why = cc in
+    sym of_trace ∙ ap is_of_report (sym same)
 
-ending_bad_at : (own : Counts) (events : List Event) (number : ℕ) (first : List ℕ) (rest : List (List ℕ)) (line : ℕ) (why : Reason) (before : Option Script) (divides : Bool) → is_divider (text_of first) ≡ divides
-    → ending_verdict own events number (first ∷ rest) ≡ Rejected line (reason.Script why) before → IsBad own events number (first ∷ rest) line why before
-ending_bad_at own events number first rest line why before true is e =
-    let never = difference_bad own events (first_difference (number + 1) (texts_of rest) (texts_of (lines_of (report own (run_of own events))))) line why before (sym (divider_at own events number first rest is) ∙ e) in
+missing_bad : (own : Counts) (events : List Event) (number line : ℕ) (why : Reason) (before : Option Script) → is_of_report why ≡ false → Rejected number NoReport (said own events) ≡ Rejected line why before → false ≡ true
+missing_bad own events number line why before of_trace e =
+    let same : NoReport ≡ why = cc in
+    sym of_trace ∙ ap is_of_report (sym same)
+
+ending_bad_at : (own : Counts) (events : List Event) (number : ℕ) (first : List ℕ) (rest : List (List ℕ)) (line : ℕ) (why : Reason) (before : Option Script) (divides : Bool) → is_divider (text_of first) ≡ divides → is_of_report why ≡ false
+    → ending_verdict own events number (first ∷ rest) ≡ Rejected line why before → IsBad own events number (first ∷ rest) line why before
+ending_bad_at own events number first rest line why before true is of_trace e =
+    let never = difference_bad own events (first_difference (number + 1) (texts_of rest) (texts_of (lines_of (report own (run_of own events))))) line why before of_trace (sym (divider_at own events number first rest is) ∙ e) in
     absurd cc
-ending_bad_at own events number first rest line why before false is e =
-    let same : Rejected number (reason.Script BadLine) (said own events) ≡ Rejected line (reason.Script why) before = sym (no_divider_at own events number first rest is) ∙ e in
+ending_bad_at own events number first rest line why before false is of_trace e =
+    let same : Rejected number BadLine (said own events) ≡ Rejected line why before = sym (no_divider_at own events number first rest is) ∙ e in
     let line_is : number ≡ line = cc in
     let why_is : BadLine ≡ why = cc in
     let before_is : said own events ≡ before = cc in
     record { first = first; rest = rest; parts = refl; divides = is; line_is = sym line_is; why_is = sym why_is; before_is = sym before_is }
 
-ending_bad : (own : Counts) (events : List Event) (number : ℕ) (lines : List (List ℕ)) (line : ℕ) (why : Reason) (before : Option Script) → ending_verdict own events number lines ≡ Rejected line (reason.Script why) before
+ending_bad : (own : Counts) (events : List Event) (number : ℕ) (lines : List (List ℕ)) (line : ℕ) (why : Reason) (before : Option Script) → is_of_report why ≡ false → ending_verdict own events number lines ≡ Rejected line why before
     → IsBad own events number lines line why before
 unfolding ending_verdict
-ending_bad own events number [] line why before e = absurd cc
-ending_bad own events number (first ∷ rest) line why before e = ending_bad_at own events number first rest line why before (is_divider (text_of first)) refl e
+ending_bad own events number [] line why before of_trace e = let never = missing_bad own events number line why before of_trace e in absurd cc
+ending_bad own events number (first ∷ rest) line why before of_trace e = ending_bad_at own events number first rest line why before (is_divider (text_of first)) refl of_trace e
 
 shows_then : (divides shows : Bool) → (divides || shows) ≡ true → divides ≡ false → shows ≡ true
 shows_then true shows e never = cc
@@ -130,23 +136,23 @@ trace_shows bytes line why before own sofar whole b =
       before_is = b.before_is;
     }
 
-script_bad : (bytes : List ℕ) (read : Reading) (line : ℕ) (why : Reason) (before : Option Script) → script_of (trace_lines (lines_of bytes)) ≡ read
-    → on_script read (length (trace_lines (lines_of bytes)) + 1) (after_trace (lines_of bytes)) ≡ Rejected line (reason.Script why) before
+script_bad : (bytes : List ℕ) (read : Reading) (line : ℕ) (why : Reason) (before : Option Script) → script_of (trace_lines (lines_of bytes)) ≡ read → is_of_report why ≡ false
+    → on_script read (length (trace_lines (lines_of bytes)) + 1) (after_trace (lines_of bytes)) ≡ Rejected line why before
     → BreaksTraceAt (lines_of bytes) line why before ⊎ ShowsAt (lines_of bytes) line why before
-script_bad bytes (Whole own sofar) line why before is e =
-    inr (trace_shows bytes line why before own sofar is (ending_bad own sofar.events (length (trace_lines (lines_of bytes)) + 1) (after_trace (lines_of bytes)) line why before e))
-script_bad bytes (Refused wrong cause earlier) line why before is e =
-    let same : Rejected wrong (reason.Script cause) earlier ≡ Rejected line (reason.Script why) before = e in
+script_bad bytes (Whole own sofar) line why before is of_trace e =
+    inr (trace_shows bytes line why before own sofar is (ending_bad own sofar.events (length (trace_lines (lines_of bytes)) + 1) (after_trace (lines_of bytes)) line why before of_trace e))
+script_bad bytes (Refused wrong cause earlier) line why before is of_trace e =
+    let same : Rejected wrong cause earlier ≡ Rejected line why before = e in
     let line_is : wrong ≡ line = cc in
     let why_is : cause ≡ why = cc in
     let before_is : earlier ≡ before = cc in
     inl (trace_breaks bytes line why before (is ∙ (λ i. Refused (line_is i) (why_is i) (before_is i))))
 
 -- **where an input is refused for a line of its trace**
-pub script_breaks : (bytes : List ℕ) (line : ℕ) (why : Reason) (before : Option Script) → length bytes ≤ MOST_BYTES → verdict bytes ≡ Rejected line (reason.Script why) before
+pub script_breaks : (bytes : List ℕ) (line : ℕ) (why : Reason) (before : Option Script) → length bytes ≤ MOST_BYTES → is_of_report why ≡ false → verdict bytes ≡ Rejected line why before
     → BreaksTraceAt (lines_of bytes) line why before ⊎ ShowsAt (lines_of bytes) line why before
-script_breaks bytes line why before short e =
-    script_bad bytes (script_of (trace_lines (lines_of bytes))) line why before refl (sym (verdict_short bytes (le-leb (length bytes) MOST_BYTES short) ∙ verdict_parts (lines_of bytes)) ∙ e)
+script_breaks bytes line why before short of_trace e =
+    script_bad bytes (script_of (trace_lines (lines_of bytes))) line why before refl of_trace (sym (verdict_short bytes (le-leb (length bytes) MOST_BYTES short) ∙ verdict_parts (lines_of bytes)) ∙ e)
 
 -- ---- the lines below the limit
 
@@ -233,43 +239,43 @@ long_is bytes past h =
 
 -- the verdict refuses none of this many first lines
 record Stands (count : ℕ) (ruling : Verdict) : Type 0 where
-  stands : (earlier : ℕ) (cause : AuditReason) (script : Option Script) → ruling ≡ Rejected earlier cause script → count < earlier
+  stands : (earlier : ℕ) (cause : Reason) (script : Option Script) → ruling ≡ Rejected earlier cause script → count < earlier
 
-upheld_stands : (count : ℕ) (config : Counts) (events : List Event) (earlier : ℕ) (cause : AuditReason) (script : Option Script) → Upheld config events ≡ Rejected earlier cause script → count < earlier
+upheld_stands : (count : ℕ) (config : Counts) (events : List Event) (earlier : ℕ) (cause : Reason) (script : Option Script) → Upheld config events ≡ Rejected earlier cause script → count < earlier
 upheld_stands count config events earlier cause script e = absurd cc
 
-later_stands : (count number : ℕ) (reason_is : AuditReason) (said_is : Option Script) → nat_le number count ≡ false
-    → (earlier : ℕ) (cause : AuditReason) (script : Option Script) → Rejected number reason_is said_is ≡ Rejected earlier cause script → count < earlier
+later_stands : (count number : ℕ) (reason_is : Reason) (said_is : Option Script) → nat_le number count ≡ false
+    → (earlier : ℕ) (cause : Reason) (script : Option Script) → Rejected number reason_is said_is ≡ Rejected earlier cause script → count < earlier
 later_stands count number reason_is said_is gt earlier cause script e =
     let same : number ≡ earlier = cc in
     subst (λ (n : ℕ). count < n) same (leb-false number count gt)
 
 -- what the verdict on the first lines makes of the line behind them
-abbrev Rules : ℕ → Verdict → ℕ → AuditReason → Option Script → Type 0
+abbrev Rules : ℕ → Verdict → ℕ → Reason → Option Script → Type 0
 Rules count ruling line why before =
-    ((line ≤ count) × (ruling ≡ Rejected line why before)) ⊎ (Stands count ruling × (line ≡ count + 1) × (why ≡ reason.Script TooLong) × (before ≡ said_in ruling))
+    ((line ≤ count) × (ruling ≡ Rejected line why before)) ⊎ (Stands count ruling × (line ≡ count + 1) × (why ≡ TooLong) × (before ≡ said_in ruling))
 
-by_test : (test : Bool) (count number : ℕ) (cause : AuditReason) (script : Option Script) (line : ℕ) (why : AuditReason) (before : Option Script) → nat_le number count ≡ test
-    → cond test (Rejected number cause script) (Rejected (count + 1) (reason.Script TooLong) script) ≡ Rejected line why before → Rules count (Rejected number cause script) line why before
+by_test : (test : Bool) (count number : ℕ) (cause : Reason) (script : Option Script) (line : ℕ) (why : Reason) (before : Option Script) → nat_le number count ≡ test
+    → cond test (Rejected number cause script) (Rejected (count + 1) TooLong script) ≡ Rejected line why before → Rules count (Rejected number cause script) line why before
 by_test true count number cause script line why before is e =
     let same : number ≡ line = cc in
     inl (subst (λ (n : ℕ). n ≤ count) same (leb-true number count is), e)
 by_test false count number cause script line why before is e =
     let line_is : count + 1 ≡ line = cc in
-    let why_is : reason.Script TooLong ≡ why = cc in
+    let why_is : TooLong ≡ why = cc in
     let before_is : script ≡ before = cc in
     inr (record { stands = later_stands count number cause script is }, sym line_is, sym why_is, sym before_is)
 
-by_ruling : (count : ℕ) (ruling : Verdict) (line : ℕ) (why : AuditReason) (before : Option Script) → too_long_after count ruling ≡ Rejected line why before → Rules count ruling line why before
+by_ruling : (count : ℕ) (ruling : Verdict) (line : ℕ) (why : Reason) (before : Option Script) → too_long_after count ruling ≡ Rejected line why before → Rules count ruling line why before
 by_ruling count (Upheld config events) line why before e =
     let line_is : count + 1 ≡ line = cc in
-    let why_is : reason.Script TooLong ≡ why = cc in
+    let why_is : TooLong ≡ why = cc in
     let before_is : said config events ≡ before = cc in
     inr (record { stands = upheld_stands count config events }, sym line_is, sym why_is, sym before_is)
 by_ruling count (Rejected number cause script) line why before e = by_test (nat_le number count) count number cause script line why before refl e
 
 -- **where an input that is too long is refused**
-pub too_long_breaks : (bytes : List ℕ) (line : ℕ) (why : AuditReason) (before : Option Script) → MOST_BYTES < length bytes → verdict bytes ≡ Rejected line why before
+pub too_long_breaks : (bytes : List ℕ) (line : ℕ) (why : Reason) (before : Option Script) → MOST_BYTES < length bytes → verdict bytes ≡ Rejected line why before
     → IsRefusedBelow bytes line why before ⊎ IsTooLongAt bytes line why before
 too_long_breaks bytes line why before past e =
     let h = head_is bytes past in

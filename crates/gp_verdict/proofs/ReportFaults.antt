@@ -9,11 +9,14 @@ use Rattle.gp_msg.specs.declared.event.Event.{Event}
 use Rattle.gp_run.specs.Runs.{run_of}
 use Rattle.gp_words.specs.Lines.{lines_of, text_of}
 use Rattle.gp_script.specs.declared.reason.Reason.TheVariants.{BadLine}
+use Rattle.gp_script.specs.Reasons.{is_of_report}
+use Rattle.gp_service.specs.Stores.{store_language}
+use Rattle.gp_text.proofs.RefusedLines.{reason_own}
 use Rattle.gp_report.specs.Texts.{report}
 use Rattle.gp_text.specs.declared.limits.TheConstants.{MOST_BYTES}
 use Rattle.gp_text.specs.Reading.{Reading, Whole, Refused, Script, Sofar}
-use Rattle.gp_verdict.specs.declared.reason.AuditReason.{AuditReason}
-use Rattle.gp_verdict.specs.declared.reason.AuditReason.TheVariants as reason
+use Rattle.gp_script.specs.declared.reason.Reason.{Reason}
+use Rattle.gp_script.specs.declared.reason.Reason.TheVariants as reason
 use Rattle.gp_verdict.specs.Parts.{texts_of, is_divider, trace_lines, after_trace, first_difference, PartAt}
 use Rattle.gp_verdict.specs.Verdicts.{Rejected, said, script_of, on_difference, ending_verdict, on_script, verdict}
 use Rattle.gp_verdict.specs.Printed.{LacksReport, HasWrongReport}
@@ -37,36 +40,50 @@ record IsWrong (own : Counts) (events : List Event) (number : ℕ) (lines : List
   before_is : before ≡ said own events
 
 -- what a refusal for the report says of the lines after a trace
-abbrev Faulty : AuditReason → Counts → List Event → ℕ → List (List ℕ) → ℕ → Option Script → Type 0
-Faulty (reason.Script why) own events number lines line before = Unit {0}
-Faulty reason.NoReport own events number lines line before = IsMissing own events number lines line before
-Faulty reason.WrongReport own events number lines line before = IsWrong own events number lines line before
+record Faulty (why : Reason) (own : Counts) (events : List Event) (number : ℕ) (lines : List (List ℕ)) (line : ℕ) (before : Option Script) : Type 0 where
+  missing : why ≡ reason.NoReport → IsMissing own events number lines line before
+  wrong : why ≡ reason.WrongReport → IsWrong own events number lines line before
 
-difference_faulty : (own : Counts) (events : List Event) (number : ℕ) (divider : List ℕ) (reported : List (List ℕ)) (line : ℕ) (why : AuditReason) (before : Option Script) (difference : Option ℕ)
+-- the reasons differ
+unlike : (why : Reason) → reason.WrongReport ≡ why → why ≡ reason.NoReport → ⊥
+unlike why is none = absurd cc
+
+unlike_missing : (why : Reason) → BadLine ≡ why → why ≡ reason.NoReport → ⊥
+unlike_missing why is none = absurd cc
+
+unlike_wrong : (why : Reason) → BadLine ≡ why → why ≡ reason.WrongReport → ⊥
+unlike_wrong why is other = absurd cc
+
+missing_alone : (why : Reason) → reason.NoReport ≡ why → why ≡ reason.WrongReport → ⊥
+missing_alone why is other = absurd cc
+
+difference_faulty : (own : Counts) (events : List Event) (number : ℕ) (divider : List ℕ) (reported : List (List ℕ)) (line : ℕ) (why : Reason) (before : Option Script) (difference : Option ℕ)
     → first_difference (number + 1) (texts_of reported) (texts_of (lines_of (report own (run_of own events)))) ≡ difference → text_of divider ≡ codes "--"
     → on_difference own events difference ≡ Rejected line why before → Faulty why own events number (divider ∷ reported) line before
 difference_faulty own events number divider reported line why before None is divides e = absurd cc
-difference_faulty own events number divider reported line (reason.Script why) before (Some place) is divides e = tt
-difference_faulty own events number divider reported line reason.NoReport before (Some place) is divides e = absurd cc
-difference_faulty own events number divider reported line reason.WrongReport before (Some place) is divides e =
+difference_faulty own events number divider reported line why before (Some place) is divides e =
+    let why_is : reason.WrongReport ≡ why = cc in
     let place_is : place ≡ line = cc in
     let before_is : said own events ≡ before = cc in
     record {
-      divider = divider;
-      reported = reported;
-      parts = refl;
-      divides = divides;
-      wrong = difference_parts (number + 1) line (texts_of reported) (texts_of (lines_of (report own (run_of own events)))) (is ∙ ap Some place_is);
-      before_is = sym before_is;
+      missing = λ none. absurd (unlike why why_is none);
+      wrong = λ _. record {
+        divider = divider;
+        reported = reported;
+        parts = refl;
+        divides = divides;
+        wrong = difference_parts (number + 1) line (texts_of reported) (texts_of (lines_of (report own (run_of own events)))) (is ∙ ap Some place_is);
+        before_is = sym before_is;
+      };
     }
 
-bad_line_faulty : (own : Counts) (events : List Event) (number : ℕ) (lines : List (List ℕ)) (line : ℕ) (why : AuditReason) (before : Option Script) → Rejected number (reason.Script BadLine) (said own events) ≡ Rejected line why before
+bad_line_faulty : (own : Counts) (events : List Event) (number : ℕ) (lines : List (List ℕ)) (line : ℕ) (why : Reason) (before : Option Script) → Rejected number BadLine (said own events) ≡ Rejected line why before
     → Faulty why own events number lines line before
-bad_line_faulty own events number lines line (reason.Script why) before e = tt
-bad_line_faulty own events number lines line reason.NoReport before e = absurd cc
-bad_line_faulty own events number lines line reason.WrongReport before e = absurd cc
+bad_line_faulty own events number lines line why before e =
+    let why_is : BadLine ≡ why = cc in
+    record { missing = λ none. absurd (unlike_missing why why_is none); wrong = λ other. absurd (unlike_wrong why why_is other) }
 
-ending_faulty_at : (own : Counts) (events : List Event) (number : ℕ) (divider : List ℕ) (reported : List (List ℕ)) (line : ℕ) (why : AuditReason) (before : Option Script) (divides : Bool) → is_divider (text_of divider) ≡ divides
+ending_faulty_at : (own : Counts) (events : List Event) (number : ℕ) (divider : List ℕ) (reported : List (List ℕ)) (line : ℕ) (why : Reason) (before : Option Script) (divides : Bool) → is_divider (text_of divider) ≡ divides
     → ending_verdict own events number (divider ∷ reported) ≡ Rejected line why before → Faulty why own events number (divider ∷ reported) line before
 ending_faulty_at own events number divider reported line why before true is e =
     difference_faulty own events number divider reported line why before (first_difference (number + 1) (texts_of reported) (texts_of (lines_of (report own (run_of own events))))) refl
@@ -74,15 +91,14 @@ ending_faulty_at own events number divider reported line why before true is e =
 ending_faulty_at own events number divider reported line why before false is e =
     bad_line_faulty own events number (divider ∷ reported) line why before (sym (no_divider_at own events number divider reported is) ∙ e)
 
-missing_faulty : (own : Counts) (events : List Event) (number line : ℕ) (why : AuditReason) (before : Option Script) → Rejected number reason.NoReport (said own events) ≡ Rejected line why before → Faulty why own events number [] line before
-missing_faulty own events number line (reason.Script why) before e = tt
-missing_faulty own events number line reason.NoReport before e =
+missing_faulty : (own : Counts) (events : List Event) (number line : ℕ) (why : Reason) (before : Option Script) → Rejected number reason.NoReport (said own events) ≡ Rejected line why before → Faulty why own events number [] line before
+missing_faulty own events number line why before e =
+    let why_is : reason.NoReport ≡ why = cc in
     let line_is : number ≡ line = cc in
     let before_is : said own events ≡ before = cc in
-    (refl, sym line_is, sym before_is)
-missing_faulty own events number line reason.WrongReport before e = absurd cc
+    record { missing = λ _. (refl, sym line_is, sym before_is); wrong = λ other. absurd (missing_alone why why_is other) }
 
-ending_faulty : (own : Counts) (events : List Event) (number : ℕ) (lines : List (List ℕ)) (line : ℕ) (why : AuditReason) (before : Option Script) → ending_verdict own events number lines ≡ Rejected line why before
+ending_faulty : (own : Counts) (events : List Event) (number : ℕ) (lines : List (List ℕ)) (line : ℕ) (why : Reason) (before : Option Script) → ending_verdict own events number lines ≡ Rejected line why before
     → Faulty why own events number lines line before
 unfolding ending_verdict
 ending_faulty own events number [] line why before e = missing_faulty own events number line why before e
@@ -90,29 +106,29 @@ ending_faulty own events number (divider ∷ reported) line why before e = endin
 
 -- ---- the trace
 
-record IsFaulty (why : AuditReason) (read : Reading) (number : ℕ) (lines : List (List ℕ)) (line : ℕ) (before : Option Script) : Type 0 where
+record IsFaulty (why : Reason) (read : Reading) (number : ℕ) (lines : List (List ℕ)) (line : ℕ) (before : Option Script) : Type 0 where
   own : Counts
   sofar : Sofar
   whole : read ≡ Whole own sofar
   faulty : Faulty why own sofar.events number lines line before
 
--- the refusal is one for the report
-abbrev IsOfReport : AuditReason → Type 0
-IsOfReport (reason.Script why) = ⊥
-IsOfReport reason.NoReport = Unit {0}
-IsOfReport reason.WrongReport = Unit {0}
+-- the trace is whole, since a script is not refused for its report
+not_refused : (lines : List (List ℕ)) (wrong : ℕ) (cause : Reason) (earlier : Option Script) (line : ℕ) (why : Reason) (before : Option Script) → script_of lines ≡ Refused wrong cause earlier → is_of_report why ≡ true
+    → Rejected wrong cause earlier ≡ Rejected line why before → false ≡ true
+not_refused lines wrong cause earlier line why before is of_report e =
+    let same : cause ≡ why = cc in
+    sym (reason_own store_language 1 0 lines wrong cause earlier is) ∙ ap is_of_report same ∙ of_report
 
-of_script : (line : ℕ) (why : AuditReason) (before : Option Script) (number : ℕ) (first : AuditReason) (earlier : Option Script) → IsOfReport first → Rejected line why before ≡ Rejected number first earlier → IsOfReport why
-of_script line why before number first earlier of_report e = let same : first ≡ why = cc in subst IsOfReport same of_report
+script_faulty : (trace : List (List ℕ)) (read : Reading) (number : ℕ) (lines : List (List ℕ)) (line : ℕ) (why : Reason) (before : Option Script) → script_of trace ≡ read → is_of_report why ≡ true → on_script read number lines ≡ Rejected line why before
+    → IsFaulty why read number lines line before
+script_faulty trace (Whole own sofar) number lines line why before is of_report e = record { own = own; sofar = sofar; whole = refl; faulty = ending_faulty own sofar.events number lines line why before e }
+script_faulty trace (Refused wrong cause earlier) number lines line why before is of_report e = let never = not_refused trace wrong cause earlier line why before is of_report e in absurd cc
 
-script_faulty : (read : Reading) (number : ℕ) (lines : List (List ℕ)) (line : ℕ) (why : AuditReason) (before : Option Script) → IsOfReport why → on_script read number lines ≡ Rejected line why before → IsFaulty why read number lines line before
-script_faulty (Whole own sofar) number lines line why before of_report e = record { own = own; sofar = sofar; whole = refl; faulty = ending_faulty own sofar.events number lines line why before e }
-script_faulty (Refused wrong cause earlier) number lines line why before of_report e = absurd (of_script wrong (reason.Script cause) earlier line why before of_report e)
-
-lines_faulty : (bytes : List ℕ) (line : ℕ) (why : AuditReason) (before : Option Script) → length bytes ≤ MOST_BYTES → IsOfReport why → verdict bytes ≡ Rejected line why before
+lines_faulty : (bytes : List ℕ) (line : ℕ) (why : Reason) (before : Option Script) → length bytes ≤ MOST_BYTES → is_of_report why ≡ true → verdict bytes ≡ Rejected line why before
     → IsFaulty why (script_of (trace_lines (lines_of bytes))) (length (trace_lines (lines_of bytes)) + 1) (after_trace (lines_of bytes)) line before
 lines_faulty bytes line why before short of_report e =
-    script_faulty (script_of (trace_lines (lines_of bytes))) (length (trace_lines (lines_of bytes)) + 1) (after_trace (lines_of bytes)) line why before of_report
+    let trace = trace_lines (lines_of bytes) in
+    script_faulty trace (script_of trace) (length trace + 1) (after_trace (lines_of bytes)) line why before refl of_report
     (sym (verdict_short bytes (le-leb (length bytes) MOST_BYTES short) ∙ verdict_parts (lines_of bytes)) ∙ e)
 
 -- what the trace says, without what it shows
@@ -123,8 +139,8 @@ says_events lines own sofar whole = whole ∙ ap (λ shown. Whole own (record { 
 
 pub missing_says : (bytes : List ℕ) (line : ℕ) (before : Option Script) → length bytes ≤ MOST_BYTES → verdict bytes ≡ Rejected line reason.NoReport before → LacksReport (lines_of bytes) line before
 missing_says bytes line before short e =
-    let f = lines_faulty bytes line reason.NoReport before short tt e in
-    let missing = f.faulty in
+    let f = lines_faulty bytes line reason.NoReport before short refl e in
+    let missing = f.faulty.missing refl in
     let lines = lines_of bytes in
     let all : lines ≡ trace_lines lines = trace_parts lines ∙ ap (λ (ls : List (List ℕ)). trace_lines lines ++ ls) missing.0 ∙ append-nil (trace_lines lines) in
     record {
@@ -159,8 +175,8 @@ next_number n = omega arith
 
 pub wrong_says : (bytes : List ℕ) (line : ℕ) (before : Option Script) → length bytes ≤ MOST_BYTES → verdict bytes ≡ Rejected line reason.WrongReport before → HasWrongReport (lines_of bytes) line before
 wrong_says bytes line before short e =
-    let f = lines_faulty bytes line reason.WrongReport before short tt e in
-    let w = f.faulty in
+    let f = lines_faulty bytes line reason.WrongReport before short refl e in
+    let w = f.faulty.wrong refl in
     let lines = lines_of bytes in
     record {
       config = f.own;

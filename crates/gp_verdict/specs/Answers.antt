@@ -7,8 +7,7 @@ use Rattle.gp_world.specs.State.{WorldState, entries_of}
 use Rattle.gp_text.specs.declared.played.Unplayed.{Unplayed}
 use Rattle.gp_text.specs.declared.played.Unplayed.TheVariants as unplayed
 use Rattle.gp_text.specs.Reading.{Script, run_before}
-use Rattle.gp_verdict.specs.declared.reason.AuditReason.{AuditReason}
-use Rattle.gp_verdict.specs.declared.reason.AuditReason.TheVariants as reason
+use Rattle.gp_script.specs.declared.reason.Reason.{Reason}
 use Rattle.gp_verdict.specs.declared.answer.Audited.{Audited}
 use Rattle.gp_verdict.specs.declared.answer.Unaudited.{Unaudited}
 use Rattle.gp_verdict.specs.declared.answer.Unaudited.TheVariants as unaudited
@@ -18,10 +17,10 @@ use Rattle.gp_verdict.specs.Certified.{IsCertified}
 -- why an input is not audited, if its trace is not played for this reason
 abbrev pub unaudited_of : Unplayed → Unaudited
 unaudited_of unplayed.NoMemory = unaudited.NoMemory
-unaudited_of (unplayed.Bad line why records) = unaudited.Bad line (reason.Script why) records
+unaudited_of (unplayed.Bad line why records) = unaudited.Bad line why records
 
 -- the input is refused, and the records are those of the events before the refused line
-pub record IsRejected (ruling : Verdict) (line : ℕ) (why : AuditReason) (records : List Record) : Type 0 where
+pub record IsRejected (ruling : Verdict) (line : ℕ) (why : Reason) (records : List Record) : Type 0 where
   pub before : Option Script
   pub ruled : ruling ≡ Rejected line why before
   pub run : newest_first records ≡ run_before before

@@ -10,8 +10,6 @@ use Rattle.gp_script.specs.declared.reason.Reason.{Reason}
 use Rattle.gp_script.specs.declared.reason.Reason.TheVariants.{TooLong, BadLine}
 use Rattle.gp_text.specs.Reading.{Whole, Script, holds_limit}
 use Rattle.gp_text.specs.Refusals.{BreaksAt}
-use Rattle.gp_verdict.specs.declared.reason.AuditReason.{AuditReason}
-use Rattle.gp_verdict.specs.declared.reason.AuditReason.TheVariants as reason
 use Rattle.gp_verdict.specs.Parts.{is_show, ends_trace}
 use Rattle.gp_verdict.specs.Verdicts.{Verdict, Upheld, Rejected, said, script_of, verdict}
 
@@ -58,17 +56,17 @@ said_in (Upheld config events) = said config events
 said_in (Rejected line why before) = before
 
 -- the lines below the limit are refused at one of them, and the input is refused for that
-pub record IsRefusedBelow (bytes : List ℕ) (line : ℕ) (why : AuditReason) (before : Option Script) : Type 0 where
+pub record IsRefusedBelow (bytes : List ℕ) (line : ℕ) (why : Reason) (before : Option Script) : Type 0 where
   pub head : List ℕ
   pub below : IsBelowLimit head bytes
   pub within : line ≤ length (lines_of head)
   pub refused : verdict head ≡ Rejected line why before
 
 -- the lines below the limit are refused at none of them, and the input is refused at the next line, after what they said
-pub record IsTooLongAt (bytes : List ℕ) (line : ℕ) (why : AuditReason) (before : Option Script) : Type 0 where
+pub record IsTooLongAt (bytes : List ℕ) (line : ℕ) (why : Reason) (before : Option Script) : Type 0 where
   pub head : List ℕ
   pub below : IsBelowLimit head bytes
-  pub stands : (earlier : ℕ) (cause : AuditReason) (script : Option Script) → verdict head ≡ Rejected earlier cause script → length (lines_of head) < earlier
+  pub stands : (earlier : ℕ) (cause : Reason) (script : Option Script) → verdict head ≡ Rejected earlier cause script → length (lines_of head) < earlier
   pub line_is : line ≡ length (lines_of head) + 1
-  pub why_is : why ≡ reason.Script TooLong
+  pub why_is : why ≡ TooLong
   pub before_is : before ≡ said_in (verdict head)

@@ -10,14 +10,14 @@ use Rattle.gp_report.specs.Texts.{report}
 use Rattle.gp_text.specs.declared.limits.TheConstants.{MOST_BYTES}
 use Rattle.gp_text.specs.Reading.{Reading, Whole, Refused, Script, reading_from}
 use Rattle.gp_text.specs.Limits.{IsLegalScript, IsLegalBefore}
-use Rattle.gp_verdict.specs.declared.reason.AuditReason.{AuditReason}
-use Rattle.gp_verdict.specs.declared.reason.AuditReason.TheVariants as reason
+use Rattle.gp_script.specs.declared.reason.Reason.{Reason}
+use Rattle.gp_script.specs.declared.reason.Reason.TheVariants as reason
 use Rattle.gp_verdict.specs.Parts.{texts_of, is_divider, trace_lines, after_trace, short_lines, first_difference}
 
 -- the configuration and the events of a trace whose report is right, or the first refused line, the reason, and what the lines of the trace before it said, if there was a configuration
 pub data Verdict : Type 0 where
   Upheld : Counts → List Event → Verdict
-  Rejected : ℕ → AuditReason → Option Script → Verdict
+  Rejected : ℕ → Reason → Option Script → Verdict
 
 -- what a trace said
 abbrev pub said : Counts → List Event → Option Script
@@ -42,12 +42,12 @@ unfoldable pub ending_verdict : Counts → List Event → ℕ → List (List ℕ
 ending_verdict config events number [] = Rejected number reason.NoReport (said config events)
 ending_verdict config events number (line ∷ lines) =
     if is_divider (text_of line) then report_verdict config events (number + 1) lines
-    else Rejected number (reason.Script BadLine) (said config events)
+    else Rejected number BadLine (said config events)
 
 -- what the trace says, and the lines after it
 abbrev pub on_script : Reading → ℕ → List (List ℕ) → Verdict
 on_script (Whole config sofar) number lines = ending_verdict config sofar.events number lines
-on_script (Refused line why before) number lines = Rejected line (reason.Script why) before
+on_script (Refused line why before) number lines = Rejected line why before
 
 -- the verdict on lines none of which is too long
 unfoldable pub lines_verdict : List (List ℕ) → Verdict
@@ -55,9 +55,9 @@ lines_verdict lines = on_script (script_of (trace_lines lines)) (length (trace_l
 
 -- the line after this many first lines is too long; a refusal of one of the first lines takes precedence
 abbrev pub too_long_after : ℕ → Verdict → Verdict
-too_long_after count (Upheld config events) = Rejected (count + 1) (reason.Script TooLong) (said config events)
+too_long_after count (Upheld config events) = Rejected (count + 1) TooLong (said config events)
 too_long_after count (Rejected line why before) =
-    if nat_le line count then Rejected line why before else Rejected (count + 1) (reason.Script TooLong) before
+    if nat_le line count then Rejected line why before else Rejected (count + 1) TooLong before
 
 -- the verdict on an input
 unfoldable pub verdict : List ℕ → Verdict

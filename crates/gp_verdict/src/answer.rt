@@ -2,9 +2,9 @@
 ghost use Rattle.std.specs.Prelude.{◌≡◌};
 ghost use Rattle.gp_verdict.specs.Answers.{unaudited_of};
 
-use crate::reason::AuditReason;
 use gp_command::NoMemory;
 use gp_msg::Records;
+use gp_script::Reason;
 use gp_text::Unplayed;
 use gp_world::World;
 
@@ -23,7 +23,7 @@ pub enum Unaudited {
     /// of the events in the trace before that line.
     Bad {
         line: u64,
-        reason: AuditReason,
+        reason: Reason,
         records: Records,
     },
     /// Memory ran out.
@@ -42,7 +42,7 @@ impl From<Unplayed> for Unaudited {
                 records,
             } => Unaudited::Bad {
                 line,
-                reason: AuditReason::Script(reason),
+                reason,
                 records,
             },
         }

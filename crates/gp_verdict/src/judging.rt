@@ -11,7 +11,6 @@ ghost use Rattle.gp_verdict.specs.Answers.{Judges};
 
 use crate::answer::Unaudited;
 use crate::parts::{is_divider, short_head, trace_head};
-use crate::reason::AuditReason;
 use crate::reports::first_difference;
 use gp_script::Reason;
 use gp_text::{MOST_BYTES, Played, play};
@@ -20,7 +19,7 @@ use gp_world::World;
 use std::alloc::Global;
 
 // The line with this number is refused after the events of this world.
-fn refused(world: World, line: u64, reason: AuditReason) -> Unaudited
+fn refused(world: World, line: u64, reason: Reason) -> Unaudited
     ensures { result ≡ unaudited.Bad line reason world.records }
 {
     Unaudited::Bad {
@@ -40,15 +39,15 @@ fn judge_ending(number: u64, rest: &[u8], played: Played) -> Result<World, Unaud
 {
     let Played { world, text } = played;
     if rest.is_empty() {
-        return Err(refused(world, number, AuditReason::NoReport));
+        return Err(refused(world, number, Reason::NoReport));
     }
     let (line, after) = first_line(rest);
     if !is_divider(text_of(line)) {
-        return Err(refused(world, number, AuditReason::Script(Reason::BadLine)));
+        return Err(refused(world, number, Reason::BadLine));
     }
     match first_difference(number + 1, after, &text) {
         None => Ok(world),
-        Some(line) => Err(refused(world, line, AuditReason::WrongReport)),
+        Some(line) => Err(refused(world, line, Reason::WrongReport)),
     }
 }
 
@@ -68,7 +67,7 @@ fn too_long_after(lines: u64, judged: Result<World, Unaudited>) -> Unaudited
     requires { lines < 2 ^ 63 }
     ensures { (ruling : Verdict) → Judges ruling judged → Judges (too_long_after lines ruling) (Err result) }
 {
-    let too_long = AuditReason::Script(Reason::TooLong);
+    let too_long = Reason::TooLong;
     match judged {
         Ok(world) => refused(world, lines + 1, too_long),
         Err(Unaudited::NoMemory) => Unaudited::NoMemory,

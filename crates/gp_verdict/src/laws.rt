@@ -1,5 +1,5 @@
 //! Laws of the audit. Each function does nothing, and its contract is the law.
-ghost use Rattle.std.specs.Prelude.{◌≡◌, ◌≤◌, ◌<◌, ◌⊎◌, ◌↔◌, ℕ, List, length, Option, Some, None, Result, MatchResult};
+ghost use Rattle.std.specs.Prelude.{◌≡◌, ◌≤◌, ◌<◌, ◌⊎◌, ◌↔◌, ℕ, false, List, length, Option, Some, None, Result, MatchResult};
 ghost use Rattle.gp_round.specs.Counts.{Counts};
 ghost use Rattle.gp_msg.specs.declared.event.Event.{Event};
 ghost use Rattle.gp_msg.specs.Messages.{Entry};
@@ -7,13 +7,13 @@ ghost use Rattle.gp_run.specs.Runs.{oldest_first};
 ghost use Rattle.gp_words.specs.Lines.{lines_of};
 ghost use Rattle.gp_service.specs.Stores.{store_language};
 ghost use Rattle.gp_script.specs.declared.reason.Reason.{Reason};
+ghost use Rattle.gp_script.specs.declared.reason.Reason.TheVariants as reason;
+ghost use Rattle.gp_script.specs.Reasons.{is_of_report};
 ghost use Rattle.gp_text.specs.Reading.{Script};
 ghost use Rattle.gp_text.specs.Limits.{IsSayable};
 ghost use Rattle.gp_verdict.specs.declared.answer.Audited.{Audited};
 ghost use Rattle.gp_verdict.specs.declared.answer.Unaudited.{Unaudited};
 ghost use Rattle.gp_verdict.specs.declared.answer.Unaudited.TheVariants.{NoMemory};
-ghost use Rattle.gp_verdict.specs.declared.reason.AuditReason.{AuditReason};
-ghost use Rattle.gp_verdict.specs.declared.reason.AuditReason.TheVariants as reason;
 ghost use Rattle.gp_verdict.specs.Parts.{first_difference, PartAt};
 ghost use Rattle.gp_verdict.specs.Verdicts.{Upheld, Rejected, verdict};
 ghost use Rattle.gp_verdict.specs.Answers.{Audits};
@@ -41,8 +41,8 @@ pub fn a_report_is_missing_or_wrong()
         → (verdict bytes ≡ Rejected line reason.WrongReport before) ↔ HasWrongReport (lines_of bytes) line before }
 {}
 
-/// If an input of at most 1,048,576 bytes is refused at a line of its trace, the lines before the
-/// first one that is `--` or a `show` line are a script that is refused at that line, for that
+/// If an input of at most 1,048,576 bytes is refused for another reason than its report, the lines
+/// before the first one that is `--` or a `show` line are a script that is refused at that line, for that
 /// reason. Or these lines are a whole script, and the `show` line behind them is refused as
 /// `Reason::BadLine`. The records are those of the lines before the refused one.
 ///
@@ -51,9 +51,9 @@ pub fn a_report_is_missing_or_wrong()
 /// longer input is refused at the same line, for the same reason. Otherwise it is refused at the
 /// next line as `Reason::TooLong`, after the records of the trace.
 pub fn a_refused_trace_breaks_at_that_line()
-    ensures script { (bytes : List ℕ) (line : ℕ) (why : Reason) (before : Option Script) → length bytes ≤ MOST_BYTES
-        → verdict bytes ≡ Rejected line (reason.Script why) before → BreaksTraceAt (lines_of bytes) line why before ⊎ ShowsAt (lines_of bytes) line why before }
-    ensures too_long { (bytes : List ℕ) (line : ℕ) (why : AuditReason) (before : Option Script) → MOST_BYTES < length bytes
+    ensures script { (bytes : List ℕ) (line : ℕ) (why : Reason) (before : Option Script) → length bytes ≤ MOST_BYTES → is_of_report why ≡ false
+        → verdict bytes ≡ Rejected line why before → BreaksTraceAt (lines_of bytes) line why before ⊎ ShowsAt (lines_of bytes) line why before }
+    ensures too_long { (bytes : List ℕ) (line : ℕ) (why : Reason) (before : Option Script) → MOST_BYTES < length bytes
         → verdict bytes ≡ Rejected line why before → IsRefusedBelow bytes line why before ⊎ IsTooLongAt bytes line why before }
 {}
 

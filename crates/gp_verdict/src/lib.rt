@@ -8,10 +8,8 @@ mod certificates;
 mod judging;
 pub mod laws;
 mod parts;
-mod reason;
 mod reports;
 
 pub use answer::{Audited, Unaudited};
 pub use auditing::audit;
 pub use gp_script::Reason;
-pub use reason::AuditReason;

@@ -1,7 +1,0 @@
-use Rattle.std.proofs.Common.{rules}
-use Rattle.gp_offers.specs.Offering.{with_offer}
-use Rattle.gp_offers.proofs.lines.with_offer.Goals as goal
-
-pub returns-in-Ok : goal.returns-in-Ok
-unfolding with_offer
-returns-in-Ok c = search rules

@@ -1,9 +1,0 @@
-use Rattle.std.proofs.Common.{length}
-use Rattle.gp_offers.proofs.OfferSteps.{ReadsOn}
-use Rattle.gp_offers.proofs.script.read_offers.Given as goal
-
-abbrev pub invariant-loop-rest : goal.invariant-loop-rest
-invariant-loop-rest l = ReadsOn l.bytes l.rest l.number l.place l.so_far
-
-abbrev pub decreases-loop-rest : goal.decreases-loop-rest
-decreases-loop-rest l = length l.rest

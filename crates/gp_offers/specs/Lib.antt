@@ -1,3 +1,0 @@
-pub mod Offering
-pub mod Answers
-pub mod Offered
