@@ -71,6 +71,10 @@ module _ {D : Type 0} (faults : D → ℕ) (o r : CellState D) (config : r.confi
   is_up_again (Ok n) x = ap is_up x
   is_up_again (Err f) x = tt
 
+  pub is_still_down : {E : Type 0} (t : Result ℕ E) → OnErr t (r.down ≡ o.down) → (process_of faults o).up ≡ false → OnErr t ((process_of faults r).up ≡ false)
+  is_still_down (Ok n) x down = tt
+  is_still_down (Err f) x down = ap is_up x ∙ down
+
   step_fault : (mv : Move) (f : StepFault) → CountsFaults {T = ℕ} (faults_of faults o.log) (faults_of faults r.log) (Err f) → StepCause o r mv f
       → work.StepCause mv (process_of faults o) (process_of faults r) (IsTooGreat r (event_of o.node mv)) f
   step_fault mv Waiting c h = (ap is_up h.1, h.0)

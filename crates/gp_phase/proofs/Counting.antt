@@ -1,5 +1,5 @@
 -- What is counted of jobs.
-use Rattle.std.proofs.Common.{◌≡◌, ℕ, zero, suc, ◌+◌, ◌<◌, false, List, [], ◌∷◌, length, drop, get_or, refl, arith, Option, Some, None}
+use Rattle.std.proofs.Common.{◌≡◌, ℕ, zero, suc, ◌+◌, ◌<◌, true, false, List, [], ◌∷◌, length, drop, get_or, refl, arith, Option, Some, None}
 use Rattle.std.specs.Option.{is_some}
 use Rattle.gp_work.specs.declared.job.Job.{Job}
 use Rattle.gp_work.specs.Doing.{ProcessState, posted}
@@ -14,3 +14,7 @@ total_next state others (j ∷ js) (suc i) d l = total_next state others js i d 
 pub none_there : {A : Type 0} (o : Option A) → false ≡ is_some o → o ≡ None
 none_there None e = refl
 none_there (Some x) e = cc
+
+pub some_there : {A : Type 0} (o : Option A) → true ≡ is_some o → o ≡ None → ⊥
+some_there None e none = absurd cc
+some_there (Some x) e none = absurd cc

@@ -47,6 +47,12 @@ not_quiet_fault e = cc
 pub not_quiet_memory : PhasesEnd.NoMemory ≡ PhasesEnd.Quiet → ⊥
 not_quiet_memory e = cc
 
+pub not_fault_quiet : PhasesEnd.Quiet ≡ PhasesEnd.Fault → ⊥
+not_fault_quiet e = cc
+
+pub not_fault_memory : PhasesEnd.NoMemory ≡ PhasesEnd.Fault → ⊥
+not_fault_memory e = cc
+
 -- ---- a place of its own
 
 module _ {A : Type 0} where

@@ -38,7 +38,8 @@ pub struct Phases<P> {
 
 // Whether a job has a fault.
 fn has_fault<P>(jobs: &[Job<P>]) -> bool
-    ensures { result ≡ false → All (λ (j : Job P). j.fault ≡ None) jobs.now }
+    ensures none { result ≡ false → All (λ (j : Job P). j.fault ≡ None) jobs.now }
+    ensures some { result ≡ true → ¬ All (λ (j : Job P). j.fault ≡ None) jobs.now }
 {
     for job in jobs {
         if job.fault.is_some() {
@@ -152,6 +153,7 @@ pub fn run_phases<
     requires knows { (d : Job P) → C.knows caller.old (P.state (slice_index_or jobs.items at d).cell).list }
     ensures size { length result.jobs.items ≡ length jobs.items }
     ensures carried { (i : ℕ) (d : Job P) → i < length jobs.items → Carried P.state P.is_of P.causes net.now (slice_index_or jobs.items i d) (slice_index_or result.jobs.items i d) }
+    ensures blamed { result.end ≡ PhasesEnd.Fault → ¬ All (λ (j : Job P). j.fault ≡ None) result.jobs.items }
     ensures finished { result.end ≡ PhasesEnd.Quiet → (i : ℕ) (d : Job P) → i < length jobs.items
         → Finished P.state P.is_of net.now (only_at at i (rounds (C.called caller.new))) (total P.state others result.jobs.items) (slice_index_or jobs.items i d) (slice_index_or result.jobs.items i d) }
     ensures opens { result.end ≡ PhasesEnd.Quiet → (i : ℕ) (d : Job P) → i < length jobs.items → Opens P.state (slice_index_or jobs.items i d) (slice_index_or result.jobs.items i d) }

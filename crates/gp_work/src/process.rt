@@ -71,7 +71,7 @@ pub trait Process<N> {
         ensures cause { IfErr result (StepCause mv (state self.old) (state self.new) ((causes self.new).too_great (event_of (state self.old).node mv))) };
 
     /// Recovers a node that is down: posts exactly one record, of a crash (`Fall`). If it is
-    /// refused, it posts nothing. Of the number that it returns no clause here speaks; of a `Cell`
+    /// refused, it posts nothing and stays down. Of the number that it returns no clause here speaks; of a `Cell`
     /// it is how many messages there are then.
     fn rise<W: Wait>(&mut self, rt: &W, net: &N) -> Result<u64, RiseFault>
         requires own { is_of self.old net.now }
@@ -80,6 +80,7 @@ pub trait Process<N> {
         ensures goes { Goes (state self.old) (state self.new) }
         ensures posted { IfOk result (λ n. Falls (state self.old) (state self.new)) }
         ensures up { IfOk result (λ n. (state self.new).up ≡ true) }
+        ensures down { OnErr result ((state self.new).up ≡ false) }
         ensures nothing { OnErr result (Posted (state self.old) (state self.new) []) }
         ensures cause { IfErr result (RiseCause (state self.old) (state self.new) (causes self.new).not_risen) };
 }

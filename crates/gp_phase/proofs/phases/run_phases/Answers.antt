@@ -4,7 +4,7 @@ use Rattle.std.specs.Option.{option_to_list}
 use Rattle.std.specs.List.{All}
 use Rattle.gp_work.specs.declared.job.Job.{Job}
 use Rattle.gp_phase.specs.Phases.{Asked, Follows, total}
-use Rattle.gp_phase.proofs.Phasing.{Looks, starts, ready, worked, looked, asked, finished, all_carried, carried_asked, known, none_left, only_none, not_quiet_fault, not_quiet_memory}
+use Rattle.gp_phase.proofs.Phasing.{Looks, starts, ready, worked, looked, asked, finished, all_carried, carried_asked, known, none_left, only_none, not_quiet_fault, not_quiet_memory, not_fault_quiet, not_fault_memory}
 use Rattle.gp_phase.proofs.Opening.{worked_open, looked_open}
 use Rattle.gp_phase.proofs.phases.run_phases.Goals as goal
 
@@ -40,7 +40,7 @@ call_round-requires-clause-up g c =
     let js0 = c.args.jobs.items in let js = c.loop.jobs.items in let ks = c.workers_beside-jobs.result.items in
     let me = g.C.Caller.node c.args.caller.now in let us = g.C.Caller.config c.args.caller.now in let called = g.C.Caller.called c.loop.caller in
     let inv = c.loop.invariant in let ph = inv.5 in
-    let none : All (λ (k : Job g.row.P.Denot). k.fault ≡ None) ks = subst (All (λ (k : Job g.row.P.Denot). k.fault ≡ None)) c.deref-in-loop.ensures.value (c.if-has_fault.ensures refl) in
+    let none : All (λ (k : Job g.row.P.Denot). k.fault ≡ None) ks = subst (All (λ (k : Job g.row.P.Denot). k.fault ≡ None)) c.deref-in-loop.ensures.value (c.if-has_fault.ensures.none refl) in
     let done = worked g.P.Process.state g.P.Process.is_of g.P.Process.causes c.args.net.now g.C.Caller.answers c.args.at js0 js ks me us inv.3 inv.4 called c.requires.at ph c.workers_beside-jobs.ensures.worked.same c.workers_beside-jobs.ensures.worked.each none in
     let j : Job g.row.P.Denot = c.index_mut.result.now in
     let here : j ≡ get_or ks c.args.at j = c.index_mut.ensures.value in
@@ -51,7 +51,7 @@ call_round-requires-clause-knows g c =
     let js0 = c.args.jobs.items in let js = c.loop.jobs.items in let ks = c.workers_beside-jobs.result.items in
     let me = g.C.Caller.node c.args.caller.now in let us = g.C.Caller.config c.args.caller.now in let called = g.C.Caller.called c.loop.caller in
     let inv = c.loop.invariant in let ph = inv.5 in
-    let none : All (λ (k : Job g.row.P.Denot). k.fault ≡ None) ks = subst (All (λ (k : Job g.row.P.Denot). k.fault ≡ None)) c.deref-in-loop.ensures.value (c.if-has_fault.ensures refl) in
+    let none : All (λ (k : Job g.row.P.Denot). k.fault ≡ None) ks = subst (All (λ (k : Job g.row.P.Denot). k.fault ≡ None)) c.deref-in-loop.ensures.value (c.if-has_fault.ensures.none refl) in
     let done = worked g.P.Process.state g.P.Process.is_of g.P.Process.causes c.args.net.now g.C.Caller.answers c.args.at js0 js ks me us inv.3 inv.4 called c.requires.at ph c.workers_beside-jobs.ensures.worked.same c.workers_beside-jobs.ensures.worked.each none in
     let j : Job g.row.P.Denot = c.index_mut.result.now in
     let here : j ≡ get_or ks c.args.at j = c.index_mut.ensures.value in
@@ -65,7 +65,7 @@ returns-in-Err-clause-carried g c =
     let js0 = c.args.jobs.items in let js = c.loop.jobs.items in let ks = c.workers_beside-jobs.result.items in
     let me = g.C.Caller.node c.args.caller.now in let us = g.C.Caller.config c.args.caller.now in let called = g.C.Caller.called c.loop.caller in
     let inv = c.loop.invariant in let ph = inv.5 in
-    let none : All (λ (k : Job g.row.P.Denot). k.fault ≡ None) ks = subst (All (λ (k : Job g.row.P.Denot). k.fault ≡ None)) c.deref-in-loop.ensures.value (c.if-has_fault.ensures refl) in
+    let none : All (λ (k : Job g.row.P.Denot). k.fault ≡ None) ks = subst (All (λ (k : Job g.row.P.Denot). k.fault ≡ None)) c.deref-in-loop.ensures.value (c.if-has_fault.ensures.none refl) in
     let done = worked g.P.Process.state g.P.Process.is_of g.P.Process.causes c.args.net.now g.C.Caller.answers c.args.at js0 js ks me us inv.3 inv.4 called c.requires.at ph c.workers_beside-jobs.ensures.worked.same c.workers_beside-jobs.ensures.worked.each none in
     let j : Job g.row.P.Denot = c.index_mut.result.now in
     let here : j ≡ get_or ks c.args.at j = c.index_mut.ensures.value in
@@ -80,7 +80,7 @@ returns-then-not-left-clause-carried g c =
     let js0 = c.args.jobs.items in let js = c.loop.jobs.items in let ks = c.workers_beside-jobs.result.items in
     let me = g.C.Caller.node c.args.caller.now in let us = g.C.Caller.config c.args.caller.now in let called = g.C.Caller.called c.loop.caller in
     let inv = c.loop.invariant in let ph = inv.5 in
-    let none : All (λ (k : Job g.row.P.Denot). k.fault ≡ None) ks = subst (All (λ (k : Job g.row.P.Denot). k.fault ≡ None)) c.deref-in-loop.ensures.value (c.if-has_fault.ensures refl) in
+    let none : All (λ (k : Job g.row.P.Denot). k.fault ≡ None) ks = subst (All (λ (k : Job g.row.P.Denot). k.fault ≡ None)) c.deref-in-loop.ensures.value (c.if-has_fault.ensures.none refl) in
     let done = worked g.P.Process.state g.P.Process.is_of g.P.Process.causes c.args.net.now g.C.Caller.answers c.args.at js0 js ks me us inv.3 inv.4 called c.requires.at ph c.workers_beside-jobs.ensures.worked.same c.workers_beside-jobs.ensures.worked.each none in
     let j : Job g.row.P.Denot = c.index_mut.result.now in
     let here : j ≡ get_or ks c.args.at j = c.index_mut.ensures.value in
@@ -95,7 +95,7 @@ returns-then-not-left-clause-finished g c _ i d l =
     let js0 = c.args.jobs.items in let js = c.loop.jobs.items in let ks = c.workers_beside-jobs.result.items in
     let me = g.C.Caller.node c.args.caller.now in let us = g.C.Caller.config c.args.caller.now in let called = g.C.Caller.called c.loop.caller in
     let inv = c.loop.invariant in let ph = inv.5 in
-    let none : All (λ (k : Job g.row.P.Denot). k.fault ≡ None) ks = subst (All (λ (k : Job g.row.P.Denot). k.fault ≡ None)) c.deref-in-loop.ensures.value (c.if-has_fault.ensures refl) in
+    let none : All (λ (k : Job g.row.P.Denot). k.fault ≡ None) ks = subst (All (λ (k : Job g.row.P.Denot). k.fault ≡ None)) c.deref-in-loop.ensures.value (c.if-has_fault.ensures.none refl) in
     let done = worked g.P.Process.state g.P.Process.is_of g.P.Process.causes c.args.net.now g.C.Caller.answers c.args.at js0 js ks me us inv.3 inv.4 called c.requires.at ph c.workers_beside-jobs.ensures.worked.same c.workers_beside-jobs.ensures.worked.each none in
     let j : Job g.row.P.Denot = c.index_mut.result.now in
     let here : j ≡ get_or ks c.args.at j = c.index_mut.ensures.value in
@@ -114,7 +114,7 @@ returns-then-not-left-clause-opens g c _ i d l =
     let js0 = c.args.jobs.items in let js = c.loop.jobs.items in let ks = c.workers_beside-jobs.result.items in
     let me = g.C.Caller.node c.args.caller.now in let us = g.C.Caller.config c.args.caller.now in let called = g.C.Caller.called c.loop.caller in
     let inv = c.loop.invariant in let ph = inv.5 in
-    let none : All (λ (k : Job g.row.P.Denot). k.fault ≡ None) ks = subst (All (λ (k : Job g.row.P.Denot). k.fault ≡ None)) c.deref-in-loop.ensures.value (c.if-has_fault.ensures refl) in
+    let none : All (λ (k : Job g.row.P.Denot). k.fault ≡ None) ks = subst (All (λ (k : Job g.row.P.Denot). k.fault ≡ None)) c.deref-in-loop.ensures.value (c.if-has_fault.ensures.none refl) in
     let done = worked g.P.Process.state g.P.Process.is_of g.P.Process.causes c.args.net.now g.C.Caller.answers c.args.at js0 js ks me us inv.3 inv.4 called c.requires.at ph c.workers_beside-jobs.ensures.worked.same c.workers_beside-jobs.ensures.worked.each none in
     let j : Job g.row.P.Denot = c.index_mut.result.now in
     let here : j ≡ get_or ks c.args.at j = c.index_mut.ensures.value in
@@ -130,7 +130,7 @@ returns-then-not-left-clause-follows g c _ d =
     let js0 = c.args.jobs.items in let js = c.loop.jobs.items in let ks = c.workers_beside-jobs.result.items in
     let me = g.C.Caller.node c.args.caller.now in let us = g.C.Caller.config c.args.caller.now in let called = g.C.Caller.called c.loop.caller in
     let inv = c.loop.invariant in let ph = inv.5 in
-    let none : All (λ (k : Job g.row.P.Denot). k.fault ≡ None) ks = subst (All (λ (k : Job g.row.P.Denot). k.fault ≡ None)) c.deref-in-loop.ensures.value (c.if-has_fault.ensures refl) in
+    let none : All (λ (k : Job g.row.P.Denot). k.fault ≡ None) ks = subst (All (λ (k : Job g.row.P.Denot). k.fault ≡ None)) c.deref-in-loop.ensures.value (c.if-has_fault.ensures.none refl) in
     let done = worked g.P.Process.state g.P.Process.is_of g.P.Process.causes c.args.net.now g.C.Caller.answers c.args.at js0 js ks me us inv.3 inv.4 called c.requires.at ph c.workers_beside-jobs.ensures.worked.same c.workers_beside-jobs.ensures.worked.each none in
     let j : Job g.row.P.Denot = c.index_mut.result.now in
     let here : j ≡ get_or ks c.args.at j = c.index_mut.ensures.value in
@@ -146,6 +146,15 @@ returns-then-not-left-clause-follows g c _ d =
 
 pub returns-then-has_fault-clause-size : goal.returns-then-has_fault-clause-size
 returns-then-has_fault-clause-size g c = c.workers_beside-jobs.ensures.worked.same ∙ c.loop.invariant.5.size
+
+pub returns-then-has_fault-clause-blamed : goal.returns-then-has_fault-clause-blamed
+returns-then-has_fault-clause-blamed g c _ = subst (λ (ks : List (Job g.row.P.Denot)). ¬ All (λ (k : Job g.row.P.Denot). k.fault ≡ None) ks) c.deref-in-loop.ensures.value (c.if-has_fault.ensures.some refl)
+
+pub returns-in-Err-clause-blamed : goal.returns-in-Err-clause-blamed
+returns-in-Err-clause-blamed g c q = absurd (not_fault_memory q)
+
+pub returns-then-not-left-clause-blamed : goal.returns-then-not-left-clause-blamed
+returns-then-not-left-clause-blamed g c q = absurd (not_fault_quiet q)
 
 pub returns-then-has_fault-clause-finished : goal.returns-then-has_fault-clause-finished
 returns-then-has_fault-clause-finished g c q i d l = absurd (not_quiet_fault q)
@@ -215,7 +224,7 @@ call_round-requires-clause-own g c =
     let js0 = c.args.jobs.items in let js = c.loop.jobs.items in let ks = c.workers_beside-jobs.result.items in
     let me = g.C.Caller.node c.args.caller.now in let us = g.C.Caller.config c.args.caller.now in let called = g.C.Caller.called c.loop.caller in
     let inv = c.loop.invariant in let ph = inv.5 in
-    let none : All (λ (k : Job g.row.P.Denot). k.fault ≡ None) ks = subst (All (λ (k : Job g.row.P.Denot). k.fault ≡ None)) c.deref-in-loop.ensures.value (c.if-has_fault.ensures refl) in
+    let none : All (λ (k : Job g.row.P.Denot). k.fault ≡ None) ks = subst (All (λ (k : Job g.row.P.Denot). k.fault ≡ None)) c.deref-in-loop.ensures.value (c.if-has_fault.ensures.none refl) in
     let done = worked g.P.Process.state g.P.Process.is_of g.P.Process.causes c.args.net.now g.C.Caller.answers c.args.at js0 js ks me us inv.3 inv.4 called c.requires.at ph c.workers_beside-jobs.ensures.worked.same c.workers_beside-jobs.ensures.worked.each none in
     let j : Job g.row.P.Denot = c.index_mut.result.now in
     let here : j ≡ get_or ks c.args.at j = c.index_mut.ensures.value in
@@ -226,7 +235,7 @@ call_round-requires-clause-node g c =
     let js0 = c.args.jobs.items in let js = c.loop.jobs.items in let ks = c.workers_beside-jobs.result.items in
     let me = g.C.Caller.node c.args.caller.now in let us = g.C.Caller.config c.args.caller.now in let called = g.C.Caller.called c.loop.caller in
     let inv = c.loop.invariant in let ph = inv.5 in
-    let none : All (λ (k : Job g.row.P.Denot). k.fault ≡ None) ks = subst (All (λ (k : Job g.row.P.Denot). k.fault ≡ None)) c.deref-in-loop.ensures.value (c.if-has_fault.ensures refl) in
+    let none : All (λ (k : Job g.row.P.Denot). k.fault ≡ None) ks = subst (All (λ (k : Job g.row.P.Denot). k.fault ≡ None)) c.deref-in-loop.ensures.value (c.if-has_fault.ensures.none refl) in
     let done = worked g.P.Process.state g.P.Process.is_of g.P.Process.causes c.args.net.now g.C.Caller.answers c.args.at js0 js ks me us inv.3 inv.4 called c.requires.at ph c.workers_beside-jobs.ensures.worked.same c.workers_beside-jobs.ensures.worked.each none in
     let j : Job g.row.P.Denot = c.index_mut.result.now in
     let here : j ≡ get_or ks c.args.at j = c.index_mut.ensures.value in
@@ -237,7 +246,7 @@ call_round-requires-clause-config g c =
     let js0 = c.args.jobs.items in let js = c.loop.jobs.items in let ks = c.workers_beside-jobs.result.items in
     let me = g.C.Caller.node c.args.caller.now in let us = g.C.Caller.config c.args.caller.now in let called = g.C.Caller.called c.loop.caller in
     let inv = c.loop.invariant in let ph = inv.5 in
-    let none : All (λ (k : Job g.row.P.Denot). k.fault ≡ None) ks = subst (All (λ (k : Job g.row.P.Denot). k.fault ≡ None)) c.deref-in-loop.ensures.value (c.if-has_fault.ensures refl) in
+    let none : All (λ (k : Job g.row.P.Denot). k.fault ≡ None) ks = subst (All (λ (k : Job g.row.P.Denot). k.fault ≡ None)) c.deref-in-loop.ensures.value (c.if-has_fault.ensures.none refl) in
     let done = worked g.P.Process.state g.P.Process.is_of g.P.Process.causes c.args.net.now g.C.Caller.answers c.args.at js0 js ks me us inv.3 inv.4 called c.requires.at ph c.workers_beside-jobs.ensures.worked.same c.workers_beside-jobs.ensures.worked.each none in
     let j : Job g.row.P.Denot = c.index_mut.result.now in
     let here : j ≡ get_or ks c.args.at j = c.index_mut.ensures.value in
@@ -248,7 +257,7 @@ call_round-requires-clause-first g c =
     let js0 = c.args.jobs.items in let js = c.loop.jobs.items in let ks = c.workers_beside-jobs.result.items in
     let me = g.C.Caller.node c.args.caller.now in let us = g.C.Caller.config c.args.caller.now in let called = g.C.Caller.called c.loop.caller in
     let inv = c.loop.invariant in let ph = inv.5 in
-    let none : All (λ (k : Job g.row.P.Denot). k.fault ≡ None) ks = subst (All (λ (k : Job g.row.P.Denot). k.fault ≡ None)) c.deref-in-loop.ensures.value (c.if-has_fault.ensures refl) in
+    let none : All (λ (k : Job g.row.P.Denot). k.fault ≡ None) ks = subst (All (λ (k : Job g.row.P.Denot). k.fault ≡ None)) c.deref-in-loop.ensures.value (c.if-has_fault.ensures.none refl) in
     let done = worked g.P.Process.state g.P.Process.is_of g.P.Process.causes c.args.net.now g.C.Caller.answers c.args.at js0 js ks me us inv.3 inv.4 called c.requires.at ph c.workers_beside-jobs.ensures.worked.same c.workers_beside-jobs.ensures.worked.each none in
     let j : Job g.row.P.Denot = c.index_mut.result.now in
     let here : j ≡ get_or ks c.args.at j = c.index_mut.ensures.value in
@@ -265,7 +274,7 @@ returns-then-not-left-clause-last g c _ d =
     let js0 = c.args.jobs.items in let js = c.loop.jobs.items in let ks = c.workers_beside-jobs.result.items in
     let me = g.C.Caller.node c.args.caller.now in let us = g.C.Caller.config c.args.caller.now in let called = g.C.Caller.called c.loop.caller in
     let inv = c.loop.invariant in let ph = inv.5 in
-    let none : All (λ (k : Job g.row.P.Denot). k.fault ≡ None) ks = subst (All (λ (k : Job g.row.P.Denot). k.fault ≡ None)) c.deref-in-loop.ensures.value (c.if-has_fault.ensures refl) in
+    let none : All (λ (k : Job g.row.P.Denot). k.fault ≡ None) ks = subst (All (λ (k : Job g.row.P.Denot). k.fault ≡ None)) c.deref-in-loop.ensures.value (c.if-has_fault.ensures.none refl) in
     let done = worked g.P.Process.state g.P.Process.is_of g.P.Process.causes c.args.net.now g.C.Caller.answers c.args.at js0 js ks me us inv.3 inv.4 called c.requires.at ph c.workers_beside-jobs.ensures.worked.same c.workers_beside-jobs.ensures.worked.each none in
     let j : Job g.row.P.Denot = c.index_mut.result.now in
     let here : j ≡ get_or ks c.args.at j = c.index_mut.ensures.value in
@@ -282,7 +291,7 @@ loop-preserved g c =
     let js0 = c.args.jobs.items in let js = c.loop.jobs.items in let ks = c.workers_beside-jobs.result.items in
     let me = g.C.Caller.node c.args.caller.now in let us = g.C.Caller.config c.args.caller.now in let called = g.C.Caller.called c.loop.caller in
     let inv = c.loop.invariant in let ph = inv.5 in
-    let none : All (λ (k : Job g.row.P.Denot). k.fault ≡ None) ks = subst (All (λ (k : Job g.row.P.Denot). k.fault ≡ None)) c.deref-in-loop.ensures.value (c.if-has_fault.ensures refl) in
+    let none : All (λ (k : Job g.row.P.Denot). k.fault ≡ None) ks = subst (All (λ (k : Job g.row.P.Denot). k.fault ≡ None)) c.deref-in-loop.ensures.value (c.if-has_fault.ensures.none refl) in
     let done = worked g.P.Process.state g.P.Process.is_of g.P.Process.causes c.args.net.now g.C.Caller.answers c.args.at js0 js ks me us inv.3 inv.4 called c.requires.at ph c.workers_beside-jobs.ensures.worked.same c.workers_beside-jobs.ensures.worked.each none in
     let j : Job g.row.P.Denot = c.index_mut.result.now in
     let here : j ≡ get_or ks c.args.at j = c.index_mut.ensures.value in

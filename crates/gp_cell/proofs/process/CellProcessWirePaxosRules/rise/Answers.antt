@@ -1,4 +1,4 @@
-use Rattle.gp_cell.proofs.Acts.{goes, at_same, rise_posted, step_nothing, rise_fault_if, is_up_again, is_down_now}
+use Rattle.gp_cell.proofs.Acts.{goes, at_same, rise_posted, step_nothing, rise_fault_if, is_up_again, is_still_down, is_down_now}
 use Rattle.gp_cell.proofs.process.CellProcessWirePaxosRules.rise.Goals as goal
 
 pub rise-requires-clause-down : goal.rise-requires-clause-down
@@ -15,6 +15,9 @@ returns-clause-posted g c = let e = c.rise.ensures in rise_posted g.D.Disk.fault
 
 pub returns-clause-up : goal.returns-clause-up
 returns-clause-up g c = let e = c.rise.ensures in is_up_again g.D.Disk.faults c.args.self.now c.rise.new.self e.same.0 e.same.1 c.rise.result e.up
+
+pub returns-clause-down : goal.returns-clause-down
+returns-clause-down g c = let e = c.rise.ensures in is_still_down g.D.Disk.faults c.args.self.now c.rise.new.self e.same.0 e.same.1 c.rise.result e.down c.requires.down
 
 pub returns-clause-nothing : goal.returns-clause-nothing
 returns-clause-nothing g c = let e = c.rise.ensures in step_nothing g.D.Disk.faults c.args.self.now c.rise.new.self e.same.0 e.same.1 c.rise.result e.nothing
