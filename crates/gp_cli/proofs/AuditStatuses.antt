@@ -12,7 +12,7 @@ use Rattle.gp_edge.specs.Reads.{ReadsUpTo}
 use Rattle.gp_report.specs.Texts.{report}
 use Rattle.gp_text.specs.Reading.{Script}
 use Rattle.gp_text.specs.Traces.{trace, events_in}
-use Rattle.gp_verdict.specs.declared.reason.AuditReason.{AuditReason}
+use Rattle.gp_script.specs.declared.reason.Reason.{Reason}
 use Rattle.gp_verdict.specs.Verdicts.{Upheld, Rejected, verdict, RulesLegally}
 use Rattle.gp_verdict.specs.Printed.{printed, IsPrinted}
 use Rattle.gp_verdict.proofs.Legally.{rules_legally}
@@ -74,7 +74,7 @@ module _ (before now : Outside) (status : ℕ) (trail : List Record) where
   Tells ending = TellsEnding ending before.sink now.sink status
 
   -- only an audit refuses a line of its input
-  pub rejects_at : (sub : Option Subcommand) (line : ℕ) (reason : AuditReason) (said : Option Script) → IsCauseFor sub before now (Rejects line reason said)
+  pub rejects_at : (sub : Option Subcommand) (line : ℕ) (reason : Reason) (said : Option Script) → IsCauseFor sub before now (Rejects line reason said)
       → (sub ≡ Some Audit) × HasReadInput before.source now.source (λ bytes. verdict bytes ≡ Rejected line reason said)
   rejects_at None line reason said cause = cc
   rejects_at (Some (Play operations)) line reason said cause = absurd cause
@@ -144,7 +144,7 @@ module _ (before now : Outside) (status : ℕ) (trail : List Record) where
   -- ---- completeness
 
   -- what a run prints is not refused
-  not_rejected : (line : ℕ) (reason : AuditReason) (said : Option Script) → HasReadInput before.source now.source (λ bytes. verdict bytes ≡ Rejected line reason said) → HoldsPrinted before.source → ⊥
+  not_rejected : (line : ℕ) (reason : Reason) (said : Option Script) → HasReadInput before.source now.source (λ bytes. verdict bytes ≡ Rejected line reason said) → HoldsPrinted before.source → ⊥
   not_rejected line reason said read (rest, config, events, is, holds) =
       let ruled = input_is before.source now.source rest (λ bytes. verdict bytes ≡ Rejected line reason said) is read in
       let differ : Rejected line reason said ≡ Upheld config events = sym ruled ∙ ap verdict (whole_input rest holds.short) ∙ printed_upheld rest config events holds in cc

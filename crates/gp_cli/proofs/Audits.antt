@@ -5,7 +5,7 @@ use Rattle.gp_run.specs.Runs.{newest_first}
 use Rattle.gp_edge.specs.Reads.{ReadsUpTo}
 use Rattle.gp_text.specs.Reading.{Script, run_before}
 use Rattle.gp_text.specs.Limits.{IsLegalScript, IsLegalBefore}
-use Rattle.gp_verdict.specs.declared.reason.AuditReason.{AuditReason}
+use Rattle.gp_script.specs.declared.reason.Reason.{Reason}
 use Rattle.gp_verdict.specs.declared.answer.Audited.{Audited}
 use Rattle.gp_verdict.specs.declared.answer.Unaudited.{Unaudited}
 use Rattle.gp_verdict.specs.declared.answer.Unaudited.TheVariants as unaudited
@@ -16,7 +16,7 @@ use Rattle.gp_verdict.proofs.Legally.{rules_legally}
 use Rattle.gp_cli.specs.declared.subcommand.Operations.TheVariants.{Store}
 use Rattle.gp_cli.specs.declared.runs.TheConstants.{MOST_READ}
 use Rattle.gp_cli.specs.Machines.{IsInAgreementOfAll}
-use Rattle.gp_cli.specs.Texts.{rejection_text}
+use Rattle.gp_cli.specs.Texts.{refusal_text}
 use Rattle.gp_cli.specs.Outside.{DeviceState, Told}
 use Rattle.gp_cli.specs.Endings.{Ending, Misused, Unread, Refuses, Plays, Drives, Simulates, Shows, DiskFails, Overflows, Breaks, Runs, Rejects, Upholds, Starved}
 use Rattle.gp_cli.specs.Audits.{IsVerdictCause, HasReadInput, IsAuditCause}
@@ -43,7 +43,7 @@ upheld_ends bytes audited before now status trail is same told =
     }
 
 -- an input that is refused at a line
-rejected : (bytes : List ℕ) (result : Result Audited Unaudited) (why : Unaudited) (line : ℕ) (reason : AuditReason) (records : List Record) → result ≡ Err why → why ≡ unaudited.Bad line reason records
+rejected : (bytes : List ℕ) (result : Result Audited Unaudited) (why : Unaudited) (line : ℕ) (reason : Reason) (records : List Record) → result ≡ Err why → why ≡ unaudited.Bad line reason records
     → answers.Audits (verdict bytes) result → answers.IsRejected (verdict bytes) line reason records
 rejected bytes result why line reason records is bad audits =
     let P : Result Audited Unaudited → Type 0 = λ r. answers.Audits (verdict bytes) r in
@@ -51,8 +51,8 @@ rejected bytes result why line reason records is bad audits =
     subst Q bad (subst P is audits)
 
 -- such an input, whose line was told
-pub rejected_ends : (bytes : List ℕ) (result : Result Audited Unaudited) (why : Unaudited) (line : ℕ) (reason : AuditReason) (records : List Record) (before now : DeviceState) (status : ℕ) (trail : List Record) → result ≡ Err why → why ≡ unaudited.Bad line reason records
-    → answers.Audits (verdict bytes) result → trail ≡ records → Told before now (rejection_text line reason) 3 3 status → EndsBy (IsVerdictCause (verdict bytes)) before now status trail
+pub rejected_ends : (bytes : List ℕ) (result : Result Audited Unaudited) (why : Unaudited) (line : ℕ) (reason : Reason) (records : List Record) (before now : DeviceState) (status : ℕ) (trail : List Record) → result ≡ Err why → why ≡ unaudited.Bad line reason records
+    → answers.Audits (verdict bytes) result → trail ≡ records → Told before now (refusal_text line reason) 3 3 status → EndsBy (IsVerdictCause (verdict bytes)) before now status trail
 rejected_ends bytes result why line reason records before now status trail is bad audits same told =
     let at = rejected bytes result why line reason records is bad audits in
     let run : newest_first trail ≡ run_before at.before = ap newest_first same ∙ at.run in
@@ -93,5 +93,5 @@ input_ends rest left before now status trail bytes input same taken steady ends 
     because (IsVerdictCause (verdict bytes)) (IsAuditCause rest left) before now status trail (input_cause rest left bytes taken steady) (subst Q same ends)
 
 -- what the trace of a refused input says before the refused line is legal
-pub read_before_legal : (before now : DeviceState) (line : ℕ) (reason : AuditReason) (said : Option Script) → HasReadInput before now (λ bytes. verdict bytes ≡ Rejected line reason said) → IsLegalBefore said
+pub read_before_legal : (before now : DeviceState) (line : ℕ) (reason : Reason) (said : Option Script) → HasReadInput before now (λ bytes. verdict bytes ≡ Rejected line reason said) → IsLegalBefore said
 read_before_legal before now line reason said read = subst RulesLegally read.holds (rules_legally read.bytes)

@@ -18,11 +18,11 @@ use Rattle.gp_shelf.specs.Places.{place_at}
 use Rattle.gp_shelf.specs.Making.{SomeRose, NoneFell}
 use Rattle.gp_ending.specs.declared.ends.RunEnd.{RunEnd}
 use Rattle.gp_ending.specs.declared.ends.RunEnd.TheVariants as end
-use Rattle.gp_offers.specs.declared.script.Offers.{Offers}
-use Rattle.gp_offers.specs.declared.script.Unread.{Unread as UnreadScript}
-use Rattle.gp_offers.specs.declared.script.Unread.TheVariants as unread
-use Rattle.gp_offers.specs.Offering.{OffersReading, Offered, RefusedAt, offers_reading}
-use Rattle.gp_offers.specs.Answers.{Reads}
+use Rattle.gp_text.specs.declared.offers.Offers.{Offers}
+use Rattle.gp_text.specs.declared.offers.Unread.{Unread as UnreadScript}
+use Rattle.gp_text.specs.declared.offers.Unread.TheVariants as unread
+use Rattle.gp_text.specs.Offering.{OffersReading, Offered, RefusedAt, offers_reading}
+use Rattle.gp_text.specs.OfferAnswers.{Reads}
 use Rattle.gp_script.specs.declared.reason.Reason.{Reason}
 use Rattle.gp_cluster.specs.declared.policy.RoundPolicy.{RoundPolicy}
 use Rattle.gp_cluster.specs.Runs.{IsRunOf, HasLearnedAll, IsQuietOrSettled, EndCause, SomeBroke, EndsWith, HoldParts}

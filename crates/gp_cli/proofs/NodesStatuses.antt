@@ -8,10 +8,10 @@ use Rattle.gp_edge.specs.Faults.{Rose}
 use Rattle.gp_edge.specs.Reads.{ReadsUpTo}
 use Rattle.gp_text.specs.Reading.{run_before}
 use Rattle.gp_text.proofs.ShortScripts.{script_short}
-use Rattle.gp_offers.specs.declared.script.Offers.{Offers}
-use Rattle.gp_offers.specs.Offering.{OffersReading, Offered, RefusedAt, offers_reading}
-use Rattle.gp_offers.specs.Offered.{AreOffered, offers_alone}
-use Rattle.gp_offers.proofs.PlayedAlone.{script_alone}
+use Rattle.gp_text.specs.declared.offers.Offers.{Offers}
+use Rattle.gp_text.specs.Offering.{OffersReading, Offered, RefusedAt, offers_reading}
+use Rattle.gp_text.specs.Offered.{AreOffered, offers_alone}
+use Rattle.gp_text.proofs.PlayedAlone.{script_alone}
 use Rattle.gp_ending.specs.declared.ends.RunEnd.{RunEnd}
 use Rattle.gp_ending.specs.declared.ends.RunEnd.TheVariants as end
 use Rattle.gp_cluster.specs.declared.policy.RoundPolicy.{RoundPolicy}

@@ -23,7 +23,7 @@ use Rattle.gp_run.specs.Runs.{newest_first}
 use Rattle.gp_cluster.specs.Offers.{commands_of}
 use Rattle.gp_cluster.proofs.Holding.{offered_are}
 use Rattle.gp_cluster.proofs.Scripts.{script_no_repeat, in_among, among_in}
-use Rattle.gp_offers.specs.declared.script.Offers.{Offers}
+use Rattle.gp_text.specs.declared.offers.Offers.{Offers}
 use Rattle.gp_command.proofs.Truth.{iff_true}
 use Rattle.gp_cli.specs.Outside.{Outside}
 use Rattle.gp_cluster.specs.declared.policy.RoundPolicy.{RoundPolicy}

@@ -12,8 +12,8 @@ use Rattle.gp_script.specs.declared.reason.Reason.{Reason}
 use Rattle.gp_sim.specs.Simulated.{sim_config}
 use Rattle.gp_text.specs.Reading.{Reading, Whole, Refused, Script, Sofar, run_before}
 use Rattle.gp_text.proofs.ShortScripts.{whole_short}
-use Rattle.gp_offers.specs.declared.script.Offers.{Offers}
-use Rattle.gp_offers.specs.Offering as offers
+use Rattle.gp_text.specs.declared.offers.Offers.{Offers}
+use Rattle.gp_text.specs.Offering as offers
 use Rattle.gp_ending.specs.declared.ends.RunEnd.TheVariants as end
 use Rattle.gp_vlog.specs.Files.{Contents, is_limit, read_log}
 use Rattle.gp_vlog.proofs.Moments.{told as at_bytes}

@@ -9,13 +9,13 @@ use Rattle.gp_service.specs.Stores.{store_language}
 use Rattle.gp_text.specs.Reading.{Script, run_before}
 use Rattle.gp_text.specs.Limits.{IsLegalScript, IsLegalBefore, IsSayable}
 use Rattle.gp_retelling.specs.Texts.{run_text}
-use Rattle.gp_verdict.specs.declared.reason.AuditReason.{AuditReason}
+use Rattle.gp_script.specs.declared.reason.Reason.{Reason}
 use Rattle.gp_verdict.specs.Verdicts.{Rejected, verdict}
 use Rattle.gp_verdict.specs.Certified.{IsCertified}
 use Rattle.gp_verdict.specs.Printed.{IsPrinted}
 use Rattle.gp_cli.specs.declared.subcommand.Subcommand.TheVariants.{Audit}
 use Rattle.gp_cli.specs.Subcommands.{named}
-use Rattle.gp_cli.specs.Texts.{rejection_text}
+use Rattle.gp_cli.specs.Texts.{refusal_text}
 use Rattle.gp_cli.specs.Outside.{DeviceState, Outside, Told}
 use Rattle.gp_cli.specs.Audits.{HasReadInput}
 
@@ -48,9 +48,9 @@ pub record AuditsRun (before now : Outside) (trail : List Record) : Type 0 where
 pub record RejectsInput (words : List (List ℕ)) (before now : Outside) (status : ℕ) (trail : List Record) : Type 0 where
   pub is_audit : named words ≡ Some Audit
   pub line : ℕ
-  pub reason : AuditReason
+  pub reason : Reason
   pub said : Option Script
   pub read : HasReadInput before.source now.source (λ bytes. verdict bytes ≡ Rejected line reason said)
   pub legal : IsLegalBefore said
   pub run : newest_first trail ≡ run_before said
-  pub told : Told before.sink now.sink (rejection_text line reason) 3 3 status
+  pub told : Told before.sink now.sink (refusal_text line reason) 3 3 status

@@ -16,10 +16,9 @@ use Rattle.gp_sim.specs.Simulated.{sim_config, simulated}
 use Rattle.gp_text.specs.Reading.{Script, Sofar, run_before}
 use Rattle.gp_text.specs.Texts.{output_for}
 use Rattle.gp_text.specs.Logs.{log_text}
-use Rattle.gp_verdict.specs.declared.reason.AuditReason.{AuditReason}
 use Rattle.gp_cli.specs.declared.subcommand.Operations.{Operations}
 use Rattle.gp_cli.specs.Machines.{profile_of}
-use Rattle.gp_cli.specs.Texts.{usage, read_fault, disk_fault, log_changed, full_text, broken_text, refusal_text, rejection_text}
+use Rattle.gp_cli.specs.Texts.{usage, read_fault, disk_fault, log_changed, full_text, broken_text, refusal_text}
 
 -- the durable parts that a log holds, the oldest first, and its size
 pub record Shown : Type 0 where
@@ -39,7 +38,7 @@ pub data Ending : Type 0 where
   Overflows : ℕ → ℕ → Ending
   Breaks : ℕ → Ending
   Runs : RunEnd → Counts → List Record → List ℕ → Ending
-  Rejects : ℕ → AuditReason → Option Script → Ending
+  Rejects : ℕ → Reason → Option Script → Ending
   Upholds : Counts → List Event → List ℕ → Ending
   Starved : Ending
 
@@ -96,7 +95,7 @@ ending_text DiskFails = disk_fault
 ending_text (Overflows size need) = full_text size need
 ending_text (Breaks place) = broken_text place
 ending_text (Runs end config list text) = text
-ending_text (Rejects line reason before) = rejection_text line reason
+ending_text (Rejects line reason before) = refusal_text line reason
 ending_text (Upholds config events text) = text
 ending_text Starved = []
 

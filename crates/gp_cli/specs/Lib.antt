@@ -15,3 +15,4 @@ pub mod AuditRuns
 pub mod Trails
 pub mod Program
 pub mod Viewed
+pub mod Processes

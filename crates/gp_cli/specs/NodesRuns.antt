@@ -15,9 +15,9 @@ use Rattle.gp_run.specs.Runs.{newest_first}
 use Rattle.gp_edge.specs.Faults.{Rose}
 use Rattle.gp_edge.specs.Writes.{AppendsWhole}
 use Rattle.gp_script.specs.declared.reason.Reason.{Reason}
-use Rattle.gp_offers.specs.declared.script.Offers.{Offers}
-use Rattle.gp_offers.specs.Offering.{Offer, Offered, RefusedAt, offers_reading}
-use Rattle.gp_offers.specs.Offered.{AreOffered}
+use Rattle.gp_text.specs.declared.offers.Offers.{Offers}
+use Rattle.gp_text.specs.Offering.{Offer, Offered, RefusedAt, offers_reading}
+use Rattle.gp_text.specs.Offered.{AreOffered}
 use Rattle.gp_cluster.specs.declared.policy.RoundPolicy.{RoundPolicy}
 use Rattle.gp_cluster.specs.Runs.{IsRunOf, SomeBroke, IsOverLimit}
 use Rattle.gp_cli.specs.declared.runs.TheConstants.{MOST_READ}

@@ -5,8 +5,8 @@ use Rattle.gp_msg.specs.declared.record.Record.{Record}
 use Rattle.gp_run.specs.Runs.{newest_first}
 use Rattle.gp_edge.specs.Faults.{Rose}
 use Rattle.gp_edge.specs.Reads.{ReadsUpTo, LosesUpTo}
-use Rattle.gp_offers.specs.declared.script.Offers.{Offers}
-use Rattle.gp_offers.specs.Offering.{OffersReading, Offered, RefusedAt, offers_reading}
+use Rattle.gp_text.specs.declared.offers.Offers.{Offers}
+use Rattle.gp_text.specs.Offering.{OffersReading, Offered, RefusedAt, offers_reading}
 use Rattle.gp_shelf.specs.Making.{SomeRose}
 use Rattle.gp_ending.specs.declared.ends.RunEnd.{RunEnd}
 use Rattle.gp_ending.specs.declared.ends.RunEnd.TheVariants as end

@@ -1,9 +1,7 @@
 -- What the program prints besides the output of a script.
 use Rattle.std.specs.Prelude.{ℕ, List, ◌++◌, codes, decimal}
 use Rattle.gp_script.specs.declared.reason.Reason.{Reason}
-use Rattle.gp_script.specs.declared.reason.Reason.TheVariants.{TooLong, NoNodesLine, BadLine, BadNumber, BadCount, BadKey, NoNode, BadFall, NoMessage, TooManyCommands, TooManyEvents}
-use Rattle.gp_verdict.specs.declared.reason.AuditReason.{AuditReason}
-use Rattle.gp_verdict.specs.declared.reason.AuditReason.TheVariants as audit
+use Rattle.gp_script.specs.declared.reason.Reason.TheVariants.{TooLong, NoNodesLine, BadLine, BadNumber, BadCount, BadKey, NoNode, BadFall, NoMessage, TooManyCommands, TooManyEvents, NoReport, WrongReport}
 
 -- what is printed if the words name no subcommand
 abbrev pub usage : List ℕ
@@ -42,12 +40,8 @@ reason_text BadFall = codes "bad fall"
 reason_text NoMessage = codes "no message"
 reason_text TooManyCommands = codes "too many commands"
 reason_text TooManyEvents = codes "too many events"
-
--- why an audit refuses a line
-abbrev pub audit_reason_text : AuditReason → List ℕ
-audit_reason_text (audit.Script why) = reason_text why
-audit_reason_text audit.NoReport = codes "no report"
-audit_reason_text audit.WrongReport = codes "wrong report"
+reason_text NoReport = codes "no report"
+reason_text WrongReport = codes "wrong report"
 
 -- a line, with these words about it
 abbrev pub line_text : ℕ → List ℕ → List ℕ
@@ -56,7 +50,3 @@ line_text line why = codes "line " ++ decimal line ++ codes ": " ++ why ++ codes
 -- the first refused line, and why
 abbrev pub refusal_text : ℕ → Reason → List ℕ
 refusal_text line reason = line_text line (reason_text reason)
-
--- the first line that an audit refuses, and why
-abbrev pub rejection_text : ℕ → AuditReason → List ℕ
-rejection_text line reason = line_text line (audit_reason_text reason)

@@ -7,7 +7,7 @@ ghost use Rattle.gp_cli.specs.Serving.{EndsBy};
 
 use crate::runs::{MOST_READ, Outcome, print, without_run};
 use crate::status::{NO_MEMORY, REFUSED, UNREAD};
-use crate::telling::{READ_FAULT, rejection_text, tell, tell_of};
+use crate::telling::{READ_FAULT, refusal_text, tell, tell_of};
 use gp_edge::{Refused, Sink, Source, read_up_to};
 use gp_text::Played;
 use gp_verdict::{Audited, Unaudited, audit};
@@ -28,7 +28,7 @@ fn audit_input<K: Sink>(alloc: Global, input: &[u8], sink: &mut K) -> Outcome
                 records,
             },
         ) => Outcome {
-            status: tell_of(sink, rejection_text(alloc, line, reason), REFUSED, REFUSED),
+            status: tell_of(sink, refusal_text(alloc, line, reason), REFUSED, REFUSED),
             trail: records,
         },
         Err(Unaudited::NoMemory) => without_run(alloc, NO_MEMORY),

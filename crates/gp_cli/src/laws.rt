@@ -3,7 +3,7 @@ ghost use Rattle.std.specs.Prelude.{◌≡◌, ◌≢◌, ◌⊎◌, List, [], �
 ghost use Rattle.gp_edge.specs.Faults.{Rose};
 ghost use Rattle.gp_msg.specs.declared.record.Record.{Record};
 ghost use Rattle.gp_round.specs.Counts.{Counts};
-ghost use Rattle.gp_offers.specs.declared.script.Offers.{Offers};
+ghost use Rattle.gp_text.specs.declared.offers.Offers.{Offers};
 ghost use Rattle.gp_cli.specs.declared.subcommand.Operations.{Operations};
 ghost use Rattle.gp_cluster.specs.declared.policy.RoundPolicy.{RoundPolicy};
 ghost use Rattle.gp_cli.specs.declared.subcommand.Subcommand.TheVariants.{Play, Sim, Drive, Log, Upgrade, Audit};

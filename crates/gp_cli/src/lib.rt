@@ -6,6 +6,7 @@ mod disks;
 pub mod laws;
 mod logs;
 mod nodes;
+mod process;
 mod program;
 mod ran;
 mod runs;
@@ -16,6 +17,7 @@ mod telling;
 
 pub use disks::file_disks;
 pub use gp_shelf::DISKS;
+pub use process::run_process;
 pub use program::{Ended, run_program};
 pub use ran::{Ran, Trail};
 pub use serving::serve;

@@ -25,8 +25,8 @@ use std::sync::Wait;
 use std::thread::Threads;
 
 /// How the program ended. Only `run_program` makes one, so a `main` that returns one ends with the
-/// status of that run. A contract sees the run.
-#[derive(Drop)]
+/// status of that run. It is not `Drop`, so a `main` cannot let it go and end with another status. A
+/// contract sees the run.
 pub struct Ended<D: Disk> {
     ran: Ran<D>,
 }
@@ -44,7 +44,8 @@ impl<D: Disk> Termination for Ended<D> {
     fn report<R: Eprint>(self, _rt: &R) -> ExitCode
         ensures { exit_status result ≡ self.status }
     {
-        ExitCode::from(self.ran.status)
+        let Ended { ran } = self;
+        ExitCode::from(ran.status)
     }
 }
 

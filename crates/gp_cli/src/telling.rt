@@ -1,13 +1,12 @@
 //! The texts that are printed, and the status that goes with each.
 ghost use Rattle.std.specs.Prelude.{ℕ, ◌≡◌, ◌≤◌, ◌<◌, List, length, IfOk, IfErr};
-ghost use Rattle.gp_cli.specs.Texts.{reason_text, audit_reason_text, line_text, refusal_text, rejection_text, full_text, broken_text};
+ghost use Rattle.gp_cli.specs.Texts.{reason_text, line_text, refusal_text, full_text, broken_text};
 ghost use Rattle.gp_cli.specs.Outside.{device, Told};
 
 use crate::status::NO_MEMORY;
 use gp_command::NoMemory;
 use gp_edge::{Refused, Sink, write_whole};
 use gp_script::Reason;
-use gp_verdict::AuditReason;
 use gp_words::push_number;
 use std::alloc::Global;
 
@@ -41,16 +40,8 @@ fn reason_text(reason: Reason) -> &'static [u8]
         Reason::NoMessage => b"no message",
         Reason::TooManyCommands => b"too many commands",
         Reason::TooManyEvents => b"too many events",
-    }
-}
-
-fn audit_reason_text(reason: AuditReason) -> &'static [u8]
-    ensures { result.now ≡ audit_reason_text reason }
-{
-    match reason {
-        AuditReason::Script(why) => reason_text(why),
-        AuditReason::NoReport => b"no report",
-        AuditReason::WrongReport => b"wrong report",
+        Reason::NoReport => b"no report",
+        Reason::WrongReport => b"wrong report",
     }
 }
 
@@ -72,13 +63,6 @@ pub fn refusal_text(alloc: Global, line: u64, reason: Reason) -> Result<Vec<u8>,
     ensures { IfOk result (λ text. text.items ≡ refusal_text line reason) }
 {
     line_text(alloc, line, reason_text(reason))
-}
-
-/// What is printed if a line, by its number from 1, is the first that an audit refuses.
-pub fn rejection_text(alloc: Global, line: u64, reason: AuditReason) -> Result<Vec<u8>, NoMemory>
-    ensures { IfOk result (λ text. text.items ≡ rejection_text line reason) }
-{
-    line_text(alloc, line, audit_reason_text(reason))
 }
 
 /// What is printed if a log of this size has no room for an entry that needs this much, both in

@@ -12,6 +12,8 @@ mod pass;
 mod plays;
 mod posting;
 mod rules;
+#[cfg(test)]
+mod sharing;
 mod turns;
 mod view;
 mod wire;

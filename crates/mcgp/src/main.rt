@@ -2,21 +2,9 @@
 //! the files of the folder `mcgp-data`.
 #![tactic(auto)]
 
-use gp_cli::{Ended, file_disks, run_program};
-use gp_edge::{FileDisk, Idle, ReadSource, WriteSink};
-use std::{env, io};
+use gp_cli::{Ended, file_disks, run_process};
+use gp_edge::FileDisk;
 
 fn main(rt: HostRuntime) -> Ended<FileDisk<HostRuntime>> {
-    let mut source = ReadSource::new(rt.reader());
-    let mut sink = WriteSink::new(io::writer(&rt));
-    let disks = file_disks(rt.alloc(), rt);
-    run_program(
-        &rt,
-        rt.alloc(),
-        env::args(&rt),
-        &mut source,
-        &mut sink,
-        disks,
-        &Idle,
-    )
+    run_process(&rt, file_disks(rt.alloc(), rt))
 }

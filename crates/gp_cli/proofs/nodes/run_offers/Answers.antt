@@ -1,5 +1,5 @@
 use Rattle.std.proofs.Common.{List, ℕ, Option, Some, sym, subst}
-use Rattle.gp_offers.specs.Offering.{Offered}
+use Rattle.gp_text.specs.Offering.{Offered}
 use Rattle.gp_cli.specs.declared.subcommand.Subcommand.TheVariants.{Run}
 use Rattle.gp_cli.specs.Outside.{disk_states}
 use Rattle.gp_cli.specs.Run.{IsOffersCause}

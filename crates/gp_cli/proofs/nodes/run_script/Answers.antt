@@ -1,6 +1,6 @@
 use Rattle.std.proofs.Common.{Some, sym, subst}
-use Rattle.gp_offers.specs.Answers.{Reads}
-use Rattle.gp_offers.specs.Offering.{OffersReading, offers_reading}
+use Rattle.gp_text.specs.OfferAnswers.{Reads}
+use Rattle.gp_text.specs.Offering.{OffersReading, offers_reading}
 use Rattle.gp_cli.specs.declared.subcommand.Subcommand.TheVariants.{Run}
 use Rattle.gp_cli.specs.Outside.{disk_states}
 use Rattle.gp_cli.specs.Run.{IsOffersCause}

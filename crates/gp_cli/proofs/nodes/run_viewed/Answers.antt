@@ -1,6 +1,6 @@
 use Rattle.std.proofs.Common.{List, ◌<◌, ◌≤◌, Some, sym, ap, subst, arith}
 use Rattle.gp_msg.specs.declared.record.Record.{Record}
-use Rattle.gp_offers.specs.Offering.{Offered}
+use Rattle.gp_text.specs.Offering.{Offered}
 use Rattle.gp_cli.specs.declared.ran.Trail.{Trail}
 use Rattle.gp_cli.specs.Outside.{device, disk_states}
 use Rattle.gp_cli.specs.Run.{HasRun, IsOffersCause}
