@@ -1,6 +1,6 @@
 //! Runs and their reports, and whether an input is upheld or refused.
 use crate::long_texts::joined;
-use gp_verdict::{AuditReason, Unaudited, audit};
+use gp_verdict::{Reason, Unaudited, audit};
 use std::alloc::{AllocError, Global};
 
 /// One put in a single round, which one learner hears.
@@ -69,7 +69,7 @@ pub fn records_before(alloc: Global, input: &[u8]) -> Option<usize> {
 }
 
 /// Whether the line with this number is the first that is refused, for this reason.
-pub fn refuses(alloc: Global, input: &[u8], number: u64, why: AuditReason) -> bool {
+pub fn refuses(alloc: Global, input: &[u8], number: u64, why: Reason) -> bool {
     match audit(alloc, input) {
         Ok(_) | Err(Unaudited::NoMemory) => false,
         Err(

@@ -34,15 +34,38 @@ fn ends<S: Source>(
     Ok(ended == status && sink.written() == written)
 }
 
+// How many reads of 64 bytes a script takes, with the one that finds its end.
+fn reads_of(script: &[u8]) -> u64 {
+    let whole = script.len() as u64 / 64;
+    if script.len() % 64 == 0 {
+        whole + 1
+    } else {
+        whole + 2
+    }
+}
+
 // Whether a failure of the n-th read, each of 64 bytes, ends in a read fault.
-fn read_fails(rt: &(impl Threads + Wait + Sync), alloc: Global, n: u64) -> Result<bool, Fail> {
-    let mut source = MemSource::new(alloc, ONE_PUT, 64, &[n])?;
+fn read_fails(
+    rt: &(impl Threads + Wait + Sync),
+    alloc: Global,
+    script: &[u8],
+    n: u64,
+) -> Result<bool, Fail> {
+    let mut source = MemSource::new(alloc, script, 64, &[n])?;
     plays_from(rt, alloc, &mut source, 4, b"read fault\n")
 }
 
+// Whether no other read comes than those of the pieces, and one at the end.
 fn each_read_fails(rt: &(impl Threads + Wait + Sync), alloc: Global) -> Result<bool, Fail> {
-    for n in 0..4 {
-        if !read_fails(rt, alloc, n)? {
+    for (script, prints) in &SCRIPTS {
+        let reads = reads_of(script);
+        for n in 0..reads {
+            if !read_fails(rt, alloc, script, n)? {
+                return Ok(false);
+            }
+        }
+        let mut source = MemSource::new(alloc, script, 64, &[reads])?;
+        if !plays_from(rt, alloc, &mut source, 0, prints)? {
             return Ok(false);
         }
     }
@@ -54,23 +77,34 @@ fn each_read_may_fail(rt: HostRuntime) -> Result<(), Fail> {
     holds(&rt, each_read_fails(&rt, rt.alloc()))
 }
 
-// Whether a failure of the n-th write, each of 16 bytes, ends in a write fault after what was written before.
-fn write_fails(rt: &(impl Threads + Wait + Sync), alloc: Global, n: u8) -> Result<bool, Fail> {
-    let Some(written) = ONE_PUT_PRINTS.get(..16 * usize::from(n)) else {
-        return Ok(false);
-    };
-    let mut source = CalmSource::new(alloc, ONE_PUT)?;
+// Whether a failure of the n-th write, each of 16 bytes, ends so: a write fault after what was
+// written before, or, if no such write comes, well.
+fn write_fails(
+    rt: &(impl Threads + Wait + Sync),
+    alloc: Global,
+    row: &Played,
+    n: usize,
+) -> Result<bool, Fail> {
+    let (script, prints) = *row;
+    let mut source = CalmSource::new(alloc, script)?;
     let faulty = Faulty {
         piece: 16,
-        failing: &[u64::from(n)],
+        failing: &[n as u64],
     };
-    ends(rt, alloc, &mut source, &faulty, 5, written)
+    match prints.get(..n.saturating_mul(16)) {
+        Some(written) if written.len() < prints.len() => {
+            ends(rt, alloc, &mut source, &faulty, 5, written)
+        }
+        _ => ends(rt, alloc, &mut source, &faulty, 0, prints),
+    }
 }
 
 fn each_write_fails(rt: &(impl Threads + Wait + Sync), alloc: Global) -> Result<bool, Fail> {
-    for n in 0..8 {
-        if !write_fails(rt, alloc, n)? {
-            return Ok(false);
+    for row in &SCRIPTS {
+        for n in 0..row.1.len() {
+            if !write_fails(rt, alloc, row, n)? {
+                return Ok(false);
+            }
         }
     }
     Ok(true)

@@ -31,9 +31,15 @@ mod long_audits;
 #[cfg(test)]
 mod long_texts;
 #[cfg(test)]
+mod messages;
+#[cfg(test)]
+mod offer_limits;
+#[cfg(test)]
 mod operations;
 #[cfg(test)]
 mod refused_audits;
+#[cfg(test)]
+mod refused_offers;
 #[cfg(test)]
 mod refused_scripts;
 #[cfg(test)]
@@ -56,5 +62,7 @@ mod traces;
 mod upheld_audits;
 #[cfg(test)]
 mod watches;
+#[cfg(test)]
+mod whole_offers;
 #[cfg(test)]
 mod whole_scripts;

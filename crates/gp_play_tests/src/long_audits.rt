@@ -3,11 +3,11 @@ use crate::audited_inputs::{NOTHING_REPORT, printed, records_before, refuses, up
 use crate::long_texts::{filled, repeated};
 use crate::stage::holds;
 use gp_text::MOST_BYTES;
-use gp_verdict::{AuditReason, Reason};
+use gp_verdict::Reason;
 use std::alloc::{AllocError, Global};
 use std::test::Fail;
 
-const TOO_LONG: AuditReason = AuditReason::Script(Reason::TooLong);
+const TOO_LONG: Reason = Reason::TooLong;
 
 // `first`, then a comment that fills it up to `length` bytes with its line feed, and then `rest`.
 fn commented(
@@ -45,7 +45,7 @@ fn refuses_after_comment(
     length: usize,
     rest: &[u8],
     line: u64,
-    reason: AuditReason,
+    reason: Reason,
 ) -> bool {
     match after_comment(alloc, length, rest) {
         Ok(input) => refuses(alloc, &input, line, reason),
@@ -103,7 +103,7 @@ fn refuses_what_follows(alloc: Global) -> Result<bool, Fail> {
 fn refuses_a_line_after(alloc: Global, lines: &[u8]) -> bool {
     let room = MOST_BYTES.saturating_sub(lines.len()).saturating_add(2);
     let longer = room.saturating_add(1);
-    refuses_after_comment(alloc, room, lines, 8, AuditReason::WrongReport)
+    refuses_after_comment(alloc, room, lines, 8, Reason::WrongReport)
         && refuses_after_comment(alloc, longer, lines, 8, TOO_LONG)
 }
 
@@ -155,7 +155,7 @@ fn a_trace_has_the_limits_of_a_script(rt: HostRuntime) -> Result<(), Fail> {
 }
 
 fn refuses_offers(alloc: Global) -> bool {
-    let reason = AuditReason::Script(Reason::TooManyCommands);
+    let reason = Reason::TooManyCommands;
     match repeated(alloc, b"nodes 3 1 1\n", b"offer p0 put a 1\n", 1025) {
         Ok(offers) => refuses(alloc, &offers, 1026, reason),
         Err(_) => false,
@@ -164,7 +164,7 @@ fn refuses_offers(alloc: Global) -> bool {
 
 fn refuses_events(alloc: Global) -> bool {
     let first = b"nodes 3 1 1\noffer p0 get a\n";
-    let reason = AuditReason::Script(Reason::TooManyEvents);
+    let reason = Reason::TooManyEvents;
     match repeated(alloc, first, b"take p0 0\n", 16384) {
         Ok(events) => refuses(alloc, &events, 16386, reason),
         Err(_) => false,

@@ -3,88 +3,40 @@ use crate::audited_inputs::{
     NOTHING, NOTHING_REPORT, ONE_PUT, ONE_PUT_REPORT, printed, records_before, refuses,
 };
 use crate::stage::holds;
-use gp_verdict::{AuditReason, Reason};
+use gp_verdict::Reason;
 use std::alloc::Global;
 use std::test::Fail;
 
 // An input, the number of its first refused line, and the reason.
-type Row = (&'static [u8], u64, AuditReason);
+type Row = (&'static [u8], u64, Reason);
 
 static TRACES: [Row; 18] = [
     // no line at all
-    (b"", 1, AuditReason::Script(Reason::NoNodesLine)),
+    (b"", 1, Reason::NoNodesLine),
     // no line except one that is passed over
-    (b"# c\n", 2, AuditReason::Script(Reason::NoNodesLine)),
+    (b"# c\n", 2, Reason::NoNodesLine),
     // the divider, a `show` line or another row of the table before a configuration
-    (b"--\n", 1, AuditReason::Script(Reason::NoNodesLine)),
-    (b"\n--\n", 2, AuditReason::Script(Reason::NoNodesLine)),
-    (b"show l0\n", 1, AuditReason::Script(Reason::NoNodesLine)),
-    (b"take a0 0\n", 1, AuditReason::Script(Reason::NoNodesLine)),
+    (b"--\n", 1, Reason::NoNodesLine),
+    (b"\n--\n", 2, Reason::NoNodesLine),
+    (b"show l0\n", 1, Reason::NoNodesLine),
+    (b"take a0 0\n", 1, Reason::NoNodesLine),
     // a second configuration
-    (
-        b"nodes 3 1 1\nnodes 3 1 1\n",
-        2,
-        AuditReason::Script(Reason::BadLine),
-    ),
+    (b"nodes 3 1 1\nnodes 3 1 1\n", 2, Reason::BadLine),
     // a `show` line, whatever it shows
-    (
-        b"nodes 3 1 1\nshow l0\n--\n",
-        2,
-        AuditReason::Script(Reason::BadLine),
-    ),
-    (
-        b"nodes 3 1 1\nshow l9\n",
-        2,
-        AuditReason::Script(Reason::BadLine),
-    ),
-    (
-        b"nodes 3 1 1\nshow\n",
-        2,
-        AuditReason::Script(Reason::BadLine),
-    ),
+    (b"nodes 3 1 1\nshow l0\n--\n", 2, Reason::BadLine),
+    (b"nodes 3 1 1\nshow l9\n", 2, Reason::BadLine),
+    (b"nodes 3 1 1\nshow\n", 2, Reason::BadLine),
     // the refusal before it is the first
-    (
-        b"nodes 3 1 1\ntake a0 0\nshow l0\n",
-        2,
-        AuditReason::Script(Reason::NoMessage),
-    ),
+    (b"nodes 3 1 1\ntake a0 0\nshow l0\n", 2, Reason::NoMessage),
     // a line that only begins like the divider
-    (
-        b"nodes 3 1 1\n-- \n",
-        2,
-        AuditReason::Script(Reason::BadLine),
-    ),
-    (
-        b"nodes 3 1 1\ntake a0 00\n--\n",
-        2,
-        AuditReason::Script(Reason::BadNumber),
-    ),
-    (
-        b"nodes 8 1 1\n--\n",
-        1,
-        AuditReason::Script(Reason::BadCount),
-    ),
-    (
-        b"nodes 3 1 1\noffer p0 get A\n--\n",
-        2,
-        AuditReason::Script(Reason::BadKey),
-    ),
-    (
-        b"nodes 3 1 1\ntake l1 0\n--\n",
-        2,
-        AuditReason::Script(Reason::NoNode),
-    ),
-    (
-        b"nodes 3 1 1\nfall p0\n--\n",
-        2,
-        AuditReason::Script(Reason::BadFall),
-    ),
+    (b"nodes 3 1 1\n-- \n", 2, Reason::BadLine),
+    (b"nodes 3 1 1\ntake a0 00\n--\n", 2, Reason::BadNumber),
+    (b"nodes 8 1 1\n--\n", 1, Reason::BadCount),
+    (b"nodes 3 1 1\noffer p0 get A\n--\n", 2, Reason::BadKey),
+    (b"nodes 3 1 1\ntake l1 0\n--\n", 2, Reason::NoNode),
+    (b"nodes 3 1 1\nfall p0\n--\n", 2, Reason::BadFall),
     // a refusal of the trace is before one of the report
-    (
-        b"nodes 3 1 1\nfall l0 take 0\n--\nx\n",
-        2,
-        AuditReason::Script(Reason::BadFall),
-    ),
+    (b"nodes 3 1 1\nfall l0 take 0\n--\nx\n", 2, Reason::BadFall),
 ];
 
 // Whether each input is refused so.
@@ -103,9 +55,9 @@ fn a_trace_is_refused_as_a_script(rt: HostRuntime) -> Result<(), Fail> {
 }
 
 static WITHOUT_A_REPORT: [Row; 3] = [
-    (NOTHING, 2, AuditReason::NoReport),
-    (b"nodes 3 1 1", 2, AuditReason::NoReport),
-    (ONE_PUT, 13, AuditReason::NoReport),
+    (NOTHING, 2, Reason::NoReport),
+    (b"nodes 3 1 1", 2, Reason::NoReport),
+    (ONE_PUT, 13, Reason::NoReport),
 ];
 
 #[test]
@@ -152,7 +104,7 @@ static REPORTS: [(&'static [u8], u64); 9] = [
 // Whether a report of a trace is refused at this line.
 fn is_wrong(alloc: Global, trace: &[u8], report: &[u8], line: u64) -> Result<bool, Fail> {
     let input = printed(alloc, trace, report)?;
-    Ok(refuses(alloc, &input, line, AuditReason::WrongReport))
+    Ok(refuses(alloc, &input, line, Reason::WrongReport))
 }
 
 fn are_wrong(alloc: Global) -> Result<bool, Fail> {

@@ -229,7 +229,7 @@ events 17 messages 8
 ";
 
 // two coordinators that send conflicting orders have only the empty history in common
-const MULTI_CONFLICTING_ORDERS: &[u8] = b"\
+pub const MULTI_CONFLICTING_ORDERS: &[u8] = b"\
 nodes 3 3 1
 offer p0 put a 1
 offer p1 put a 2

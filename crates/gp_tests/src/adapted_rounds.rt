@@ -4,7 +4,7 @@ ghost use Rattle.gp_round.specs.declared.round.Mode.TheVariants.{Single};
 ghost use Rattle.gp_adapt.specs.Choices.{mode_after};
 
 use crate::outcome::holds;
-use gp_adapt::{Adapt, ChooseMode, Scene};
+use gp_adapt::{Adapt, ChooseMode, MOST_CALM, Scene};
 use gp_round::{Config, LAST_COUNT, Mode, Round};
 use std::alloc::Global;
 use std::process::Abort;
@@ -58,7 +58,7 @@ static AT_THE_GREATEST_COUNT: [Call; 5] = [
     (Some((7, Mode::Single)), true, Some((8, Mode::Multi))),
 ];
 
-static BEFORE_A_RESET: [Call; 2] = [
+static UP_TO_A_CLASH: [Call; 2] = [
     (None, false, Some((1, Mode::Fast))),
     (Some((1, Mode::Fast)), true, Some((2, Mode::Multi))),
 ];
@@ -139,6 +139,23 @@ fn no_round_follows_the_greatest_count(rt: HostRuntime) -> Result<(), Fail> {
 }
 
 #[test]
+fn the_greatest_calm_has_a_thousand_calls(rt: HostRuntime) -> Result<(), Fail> {
+    let calls = with_the_greatest_calm(rt.alloc())?;
+    asks(&rt, rt.alloc(), 0, MOST_CALM, &calls)
+}
+
+// After a collision no call begins a round but the last one of the calm.
+fn with_the_greatest_calm(alloc: Global) -> Result<Vec<Call>, Fail> {
+    let multi = Some((2, Mode::Multi));
+    let mut calls = Vec::from_slice(alloc, &UP_TO_A_CLASH)?;
+    for _ in 1..1_000 {
+        calls.push((multi, false, None))?;
+    }
+    calls.push((multi, false, Some((3, Mode::Fast))))?;
+    Ok(calls)
+}
+
+#[test]
 fn after_a_reset_the_next_call_is_the_first_one(rt: HostRuntime) -> Result<(), Fail> {
     holds(&rt, begins_anew(rt.alloc()))
 }
@@ -162,7 +179,7 @@ fn begins_anew(alloc: Global) -> Result<bool, Fail> {
 }
 
 fn are_answered_over_a_reset(adapt: &mut Adapt) -> bool {
-    if !are_answered(adapt, 0, &BEFORE_A_RESET) {
+    if !are_answered(adapt, 0, &UP_TO_A_CLASH) {
         return false;
     }
     adapt.reset();

@@ -1,7 +1,6 @@
 //! Disks, call by call.
 use crate::outcome::holds;
-use gp_edge::{CalmDisk, Disk, FileDisk, Gate, Idle, MemDisk, Refused};
-use gp_msg::Node;
+use gp_edge::{CalmDisk, Disk, FileDisk, MemDisk, Refused};
 use std::alloc::Global;
 use std::fs;
 use std::test::Fail;
@@ -160,9 +159,22 @@ fn fails_over_a_folder(rt: HostRuntime) -> Result<bool, Fail> {
     Ok(failed && folder.faults() == 2)
 }
 
+// Whether this disk takes 70,000 bytes in one write, and gives them in one read.
+fn takes_many<D: Disk>(alloc: Global, disk: &mut D) -> Result<bool, Fail> {
+    let mut bytes = Vec::new(alloc);
+    for number in 0..70_000u32 {
+        bytes.push((number % 251) as u8)?;
+    }
+    let mut read = Vec::from_slice(alloc, &bytes)?;
+    read.fill(0);
+    let taken = disk.write_at(3, &bytes).is_ok() && disk.sync().is_ok();
+    let given = disk.read_at(3, &mut read) == Ok(70_000);
+    Ok(taken && given && read == bytes && disk.len() == Ok(70_003))
+}
+
 #[test]
-fn an_idle_gate_returns(rt: HostRuntime) -> Result<(), Fail> {
-    let _ = rt;
-    Idle.at(Node::Acceptor(0), 7);
-    Ok(())
+fn disks_in_memory_take_many_bytes(rt: HostRuntime) -> Result<(), Fail> {
+    let alloc = rt.alloc();
+    holds(&rt, takes_many(alloc, &mut CalmDisk::new(alloc, b"")?))?;
+    holds(&rt, takes_many(alloc, &mut MemDisk::new(alloc, b"", &[])?))
 }

@@ -2,7 +2,9 @@
 use crate::outcome::holds;
 use gp_edge::{
     CalmSink, CalmSource, Failed, MemSink, MemSource, ReadSource, Refused, Sink, Source, WriteSink,
+    write_whole,
 };
+use std::alloc::Global;
 use std::io;
 use std::io::{Cursor, ErrorKind, Read, Write};
 use std::test::Fail;
@@ -211,4 +213,31 @@ fn counts_a_full_writer(sink: &mut WriteSink<Cursor<[u8; 3]>>) -> bool {
     let taken = sink.write(b"ab") == Ok(2) && sink.write(b"cd") == Ok(1);
     let empty = sink.write(b"") == Ok(0) && sink.faults() == 0;
     taken && empty && sink.write(b"d") == Ok(0) && sink.faults() == 1
+}
+
+// Whether a sink takes this text whole, in pieces of any size.
+fn takes_all<K: Sink>(sink: &mut K, text: &[u8]) -> bool {
+    write_whole(sink, text).is_ok()
+}
+
+// Three million bytes.
+fn long_text(alloc: Global) -> Result<Vec<u8>, Fail> {
+    let mut text = Vec::new(alloc);
+    for number in 0..3_000_000u32 {
+        text.push((number % 251) as u8)?;
+    }
+    Ok(text)
+}
+
+fn take_long_texts(alloc: Global) -> Result<bool, Fail> {
+    let text = long_text(alloc)?;
+    let mut calm = CalmSink::new(alloc)?;
+    let mut pieces = MemSink::new(alloc, 4_096, &[])?;
+    let taken = takes_all(&mut calm, &text) && takes_all(&mut pieces, &text);
+    Ok(taken && calm.written() == text.as_slice() && pieces.written() == text.as_slice())
+}
+
+#[test]
+fn sinks_in_memory_take_long_texts(rt: HostRuntime) -> Result<(), Fail> {
+    holds(&rt, take_long_texts(rt.alloc()))
 }
