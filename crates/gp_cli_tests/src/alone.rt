@@ -48,7 +48,7 @@ fn created(alloc: Global, failing: &[u64]) -> Result<Log<MemDisk>, NoMemory>
     ensures { IfOk result (λ log. (log.ready ≡ true) × (log.entries ≡ [])) }
 {
     let disk = MemDisk::new(alloc, b"", failing)?;
-    match Log::create(alloc, disk, 1024) {
+    match Log::create(alloc, disk, 1_048_576) {
         Ok(log) => Ok(log),
         Err(_) => Err(NoMemory),
     }

@@ -1,5 +1,5 @@
-//! Nodes with one disk that fails at one call.
-use crate::nodes::{EIGHT, count, parts_of};
+//! Nodes with a disk that fails, so that the run ends.
+use crate::nodes::EIGHT;
 use crate::stage::{Outcome, Special, served};
 use std::alloc::Global;
 use std::sync::Wait;
@@ -8,39 +8,6 @@ use std::thread::Threads;
 
 // The calls that make a log: a cut, a write and a sync.
 const MAKING: u64 = 3;
-
-// After these calls there may be no other, since a node may take many messages at once.
-const SURE: u64 = 5;
-
-const MOST_CALLS: u64 = 40;
-
-// Whether a run in which this call of disk 0 fails ends as it has to.
-fn holds_at<W: Threads + Wait + Sync>(rt: &W, alloc: Global, call: u64) -> Result<bool, Fail> {
-    let outcome = served(rt, alloc, &["run"], EIGHT, (0, b"", &[call]))?;
-    ends_or_falls_once(alloc, &outcome, call)
-}
-
-// Whether the run ended with a fault, or all was learned and acceptor 0 crashed once.
-fn ends_or_falls_once(alloc: Global, outcome: &Outcome, call: u64) -> Result<bool, Fail> {
-    let printed = parts_of(alloc, &outcome.text)?;
-    let falls = count(&printed.trace, b"fall a0");
-    let status = outcome.status;
-    if call < MAKING {
-        Ok(status == 6 && falls == 0)
-    } else {
-        Ok(status == 0 && (falls == 1 || call >= SURE && falls == 0))
-    }
-}
-
-#[test]
-fn one_failing_call_ends_the_run_or_lets_the_acceptor_fall_once(
-    rt: HostRuntime,
-) -> Result<(), Fail> {
-    for call in 0..=MOST_CALLS {
-        assert!(rt; holds_at(&rt, rt.alloc(), call)?);
-    }
-    Ok(())
-}
 
 // A disk with calls that fail, and whether the nodes have run by then.
 type Ending = (Special<'static>, bool);

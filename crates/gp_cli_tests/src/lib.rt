@@ -21,6 +21,8 @@ mod counted_votes;
 #[cfg(test)]
 mod counter;
 #[cfg(test)]
+mod cursors;
+#[cfg(test)]
 mod driven_runs;
 #[cfg(test)]
 mod failing_disks;
@@ -43,11 +45,9 @@ mod multi_rounds;
 #[cfg(test)]
 mod nodes;
 #[cfg(test)]
-mod offer_limits;
-#[cfg(test)]
-mod offer_lists;
-#[cfg(test)]
 mod one_list;
+#[cfg(test)]
+mod onlookers;
 #[cfg(test)]
 mod outcome;
 #[cfg(test)]
@@ -58,8 +58,6 @@ mod posters;
 mod puts;
 #[cfg(test)]
 mod reads_in_one_thread;
-#[cfg(test)]
-mod refused_offers;
 #[cfg(test)]
 mod refused_publishes;
 #[cfg(test)]
@@ -79,8 +77,6 @@ mod simulated_runs;
 #[cfg(test)]
 mod stage;
 #[cfg(test)]
-mod steps_at_once;
-#[cfg(test)]
 mod steps_of_worlds;
 #[cfg(test)]
 mod upgrades;
@@ -90,7 +86,5 @@ mod viewed_runs;
 mod watchers;
 #[cfg(test)]
 mod whole_configuration;
-#[cfg(test)]
-mod whole_offers;
 #[cfg(test)]
 mod words;

@@ -6,10 +6,13 @@ ghost use Rattle.gp_cli_tests.specs.declared.posters.Poster.{Poster};
 
 use crate::outcome::holds;
 use crate::posters::{
-    AllLegal, Findings, Mark, Poster, append_numbered, mark, parts, posted, read_mark,
+    AllLegal, Findings, Mark, Poster, append_numbered, finds_nothing, mark, parts, posted,
+    read_mark,
 };
 use gp_command::NoMemory;
 use gp_msg::{Node, Record, Records};
+use gp_round::Config;
+use gp_seats::all_nodes;
 use gp_wire::{Pass, Wire};
 use std::alloc::Global;
 use std::sync::Wait;
@@ -28,6 +31,46 @@ static EIGHT: [Node; 8] = [
     Node::Proposer(6),
     Node::Proposer(7),
 ];
+
+// The greatest configuration has 24 nodes.
+#[test]
+fn all_nodes_post_one_list(rt: HostRuntime) -> Result<(), Fail> {
+    holds(&rt, is_one_list_of_all(&rt, rt.alloc(), 10))
+}
+
+fn is_one_list_of_all<R: Threads + Wait + Sync>(
+    rt: &R,
+    alloc: Global,
+    posts: u32,
+) -> Result<bool, Fail> {
+    let config = Config::new(7, 5, 4).or(Err("no configuration"))?;
+    let nodes = all_nodes(alloc, config)?;
+    match nodes.len() {
+        24 => is_one_list(rt, alloc, &nodes, posts),
+        _ => Ok(false),
+    }
+}
+
+// There are more than 4,096 messages.
+#[test]
+fn two_nodes_post_a_long_list(rt: HostRuntime) -> Result<(), Fail> {
+    holds(&rt, is_one_list(&rt, rt.alloc(), &TWO, 2_100))
+}
+
+static ONE: [Node; 1] = [Node::Acceptor(0)];
+
+#[test]
+fn a_pass_has_two_million_turns(rt: HostRuntime) -> Result<(), Fail> {
+    holds(&rt, takes_turns(&rt, rt.alloc(), 2_000_000))
+}
+
+fn takes_turns<R: Wait>(rt: &R, alloc: Global, turns: u32) -> Result<bool, Fail> {
+    let (wire, mut passes) = Wire::new(alloc, AllLegal, &ONE)?;
+    match passes.first_mut() {
+        Some(pass) => Ok(finds_nothing(rt, &wire, pass, turns)),
+        None => Ok(false),
+    }
+}
 
 #[test]
 fn two_nodes_post_one_list(rt: HostRuntime) -> Result<(), Fail> {

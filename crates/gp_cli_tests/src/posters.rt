@@ -48,10 +48,14 @@ pub struct Poster {
     pub findings: Findings,
 }
 
-/// The number of a node.
+/// A number that no other node has. A role has at most eight nodes, numbered from 0.
 pub fn number_of(node: Node) -> u32 {
-    let (Node::Proposer(n) | Node::Coordinator(n) | Node::Acceptor(n) | Node::Learner(n)) = node;
-    n
+    match node {
+        Node::Acceptor(n) => n,
+        Node::Coordinator(n) => n.saturating_add(10),
+        Node::Learner(n) => n.saturating_add(20),
+        Node::Proposer(n) => n.saturating_add(30),
+    }
 }
 
 /// The mark of a message that a poster sent.
@@ -243,4 +247,17 @@ pub fn parts(alloc: Global, posters: Vec<Poster>) -> Result<(Vec<Pass>, Vec<Find
         findings.push(found)?;
     }
     Ok((passes, findings))
+}
+
+/// Looks for the first message this often, in a turn each, and returns whether there never was one.
+pub fn finds_nothing<W: Wait>(rt: &W, wire: &Wire<AllLegal>, pass: &mut Pass, turns: u32) -> bool
+    requires ready { IsReady wire.now.id pass.old }
+    ensures still { IsStill pass.old pass.new }
+{
+    for _ in 0..turns {
+        if wire.kind(rt, pass, 0).is_some() {
+            return false;
+        }
+    }
+    true
 }

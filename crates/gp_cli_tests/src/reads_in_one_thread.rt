@@ -76,6 +76,32 @@ fn commands_on(keys: (Key, Key)) -> [(u32, Op); 4] {
     ]
 }
 
+// As many commands as a script may offer are published at once.
+#[test]
+fn a_reader_sees_many_commands(rt: HostRuntime) -> Result<(), Fail> {
+    holds(&rt, is_told_of_many(&rt, rt.alloc()))
+}
+
+fn is_told_of_many(rt: &(impl Wait + Abort), alloc: Global) -> Result<bool, Fail> {
+    let keys = (Key::new(b"a")?, Key::new(b"b")?);
+    let mut commands = Vec::new(alloc);
+    for number in 1..=1_024u32 {
+        commands.push((number, Op::Put(keys.0, u64::from(number))))?;
+    }
+    let replica = replica_of(rt, alloc, &commands)?;
+    Ok(found(rt, alloc, &replica, keys)? == Some(WANTED_OF_MANY))
+}
+
+const WANTED_OF_MANY: Findings = Findings {
+    before: false,
+    values: (None, Some(1_024)),
+    absent: None,
+    after: true,
+    in_order: true,
+    in_order_alone: true,
+    counts: (0, 1_024),
+};
+
 // What the readers have to find.
 const WANTED: Findings = Findings {
     before: false,

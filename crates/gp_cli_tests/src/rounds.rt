@@ -11,7 +11,7 @@ ghost use Rattle.gp_msg.specs.declared.node.Node.TheVariants.{Proposer, Coordina
 ghost use Rattle.gp_cli_tests.specs.Phases.{IsFresh, IsNewJob, IsReady};
 
 use crate::alone::log_for;
-use crate::counter::{all_acted, counters};
+use crate::counter::{Encounter, all_acted, counters};
 use crate::phases::is_there;
 use gp_caller::{CALM, FIRST_ROUND, LEADER, RoundCaller};
 use gp_command::{Access, Draft, Key, NoMemory, Touch};
@@ -53,13 +53,13 @@ const SECOND: Call = Call {
     },
 };
 
-const MOST_OFFERS: usize = 8;
+const MOST_OFFERS: usize = 1_100;
 
-// The keys that the offered commands write, a node, and the numbers of the calls of its disk that fail.
-type Scene = (&'static str, Node, &'static [u64]);
+/// The keys that the offered commands write, a node, and the numbers of the calls of its disk that fail.
+pub type Scene<'a> = (&'a [u8], Node, &'static [u64]);
 
 // What work phases lead to: whether they end quietly, the calls, and how many commands are learned.
-type Case = (Scene, bool, &'static [Call], usize);
+type Case = (Scene<'static>, bool, &'static [Call], usize);
 
 const NOTHING: &[u64] = &[];
 
@@ -68,21 +68,22 @@ const NOTHING: &[u64] = &[];
 // crashes, and it ends its work if the disk fails again when it restarts. A leader that crashes in
 // its first move has begun no round.
 static CASES: [Case; 6] = [
-    (("", Node::Acceptor(0), NOTHING), true, &[FIRST], 0),
-    (("ab", Node::Acceptor(0), NOTHING), true, &[FIRST], 2),
+    ((b"", Node::Acceptor(0), NOTHING), true, &[FIRST], 0),
+    ((b"ab", Node::Acceptor(0), NOTHING), true, &[FIRST], 2),
     (
-        ("aa", Node::Acceptor(0), NOTHING),
+        (b"aa", Node::Acceptor(0), NOTHING),
         true,
         &[FIRST, SECOND],
         2,
     ),
-    (("ab", Node::Acceptor(0), &[3]), true, &[FIRST], 2),
-    (("ab", Node::Coordinator(0), &[3]), true, &[FIRST], 0),
-    (("", Node::Coordinator(0), &[3, 4]), false, &[FIRST], 0),
+    ((b"ab", Node::Acceptor(0), &[3]), true, &[FIRST], 2),
+    ((b"ab", Node::Coordinator(0), &[3]), true, &[FIRST], 0),
+    ((b"", Node::Coordinator(0), &[3, 4]), false, &[FIRST], 0),
 ];
 
 // What work phases led to: whether they ended quietly, whether a node could not recover, whether
-// these were the calls and the work beside each phase was done, and how many commands were learned.
+// these were the calls and the work beside each phase was done while the nodes worked, and how many
+// commands were learned.
 type Outcome = (bool, bool, bool, usize);
 
 #[test]
@@ -105,14 +106,37 @@ fn case_holds<R: Threads + Wait + Sync>(
     Ok(run(rt, alloc, config, scene, calls)? == (*quiet, !*quiet, true, *learned))
 }
 
+// Each node finds more than a thousand messages in its first look, and takes them in one batch.
+#[test]
+fn a_batch_may_be_long(rt: HostRuntime) -> Result<(), Fail> {
+    let config = Config::new(3, 2, 1).or(Err("no configuration"))?;
+    assert!(rt; learns_many(&rt, rt.alloc(), config, 1_100)?);
+    Ok(())
+}
+
+// Whether so many commands, which write 25 keys, are learned after a clash.
+fn learns_many<R: Threads + Wait + Sync>(
+    rt: &R,
+    alloc: Global,
+    config: Config,
+    count: usize,
+) -> Result<bool, NoMemory> {
+    let mut keys = Vec::new(alloc);
+    for number in 0..count {
+        keys.push(b'a' + (number % 25) as u8)?;
+    }
+    let scene = (keys.as_slice(), Node::Acceptor(0), NOTHING);
+    Ok(run(rt, alloc, config, &scene, &[FIRST, SECOND])? == (true, false, true, count))
+}
+
 #[test]
 fn a_calm_has_two_looks(rt: HostRuntime) -> Result<(), Fail> {
     assert!(rt; CALM == 2);
     Ok(())
 }
 
-// A wire at which commands that write these keys were offered, and the passes of the other nodes.
-fn offered<R: Threads + Wait + Sync>(
+/// A wire at which commands that write these keys were offered, and the passes of the other nodes.
+pub fn offered<R: Threads + Wait + Sync>(
     rt: &R,
     alloc: Global,
     config: Config,
@@ -136,10 +160,10 @@ fn run<R: Threads + Wait + Sync>(
     rt: &R,
     alloc: Global,
     config: Config,
-    scene: &Scene,
+    scene: &Scene<'_>,
     calls: &[Call],
 ) -> Result<Outcome, NoMemory> {
-    let keys = scene.0.as_bytes();
+    let keys = scene.0;
     let (wire, passes) = offered(rt, alloc, config, keys)?;
     let jobs = jobs_of(alloc, config, &wire, passes, scene)?;
     run_jobs(rt, alloc, config, &wire, jobs, calls, keys.len() as u64)
@@ -164,7 +188,8 @@ fn run_jobs<R: Threads + Wait + Sync>(
     let mut jobs = jobs;
     let mut caller = RoundCaller::new(alloc, config)?;
     call_first(rt, wire, &mut jobs, at, &mut caller)?;
-    let mut beside = counters();
+    let encounter = Encounter::new();
+    let mut beside = counters(&encounter);
     let phases = run_phases(
         rt,
         alloc,
@@ -174,18 +199,18 @@ fn run_jobs<R: Threads + Wait + Sync>(
         &mut caller,
         &mut beside,
         others,
-        &Idle,
+        &encounter,
     );
     Ok((
         phases.end == PhasesEnd::Quiet,
         phases.jobs.iter().any(is_broken),
-        caller.calls() == calls && all_acted(&beside),
+        caller.calls() == calls && all_acted(&beside) && encounter.has_been(),
         learned(&phases.jobs),
     ))
 }
 
-// The place of the last job, if it is that of the leader.
-fn leader_of(jobs: &[Job<MemDisk>]) -> Option<usize>
+/// The place of the last job, if it is that of the leader.
+pub fn leader_of(jobs: &[Job<MemDisk>]) -> Option<usize>
     ensures at { IfSome result (λ at. at < length jobs.now) }
     ensures node { IfSome result (λ at. (d : Job (CellState MemDiskState)) → (slice_index_or jobs.now at d).cell.node ≡ Coordinator LEADER) }
 {
@@ -280,13 +305,13 @@ fn draft_for(alloc: Global, key: u8) -> Result<Draft, NoMemory> {
     }
 }
 
-// A job for each pass, the last one first.
-fn jobs_of(
+/// A job for each pass, the last one first.
+pub fn jobs_of(
     alloc: Global,
     config: Config,
     wire: &Wire<PaxosRules>,
     passes: Vec<Pass>,
-    scene: &Scene,
+    scene: &Scene<'_>,
 ) -> Result<Vec<Job<MemDisk>>, NoMemory>
     requires rules { wire.now.rules.config ≡ config }
     requires fresh { Each (IsFresh wire.now) passes.items }
@@ -306,7 +331,7 @@ fn job_of(
     config: Config,
     wire: &Wire<PaxosRules>,
     pass: Pass,
-    scene: &Scene,
+    scene: &Scene<'_>,
 ) -> Result<Job<MemDisk>, NoMemory>
     requires rules { wire.now.rules.config ≡ config }
     requires fresh { IsFresh wire.now pass }

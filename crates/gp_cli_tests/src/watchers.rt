@@ -21,7 +21,7 @@ const READERS: u32 = 8;
 // The number of publishes of each feed.
 const PUBLISHES: u32 = 100;
 
-const FEEDS: u32 = 20;
+const FEEDS: u32 = 5;
 
 // The number of reads of a reader, unless it has seen all before.
 const READS: u32 = 2_000;
