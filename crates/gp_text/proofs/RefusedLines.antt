@@ -13,7 +13,7 @@ use Rattle.gp_script.specs.declared.items.Item.TheVariants as item
 use Rattle.gp_script.specs.Reasons.{is_of_report}
 use Rattle.gp_script.proofs.OwnReasons.{Own, is_own, line_own, counts_own}
 use Rattle.gp_text.specs.Reading.{Reading, Whole, Refused, Sofar, Script, nothing, said_so_far, is_passed, holds_limit, nodes_line, after_line, follow, reading_from, reading_in}
-use Rattle.gp_text.specs.Refusals.{size_of, IsWrongNodes, IsFull, MayNotFollow, IsWrongLine, IsRefusedFirst, IsRefusedBehind, Breaks, BreaksFrom, BreaksAt}
+use Rattle.gp_text.specs.Refusals.{size_of, IsWrongNodes, IsFull, MayNotFollow, IsWrongLine, IsRefusedFirst, IsRefusedBehind, Breaks, BreaksFrom, BreaksAt, IsOfScript}
 use Rattle.gp_text.proofs.SaidLegally.{nodes_in_range}
 use Rattle.gp_text.proofs.WrongLines.{wrong_line, wrong_nodes}
 use Rattle.gp_text.proofs.LineSteps.{reading_opens, reading_from_end, reading_from_too_long, reading_from_passed, reading_from_goes, reading_from_refused, follow_end, follow_too_long, follow_goes, follow_refused}
@@ -213,3 +213,7 @@ module _ (language : Language) where
   -- a script is not refused for a reason of a report
   pub reason_own : (n place : ℕ) (lines : List (List ℕ)) (number : ℕ) (reason : Reason) (before : Option Script) → reading_from language n place lines ≡ Refused number reason before → is_of_report reason ≡ false
   reason_own n place lines number reason before refused = opened_own n place lines number reason before (subst (Opens n place lines) refused (opens n place lines))
+
+pub of_script : (read : Reading) → ((line : ℕ) (reason : Reason) (before : Option Script) → read ≡ Refused line reason before → is_of_report reason ≡ false) → IsOfScript read
+of_script (Whole config said) own = tt
+of_script (Refused line reason before) own = own line reason before refl

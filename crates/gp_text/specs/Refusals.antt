@@ -12,8 +12,9 @@ use Rattle.gp_script.specs.declared.items.Item.TheVariants as item
 use Rattle.gp_script.specs.Forms.{Form, form_of}
 use Rattle.gp_script.specs.Items.{item_of}
 use Rattle.gp_script.specs.Broken.{BreaksLine, BreaksCounts}
+use Rattle.gp_script.specs.Reasons.{is_of_report}
 use Rattle.gp_text.specs.declared.limits.TheConstants.{MOST_OFFERS, MOST_EVENTS}
-use Rattle.gp_text.specs.Reading.{Sofar, Script, Whole, messages_after, is_offer, lacks_kept, is_nodes, is_passed, holds_limit, reading_from}
+use Rattle.gp_text.specs.Reading.{Reading, Sofar, Script, Whole, Refused, messages_after, is_offer, lacks_kept, is_nodes, is_passed, holds_limit, reading_from}
 
 -- how many bytes these lines have
 abbrev pub size_of : List (List ℕ) → ℕ
@@ -71,3 +72,8 @@ pub record BreaksFrom (language : Language) (n place : ℕ) (lines : List (List 
 -- the same for all lines of a script, which are numbered from 1
 abbrev pub BreaksAt : Language → List (List ℕ) → ℕ → Reason → Option Script → Type 0
 BreaksAt language lines number reason before = BreaksFrom language 1 0 lines number reason before
+
+-- if it is refused, then not for a report
+abbrev pub IsOfScript : Reading → Type 0
+IsOfScript (Whole config said) = Unit {0}
+IsOfScript (Refused line reason before) = is_of_report reason ≡ false
