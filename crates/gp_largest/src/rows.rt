@@ -14,8 +14,7 @@ use crate::refusals::{
 };
 use crate::rounds::{play_fast, play_multi};
 use crate::runs::{
-    run_conflicts, run_coordinators, run_each, run_epochs, run_longest, run_most, views_conflicts,
-    views_each, views_most,
+    run_conflicts, run_coordinators, run_each, run_epochs, run_longest, run_most, views_most,
 };
 use crate::stores::play_operations;
 use crate::summaries::{drive_each, drive_most, sim_most};
@@ -43,17 +42,15 @@ pub enum What {
     /// The most offers by these words.
     RunMost(&'static str),
     RunCoordinators,
-    /// One offer in each configuration by these words.
-    RunEach(&'static str),
+    /// One offer in each configuration.
+    RunEach,
     /// A checkpoint behind each put by these words.
     RunEpochs(&'static str),
-    /// Offers that conflict by these words.
-    RunConflicts(&'static str),
-    ViewsConflicts,
+    /// Offers that conflict.
+    RunConflicts,
     RunLongest,
     RunLimits,
     ViewsMost,
-    ViewsEach,
     LogCoordinators,
     LogOldCoordinators,
     UpgradeCoordinators,
@@ -71,7 +68,7 @@ pub enum What {
 pub type Row = (&'static str, What, u64);
 
 /// All rows.
-pub static ROWS: [Row; 39] = [
+pub static ROWS: [Row; 35] = [
     (
         "play 1024 offers and 16384 events in 1048576 bytes",
         What::PlayLargest,
@@ -103,21 +100,9 @@ pub static ROWS: [Row; 39] = [
     ("adapt 64 offers on 16 nodes", What::RunMost("adapt"), 1),
     ("views 64 offers on 16 nodes", What::ViewsMost, 1),
     ("run 8 offers on 5 coordinators", What::RunCoordinators, 1),
-    ("run each of 100 configurations", What::RunEach("run"), 100),
-    (
-        "adapt each of 100 configurations",
-        What::RunEach("adapt"),
-        100,
-    ),
-    ("views each of 100 configurations", What::ViewsEach, 100),
+    ("run each of 100 configurations", What::RunEach, 100),
     ("run 33 epochs", What::RunEpochs("run"), 1),
-    ("run 64 offers that conflict", What::RunConflicts("run"), 1),
-    (
-        "adapt 64 offers that conflict",
-        What::RunConflicts("adapt"),
-        1,
-    ),
-    ("views 64 offers that conflict", What::ViewsConflicts, 1),
+    ("run 64 offers that conflict", What::RunConflicts, 1),
     ("run 64 offers in 1048576 bytes", What::RunLongest, 1),
     ("run limits of 64 to 67108864 bytes", What::RunLimits, 5),
     ("log 100000 entries", What::LogCoordinators, 1),
@@ -161,12 +146,10 @@ pub fn case_of(alloc: Global, what: What, number: u64) -> Result<Case, NoMemory>
         What::SimMost => sim_most(alloc, number),
         What::RunMost(words) => run_most(alloc, words),
         What::ViewsMost => views_most(alloc),
-        What::ViewsEach => views_each(alloc, number),
         What::RunCoordinators => run_coordinators(alloc),
-        What::RunEach(words) => run_each(alloc, words, number),
+        What::RunEach => run_each(alloc, number),
         What::RunEpochs(words) => run_epochs(alloc, words),
-        What::RunConflicts(words) => run_conflicts(alloc, words),
-        What::ViewsConflicts => views_conflicts(alloc),
+        What::RunConflicts => run_conflicts(alloc),
         What::RunLongest => run_longest(alloc),
         What::RunLimits => run_limits(alloc, number),
         What::LogCoordinators => log_coordinators(alloc),

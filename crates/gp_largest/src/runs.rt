@@ -55,12 +55,12 @@ pub fn run_coordinators(alloc: Global) -> Result<Case, NoMemory> {
 }
 
 /// One put in each of the 100 configurations: 3 to 7 acceptors, 1 to 5 coordinators, 1 to 4 learners.
-pub fn run_each(alloc: Global, words: &str, number: u64) -> Result<Case, NoMemory> {
+pub fn run_each(alloc: Global, number: u64) -> Result<Case, NoMemory> {
     let acceptors = (number / 20).saturating_add(3);
     let coordinators = (number / 4 % 5).saturating_add(1);
     let learners = (number % 4).saturating_add(1);
     let nodes = format!(in alloc; "{acceptors} {coordinators} {learners}")?;
-    run_puts(alloc, words, nodes.as_str(), learners, 1)
+    run_puts(alloc, "run", nodes.as_str(), learners, 1)
 }
 
 // The words with which two readers read the key of the last of so many puts.
@@ -71,12 +71,8 @@ fn views(alloc: Global, count: u64) -> Result<String, NoMemory> {
 
 // The same run, whose readers have seen all of the puts at the end.
 fn viewed(case: Case, count: u64) -> Result<Case, NoMemory> {
-    with_last_reads(case, count, great_value(count.saturating_sub(1)))
-}
-
-// Both readers see so many commands and this value at the end.
-fn with_last_reads(case: Case, count: u64, value: u64) -> Result<Case, NoMemory> {
     let mut case = case;
+    let value = great_value(count.saturating_sub(1));
     writeln!(case.wanted, "r0 seen {count} value {value}")?;
     writeln!(case.wanted, "r1 seen {count} value {value}")?;
     Ok(case)
@@ -86,12 +82,6 @@ fn with_last_reads(case: Case, count: u64, value: u64) -> Result<Case, NoMemory>
 pub fn views_most(alloc: Global) -> Result<Case, NoMemory> {
     let words = views(alloc, MOST_RUN_OFFERS)?;
     viewed(run_most(alloc, words.as_str())?, MOST_RUN_OFFERS)
-}
-
-/// One put in each of the 100 configurations, while two readers read.
-pub fn views_each(alloc: Global, number: u64) -> Result<Case, NoMemory> {
-    let words = views(alloc, 1)?;
-    viewed(run_each(alloc, words.as_str(), number)?, 1)
 }
 
 /// A checkpoint behind each put, as many as there may be. The one coordinator takes what the one
@@ -114,7 +104,7 @@ pub fn run_epochs(alloc: Global, words: &str) -> Result<Case, NoMemory> {
 
 /// The most commands that conflict, all of them checkpoints or puts on one key, with the most nodes. Each
 /// learner holds all, in an order that the threads decide.
-pub fn run_conflicts(alloc: Global, words: &str) -> Result<Case, NoMemory> {
+pub fn run_conflicts(alloc: Global) -> Result<Case, NoMemory> {
     let mut script = Script::new(alloc, MOST_NODES)?;
     for number in 0..MOST_RUN_OFFERS {
         let operation = if number % 4 == 3 {
@@ -130,15 +120,7 @@ pub fn run_conflicts(alloc: Global, words: &str) -> Result<Case, NoMemory> {
         writeln!(wanted, "l{learner} state")?;
         writeln!(wanted, "l{learner} replies")?;
     }
-    shows(alloc, words, script.text, Shown::Counts, wanted)
-}
-
-/// The same, while two readers read the key. Each put has the same value.
-pub fn views_conflicts(alloc: Global) -> Result<Case, NoMemory> {
-    let words = views(alloc, 1)?;
-    let case = run_conflicts(alloc, words.as_str())?;
-    let value = great_value(0);
-    with_last_reads(case, MOST_RUN_OFFERS, value)
+    shows(alloc, "run", script.text, Shown::Counts, wanted)
 }
 
 /// The most puts at the end of the most bytes, behind a long comment and many short ones.
