@@ -1,12 +1,13 @@
 //! The log of one node: it is created, opened, appended to and renewed.
-ghost use Rattle.std.specs.Prelude.{All, ◌≡◌, ◌≤◌, ◌<◌, ◌++◌, ◌∷◌, [], true, false, None, Some, OnOk, OnErr, IfOk, IfErr, length, slice_get, nat_eq};
+ghost use Rattle.std.specs.Prelude.{All, ◌≡◌, ◌+◌, ◌≤◌, ◌<◌, ◌++◌, ◌∷◌, [], true, false, None, Some, OnOk, OnErr, IfOk, IfErr, length, slice_get, nat_eq};
 ghost use Rattle.std.specs.Option.{option_map};
-ghost use Rattle.gp_edge.specs.Disks.{IfRevealed, LeavesOnly};
+ghost use Rattle.gp_edge.specs.Disks.{IfRevealed, RevealsAlike, LeavesOnly};
 ghost use Rattle.gp_msg.specs.Messages.{part_of};
 ghost use Rattle.gp_vlog.specs.Bodies.{need};
 ghost use Rattle.gp_vlog.specs.Causes.{IsFullWhere, HasCause, HasOpenCause, IsNoPlace};
 ghost use Rattle.gp_vlog.specs.Files.{is_second, is_limit};
 ghost use Rattle.gp_vlog.specs.Opened.{disk_of, outcome_of};
+ghost use Rattle.gp_vlog.specs.Plans.{HoldsAppended, size_with};
 ghost use Rattle.gp_vlog.specs.Reading.{BreaksAt};
 ghost use Rattle.gp_vlog.specs.Logs.{IsReady, KeepsRules, OldOrAdded, OldOrRenewed, StaysUnready, StaysWhole, entry_for, has_old, log_entries, last};
 
@@ -206,7 +207,9 @@ impl<D: Disk> Log<D> {
     /// then opened by a write of one byte, and synced. So a crash inside the call leaves the
     /// entries from before it, or these and the new one. An acceptor's entry holds only what its
     /// vote adds to the vote of the entry before it, if that vote is of the same epoch, is not
-    /// empty and is a prefix of its own. Otherwise it holds the whole vote.
+    /// empty and is a prefix of its own. Otherwise it holds the whole vote. After `Ok` the size has
+    /// grown by the need of the entry. If the disk reveals its content, it holds the bytes of these
+    /// two writes over those from before. No outcome changes whether it reveals it.
     ///
     /// It returns `Full` exactly if the size and the need of the entry together exceed the limit,
     /// unless memory runs out, and the log is then unchanged. It returns `Disk` only if the number
@@ -220,6 +223,9 @@ impl<D: Disk> Log<D> {
         ensures appended { OnOk result (self.new.entries ≡ self.old.entries ++ entry.now ∷ []) }
         ensures version { OnOk result (self.new.is_old ≡ false) }
         ensures ready { OnOk result (IsReady D.content D.image self.new) }
+        ensures size { OnOk result (self.new.size ≡ size_with self.old (part_of entry.now)) }
+        ensures bytes { OnOk result (HoldsAppended D.content self.old self.new (part_of entry.now)) }
+        ensures reveals { RevealsAlike (D.content self.old.disk) (D.content self.new.disk) }
         ensures any_moment { IfRevealed (D.content self.old.disk) (λ s. LeavesOnly D.moment D.since self.old.disk self.new.disk (OldOrAdded self.old.limit (log_entries false self.old.entries) (entry_for false entry.now))) }
         ensures full { IsFullWhere self.old.limit self.old.size (need (option_map part_of (last self.old.entries)) (part_of entry.now)) result }
         ensures left { StaysWhole self.old self.new result }
@@ -252,6 +258,8 @@ impl<D: Disk> Log<D> {
         ensures renewed { OnOk result (self.new.entries ≡ entry.now ∷ []) }
         ensures version { OnOk result (self.new.is_old ≡ false) }
         ensures ready { OnOk result (IsReady D.content D.image self.new) }
+        ensures size { OnOk result (self.new.size ≡ 17 + need None (part_of entry.now)) }
+        ensures reveals { RevealsAlike (D.content self.old.disk) (D.content self.new.disk) }
         ensures any_moment { IfRevealed (D.content self.old.disk) (λ s. LeavesOnly D.moment D.since self.old.disk self.new.disk (OldOrRenewed self.old.limit (log_entries self.old.is_old self.old.entries) (entry_for false entry.now))) }
         ensures full { IsFullWhere self.old.limit 17 (need None (part_of entry.now)) result }
         ensures left { StaysWhole self.old self.new result }
