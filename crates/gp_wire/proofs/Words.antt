@@ -1,5 +1,6 @@
 -- Lists, and the words of the rule.
 use Rattle.std.proofs.Common.{◌≡◌, ℕ, ◌+◌, ◌<◌, ◌≤◌, ◌⊎◌, List, [], ◌∷◌, ◌++◌, length, set, sym, refl, ap, subst, inl, inr, ⊎_elim, suc, zero, arith, append_assoc, Option, Some, None}
+use Rattle.std.specs.Prelude.{slice_get}
 use Rattle.std.proofs.lemmas.List.{append-nil}
 use mathlib.Core.Option.{some, some-injective, some-ne-none}
 use lib.ListN.{get_elem?}
@@ -92,3 +93,9 @@ below_more (Some t) m n a l = omega arith
 pub later_of_below : (u : Option ℕ) (e : Post) → IsBelow u e.turn → IsLater u e
 later_of_below None e a = tt
 later_of_below (Some t) e a = a
+
+-- a list without an element at this place
+pub none_beyond : {A : Type 0} (ms : List A) (k : ℕ) → slice_get ms k ≡ None → length ms ≤ k
+none_beyond [] k e = omega arith
+none_beyond (m ∷ ms) zero e = cc
+none_beyond (m ∷ ms) (suc k) e = let h = none_beyond ms k e in omega arith

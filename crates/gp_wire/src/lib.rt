@@ -6,6 +6,7 @@
 mod closing;
 mod indexed;
 mod key;
+pub mod laws;
 mod looking;
 mod opening;
 mod pass;

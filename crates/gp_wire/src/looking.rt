@@ -17,8 +17,10 @@ use std::sync::Wait;
 impl<R: Rules> Wire<R> {
     /// Message k, counted from 0, of the list that the pass has seen at the end of this call, and
     /// `None` exactly if that list has no message k. The pass has a turn, and nothing is posted.
-    /// What it has seen may grow, by records of nodes that it does not hold. If it holds all nodes,
-    /// what it has seen does not change. If memory runs out, the pass has had its turn too.
+    /// What it has seen may grow, by records of nodes that it does not hold, which were posted in
+    /// turns after the pass's last one. So `None` means that no message k was posted before this
+    /// turn (`laws::no_look_missed_a_message`). If it holds all nodes, what it has seen does not
+    /// change. If memory runs out, the pass has had its turn too.
     pub fn read<W: Wait>(&self, rt: &W, pass: &mut Pass, k: u64) -> Result<Option<Msg>, NoMemory>
         requires own { pass.old.wire ≡ self.now.id }
         requires holds { Has pass.old.node pass.old.holds }
