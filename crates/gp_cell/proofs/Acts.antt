@@ -21,6 +21,8 @@ use Rattle.gp_cell.specs.Cells.{CellState, PostsOne}
 use Rattle.gp_cell.specs.Passing.{GoesOn}
 use Rattle.gp_cell.specs.Crashes.{HoldsSame}
 use Rattle.gp_cell.specs.Falls.{Rises}
+use Rattle.gp_cell.specs.Downs.{IsOfLog, HidesLog}
+use Rattle.gp_cell.proofs.Downs.{hides_same}
 use Rattle.gp_cell.specs.Founds.{BreaksWhere, LogBreaksWhere, IsNotRisen}
 use Rattle.gp_cell.specs.Refusals.{CountsFaults, CountsRiseFaults, IsTooGreat, StepCause, faults_of, limit_of}
 use Rattle.gp_cell.specs.Working.{process_of, causes_of, is_up, IsAt}
@@ -92,17 +94,17 @@ module _ {D : Type 0} (faults : D → ℕ) (o r : CellState D) (config : r.confi
   rise_posted (Err f) x = tt
 
   module _ (content : D → Option (List ℕ)) (holds : HoldsSame content o.log r.log) (limit : limit_of r.log ≡ limit_of o.log) where
-    rise_fault : (f : RiseFault) → r.down ≡ o.down → CountsRiseFaults {T = ℕ} (faults_of faults o.log) (faults_of faults r.log) (Err f) → IsNotRisen content o r f
+    rise_fault : (f : RiseFault) → r.down ≡ o.down → CountsRiseFaults {T = ℕ} (faults_of faults o.log) (faults_of faults r.log) (Err f) → IsNotRisen content o r f → (IsOfLog f → HidesLog content o.log)
         → work.RiseCause (process_of faults o) (process_of faults r) (causes_of content r).not_risen f
-    rise_fault rise.NoMemory down c h = tt
-    rise_fault rise.Disk down c h = c.failed tt
-    rise_fault (rise.NotLog at) down c h = breaks_same content o.log r.log at holds limit h.2
-    rise_fault (rise.Changed found) down c h = (h.0, down ∙ h.1, h.2.0, h.2.1)
+    rise_fault rise.NoMemory down c h hide = tt
+    rise_fault rise.Disk down c h hide = c.failed tt
+    rise_fault (rise.NotLog at) down c h hide = (breaks_same content o.log r.log at holds limit h.2, hides_same content o.log r.log holds (hide tt))
+    rise_fault (rise.Changed found) down c h hide = (h.0, down ∙ h.1, h.2.0, h.2.1, hides_same content o.log r.log holds (hide tt))
 
-    pub rise_fault_if : (t : Result ℕ RiseFault) → OnErr t (r.down ≡ o.down) → CountsRiseFaults (faults_of faults o.log) (faults_of faults r.log) t → IfErr t (IsNotRisen content o r)
+    pub rise_fault_if : (t : Result ℕ RiseFault) → OnErr t (r.down ≡ o.down) → CountsRiseFaults (faults_of faults o.log) (faults_of faults r.log) t → IfErr t (IsNotRisen content o r) → IfErr t (λ e. IsOfLog e → HidesLog content o.log)
         → IfErr t (work.RiseCause (process_of faults o) (process_of faults r) (causes_of content r).not_risen)
-    rise_fault_if (Ok n) down c h = tt
-    rise_fault_if (Err f) down c h = rise_fault f down c h
+    rise_fault_if (Ok n) down c h hide = tt
+    rise_fault_if (Err f) down c h hide = rise_fault f down c h hide
 
 -- a node that is up went down in no move
 pub up_is : (down : Option Move) → is_up down ≡ is_up None → down ≡ None

@@ -138,6 +138,10 @@ abbrev pub last_entry : {D : Type 0} → Option (LogState D) → Option Durable
 last_entry None = None
 last_entry (Some log) = last log.entries
 
+-- the next core of a cell that posts this event, even if more messages were sent by then
+abbrev pub IsCoreAfter : {D : Type 0} → CellState D → Event → Core → Type 0
+IsCoreAfter c event next = (more : List Stamped) → next ≡ (acts c.node c.core (messages (newest_first (records c.pass)) ++ more) event).0
+
 -- what holds of a plan at a node that has seen these records: its record may be posted, and its next core is what the event of the record makes of the core, even if more messages were sent by then
 pub record IsThoughtAt (config : Counts) (node : Node) (core : Core) (seen : List Record) (mv : Move) (p : Plan) : Type 0 where
   pub plan : IsPlan node core (messages (newest_first seen)) mv p

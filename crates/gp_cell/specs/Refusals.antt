@@ -1,5 +1,5 @@
 -- Why a step or a recovery of a cell was refused.
-use Rattle.std.specs.Prelude.{◌≡◌, ◌≢◌, ◌⊎◌, ℕ, ◌+◌, ◌<◌, ◌≤◌, [], ◌∷◌, ◌++◌, length, Option, Some, None, Result, Ok, Err}
+use Rattle.std.specs.Prelude.{◌≡◌, ◌≢◌, ◌⊎◌, ℕ, ◌+◌, ◌<◌, ◌≤◌, [], ◌∷◌, ◌++◌, length, Option, Some, None, Result, Ok, Err, false}
 use Rattle.std.specs.Option.{option_map}
 use Rattle.gp_msg.specs.declared.durable.Durable.{Durable}
 use Rattle.gp_msg.specs.declared.event.Event.{Event}
@@ -131,17 +131,43 @@ pub record IsTried {D : Type 0} (old : Option (LogState D)) (before after : Opti
 abbrev pub part_after : {D : Type 0} → CellState D → CellState D → Move → Option EpochPart
 part_after old new mv = part_in (acts old.node old.core (messages (newest_first (records new.pass))) (event_of old.node mv)).0
 
+-- the log is not ready
+abbrev pub IsUnready : {D : Type 0} → Option (LogState D) → Type 0
+IsUnready None = ⊥
+IsUnready (Some log) = log.ready ≡ false
+
+-- the log has one more part after its entries, or alone
+abbrev pub HasAdded : {D : Type 0} → Option (LogState D) → Option (LogState D) → Type 0
+HasAdded (Some old) (Some new) = (d : Durable) × AddsPart old new d
+HasAdded _ _ = ⊥
+
+-- the append to the log had begun: memory ran out in it, and the log is not ready; or it is done
+abbrev pub HasBegun : {D : Type 0} → Option (LogState D) → Option (LogState D) → Type 0
+HasBegun old new = IsUnready new ⊎ HasAdded old new
+
+-- the node is up, with its log as before; or it went down in this move, and the append to its log had begun
+abbrev pub IsUpOrBegun : {D : Type 0} → CellState D → CellState D → Move → Type 0
+IsUpOrBegun old new mv = ((new.down ≡ None) × (new.log ≡ old.log)) ⊎ ((new.down ≡ Some mv) × HasBegun old.log new.log)
+
+-- if memory ran out, the log is not ready
+abbrev pub IsBegunBy : {D T : Type 0} → Option (LogState D) → Result T StepFault → Type 0
+IsBegunBy log (Ok x) = Unit {0}
+IsBegunBy log (Err Waiting) = Unit {0}
+IsBegunBy log (Err NoMemory) = IsUnready log
+IsBegunBy log (Err Disk) = Unit {0}
+IsBegunBy log (Err (Full size needed)) = Unit {0}
+
 -- why the durable part of the next core was not written in this move
 abbrev pub WriteCause : {D : Type 0} → CellState D → CellState D → Core → Move → StepFault → Type 0
 WriteCause old new next mv Waiting = ⊥
-WriteCause old new next mv NoMemory = ((new.down ≡ None) × (new.log ≡ old.log)) ⊎ (new.down ≡ Some mv)
+WriteCause old new next mv NoMemory = IsUpOrBegun old new mv
 WriteCause old new next mv Disk = (new.down ≡ Some mv) × IsTried old.log (part_in old.core) (part_in next)
 WriteCause old new next mv (Full size needed) = (new.down ≡ Some mv) × (size ≡ 17) × IsOverFull old.log new.log old.core next needed
 
--- why a step was refused: the message that it takes was not sent; memory ran out, and the node is down if its log was being written; or it is down because its disk failed or its log had no room
+-- why a step was refused: the message that it takes was not sent; memory ran out, and the node is down exactly if the append to its log had begun; or it is down because its disk failed or its log had no room
 abbrev pub StepCause : {D : Type 0} → CellState D → CellState D → Move → StepFault → Type 0
 StepCause old new mv Waiting = IsBeyond (length (messages_in (records new.pass))) mv × (new.down ≡ None) × (new.log ≡ old.log)
-StepCause old new mv NoMemory = ((new.down ≡ None) × (new.log ≡ old.log)) ⊎ (new.down ≡ Some mv)
+StepCause old new mv NoMemory = IsUpOrBegun old new mv
 StepCause old new mv Disk = (new.down ≡ Some mv) × IsTried old.log (part_in old.core) (part_after old new mv)
 StepCause old new mv (Full size needed) = (new.down ≡ Some mv) × IsTooGreat new (event_of new.node mv) size needed
 

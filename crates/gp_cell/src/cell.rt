@@ -1,5 +1,5 @@
 //! A running node.
-ghost use Rattle.std.specs.Prelude.{◌≡◌, ◌↔◌, ◌⊎◌, [], true, None, Option, length, slice_get, IsSome, IsTrue, IfOk, IfErr};
+ghost use Rattle.std.specs.Prelude.{◌≡◌, ◌↔◌, ◌⊎◌, [], true, None, Some, Option, length, slice_get, IsSome, IsTrue, IfOk, IfErr};
 ghost use Rattle.std.specs.Option.{option_map, option_copied};
 ghost use Rattle.gp_history.specs.Sequence.{history_of};
 ghost use Rattle.gp_msg.specs.Messages.{EpochPart};
@@ -13,7 +13,9 @@ ghost use Rattle.gp_wire.specs.Known.{records, old_of};
 ghost use Rattle.gp_wire.specs.Passes.{HadTurn, nothing, met, spent};
 ghost use Rattle.gp_wire.specs.Own.{own};
 ghost use Rattle.gp_cell.specs.Cores.{opening, core_at, part_in, learned_in};
-ghost use Rattle.gp_cell.specs.Cells.{cell_of, IsFreshLog, IsSameBut, IsHeldBy, Keeps, OwnLawful, last_entry};
+ghost use Rattle.gp_work.specs.declared.moves.Move.{Move};
+ghost use Rattle.gp_cell.specs.Downs.{LeavesEither};
+ghost use Rattle.gp_cell.specs.Cells.{cell_of, IsFreshLog, IsSameBut, IsHeldBy, IsLogged, Keeps, OwnLawful, last_entry};
 
 use crate::opening::opening_core;
 use crate::roles::Core;
@@ -54,7 +56,11 @@ pub struct Cell<D: Disk> {
 }
 
 impl<D: Disk> Model for Cell<D> {
+    ghost use Rattle.gp_run.specs.Messages.{messages};
+    ghost use Rattle.gp_run.specs.Runs.{newest_first};
+    ghost use Rattle.gp_wire.specs.Known.{records};
     ghost use Rattle.gp_cell.specs.Cells.{CellState, IsSound};
+    ghost use Rattle.gp_cell.specs.Downs.{StaysEither};
     ghost use Rattle.gp_cell.specs.Codes.{cell_code};
 
     ghost Value = { CellState D };
@@ -63,7 +69,7 @@ impl<D: Disk> Model for Cell<D> {
 
     ghost view = { λ c. record { config = c.config; node = c.node; core = c.core; log = c.log; pass = c.pass; down = c.down } };
 
-    ghost invariant = { λ c. IsSound c.config c.node c.core c.log c.pass c.posted c.down };
+    ghost invariant = { λ c. IsSound c.config c.node c.core c.log c.pass c.posted c.down × StaysEither D.content D.image c.config c.node c.core c.log (messages (newest_first (records c.pass))) c.down };
 }
 
 /// The log and the pass of a cell that was not made because memory ran out.
@@ -121,13 +127,18 @@ impl<D: Disk> Cell<D> {
         self.pass.seen()
     }
 
-    /// Whether the node is down. If it is up, its log keeps the durable part of its state. Up or
-    /// down, each record of the node was legal at its place in the list of its pass.
+    /// Whether the node is down, as only an acceptor or a coordinator can be. If it is up, its log
+    /// keeps the durable part of its state. If it is down, a crash now leaves a log whose last part
+    /// is the one before the move in which the node went down, or the one after it, as long as the
+    /// disk reveals its content. Up or down, each record of the node was legal at its place in the
+    /// list of its pass.
     pub fn is_down(&self) -> bool
         ensures down { IsTrue result ↔ IsSome self.now.down }
         ensures node { self.now.pass.node ≡ self.now.node }
         ensures lawful { OwnLawful self.now.config self.now.node (records self.now.pass) }
         ensures core { self.now.core ≡ core_at self.now.config self.now.node (newest_first (records self.now.pass)) }
+        ensures logged { (mv : Move) → self.now.down ≡ Some mv → IsLogged self.now.node }
+        ensures either { (mv : Move) → self.now.down ≡ Some mv → LeavesEither D.content D.image self.now mv }
         ensures kept { self.now.down ≡ None → Keeps (part_in (opening self.now.config self.now.node)) (part_in self.now.core) self.now.log }
     {
         self.down.is_some()

@@ -13,6 +13,7 @@ ghost use Rattle.gp_cell.specs.Cores.{opening, acts, part_in};
 ghost use Rattle.gp_cell.specs.Cells.{IsLogged, IsThought, WentDown};
 ghost use Rattle.gp_cell.specs.Passing.{Later, GoesOn};
 ghost use Rattle.gp_cell.specs.Crashes.{HoldsSame, IsReadyLog};
+ghost use Rattle.gp_cell.specs.Downs.{LeavesEither, IsOpenedLog, IsOfLog, HidesLog};
 ghost use Rattle.gp_cell.specs.Falls.{fell, IsFall, IsRevival, Rises, FitsNone};
 ghost use Rattle.gp_cell.specs.Founds.{IsFound, IsChanged, LogBreaksWhere, FallCause, RiseCause, IsNotRisen};
 ghost use Rattle.gp_cell.specs.Refusals.{CountsRiseFaults, faults_of, limit_of};
@@ -45,6 +46,7 @@ impl<D: Disk> Cell<D> {
         ensures same { IfOk result (λ mv. self.now.down ≡ Some mv) }
         ensures went { IfOk result (λ mv. WentDown self.now.config self.now.node self.now.log (messages (newest_first (records self.now.pass))) mv) }
         ensures room { IfOk result (λ mv. HasRoom (length (own self.now.node (records self.now.pass))) mv) }
+        ensures either { IfOk result (LeavesEither D.content D.image self.now) }
     {
         match &self.down {
             Some(mv) => copy_move(mv),
@@ -61,6 +63,7 @@ impl<D: Disk> Cell<D> {
         ensures limit { limit_of self.new.log ≡ limit_of self.old.log }
         ensures content { HoldsSame D.content self.old.log self.new.log }
         ensures shown { OnOk result (IsReadyLog D.content D.image self.new.log) }
+        ensures opened { OnOk result (IsOpenedLog D.content D.image self.new.log) }
         ensures broken { IfErr result (LogBreaksWhere D.content self.old.log) }
         ensures same { IfErr result (λ e. ¬ (IsChanged e)) }
     {
@@ -150,6 +153,7 @@ impl<D: Disk> Cell<D> {
         ensures revived { IfOk result (λ r. IsRevival self.new mv.now r.item r.next) }
         ensures content { HoldsSame D.content self.old.log self.new.log }
         ensures shown { OnOk result (IsReadyLog D.content D.image self.new.log) }
+        ensures opened { IfErr result (λ e. IsChanged e → IsOpenedLog D.content D.image self.new.log) }
         ensures cause { IfErr result (RiseCause D.content self.old self.new mv.now) }
         ensures count { CountsRiseFaults (faults_of D.faults self.old.log) (faults_of D.faults self.new.log) result }
         ensures limit { limit_of self.new.log ≡ limit_of self.old.log }
@@ -178,8 +182,9 @@ impl<D: Disk> Cell<D> {
     /// `NotLog` only if the bytes of the disk break the format of a log, with the smallest place
     /// where they do; `Changed`, with the last entry that was found, only if neither part fits or
     /// the entries are of version 1 of the format; and `NoMemory` if memory runs out or if the pass
-    /// has seen 2^31 records or more. After each of these the node is still down, and has posted
-    /// nothing.
+    /// has seen 2^31 records or more. `NotLog` and `Changed` come only if the disk does not reveal
+    /// its content: one that does reveal it has kept one of the two parts. After each error the
+    /// node is still down, and has posted nothing.
     pub fn rise<W: Wait>(&mut self, rt: &W, wire: &Wire<PaxosRules>) -> Result<u64, RiseFault>
         requires own { self.old.pass.wire ≡ wire.now.id }
         requires config { self.old.config ≡ wire.now.rules.config }
@@ -196,6 +201,7 @@ impl<D: Disk> Cell<D> {
         ensures content { HoldsSame D.content self.old.log self.new.log }
         ensures shown { OnOk result (IsReadyLog D.content D.image self.new.log) }
         ensures cause { IfErr result (IsNotRisen D.content self.old self.new) }
+        ensures hidden { IfErr result (λ e. IsOfLog e → HidesLog D.content self.old.log) }
         ensures faults { CountsRiseFaults (faults_of D.faults self.old.log) (faults_of D.faults self.new.log) result }
         ensures limit { limit_of self.new.log ≡ limit_of self.old.log }
     {

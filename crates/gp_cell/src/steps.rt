@@ -1,7 +1,7 @@
 //! The steps of a running node.
-ghost use Rattle.std.specs.Prelude.{◌≡◌, ◌⊎◌, ◌<◌, ◌^◌, ◌+◌, ◌++◌, List, true, false, None, Some, length, IfOk, IfErr, OnOk, OnErr};
+ghost use Rattle.std.specs.Prelude.{◌≡◌, ◌<◌, ◌^◌, ◌+◌, List, true, false, None, Some, length, IfOk, IfErr, OnOk, OnErr};
 ghost use Rattle.std.specs.Option.{option_map, option_copied};
-ghost use Rattle.gp_msg.specs.Messages.{Stamped, message_of, entry_of};
+ghost use Rattle.gp_msg.specs.Messages.{message_of, entry_of};
 ghost use Rattle.gp_run.specs.Messages.{messages};
 ghost use Rattle.gp_run.specs.Runs.{newest_first};
 ghost use Rattle.gp_wire.specs.Lists.{Has};
@@ -10,13 +10,13 @@ ghost use Rattle.gp_wire.specs.Known.{records, HoldsAll};
 ghost use Rattle.gp_work.specs.declared.faults.StepFault.TheVariants as StepFault;
 ghost use Rattle.gp_wire.specs.Own.{own};
 ghost use Rattle.gp_work.specs.Moves.{event_of, Fits, HasRoom, IsBeyond};
-ghost use Rattle.gp_cell.specs.Cores.{opening, acts, part_in};
+ghost use Rattle.gp_cell.specs.Cores.{opening, part_in};
 ghost use Rattle.gp_cell.specs.Plans.{HasRole, IsNamed, Names, named};
 ghost use Rattle.gp_cell.specs.Lawful.{IsLawful};
-ghost use Rattle.gp_cell.specs.Cells.{IsSameBut, IsThought, Keeps, PostsOne};
+ghost use Rattle.gp_cell.specs.Cells.{IsCoreAfter, IsSameBut, IsThought, Keeps, PostsOne};
 ghost use Rattle.gp_cell.specs.Passing.{Later, GoesOn, posts_in};
 ghost use Rattle.gp_cell.specs.Crashes.{Writes, LeavesOneOf, IsReadyLog};
-ghost use Rattle.gp_cell.specs.Refusals.{CountsFaults, IsReadFault, StepCause, WriteCause, faults_of, limit_of, part_after};
+ghost use Rattle.gp_cell.specs.Refusals.{CountsFaults, IsUpOrBegun, IsReadFault, StepCause, WriteCause, faults_of, limit_of, part_after};
 
 use crate::cell::Cell;
 use crate::planning::{Plan, make_plan};
@@ -99,9 +99,10 @@ impl<D: Disk> Cell<D> {
         requires role { HasRole self.old.node next.now }
         requires fits { Fits self.old.config self.old.node mv }
         requires stands { IsNamed mv (named (messages (newest_first (records self.old.pass))) mv) }
+        requires next { IsCoreAfter self.old (event_of self.old.node mv) next.now }
         ensures rest { (self.new.config ≡ self.old.config) × (self.new.node ≡ self.old.node) × (self.new.core ≡ self.old.core) × (self.new.pass ≡ self.old.pass) }
         ensures kept { OnOk result (Keeps (part_in (opening self.new.config self.new.node)) (part_in next.now) self.new.log) }
-        ensures down { OnOk result (((self.new.down ≡ None) × (self.new.log ≡ self.old.log)) ⊎ (self.new.down ≡ Some mv)) }
+        ensures down { OnOk result (IsUpOrBegun self.old self.new mv) }
         ensures log { OnOk result (Writes self.old.log self.new.log (part_in self.old.core) (part_in next.now)) }
         ensures crash { LeavesOneOf D.content D.moment D.since (part_in (opening self.old.config self.old.node)) (part_in self.old.core) (part_in next.now) self.old.log self.new.log }
         ensures cause { IfErr result (WriteCause self.old self.new next.now mv) }
@@ -140,7 +141,7 @@ impl<D: Disk> Cell<D> {
         requires holds { Has self.old.pass.node self.old.pass.holds }
         requires node { made.node ≡ self.old.node }
         requires lawful { IsLawful self.old.config (newest_first (records self.old.pass)) (entry_of made) }
-        requires next { (more : List Stamped) → next ≡ (acts self.old.node self.old.core (messages (newest_first (records self.old.pass)) ++ more) made.event).0 }
+        requires next { IsCoreAfter self.old made.event next }
         requires kept { Keeps (part_in (opening self.old.config self.old.node)) (part_in next) self.old.log }
         ensures rest { (self.new.config ≡ self.old.config) × (self.new.node ≡ self.old.node) × (self.new.log ≡ self.old.log) }
         ensures goes { GoesOn self.old.pass self.new.pass }
@@ -182,8 +183,9 @@ impl<D: Disk> Cell<D> {
     /// the pass has changed. It returns `Full` only if the log has no room for the part, even as
     /// its only entry, and `Disk` only if the number of faults of the disk has increased or is
     /// 2^64 - 1. After both the node is down and remembers the move. `NoMemory` comes if memory
-    /// runs out, or if the pass has seen 2^31 records or more; then either the node is down and
-    /// remembers the move, or only the pass has changed. A move that is refused posts nothing.
+    /// runs out, or if the pass has seen 2^31 records or more. The node is then down, and remembers
+    /// the move, only if the append to its log had begun: the log is not ready, or has the new
+    /// part. Otherwise only the pass has changed. A move that is refused posts nothing.
     ///
     /// If the pass holds all nodes, it sees no record except the one that it posts.
     pub fn step<W: Wait, G: Gate>(

@@ -4,7 +4,7 @@ use Rattle.gp_msg.specs.Records.{messages_in}
 use Rattle.gp_wire.specs.Known.{records}
 use Rattle.gp_work.specs.declared.moves.Move.{Move}
 use Rattle.gp_work.specs.Moves.{IsBeyond}
-use Rattle.gp_work.proofs.Batching.{none_beyond}
+use Rattle.gp_wire.proofs.Words.{none_beyond}
 use Rattle.gp_work.specs.declared.faults.StepFault.TheVariants.{Waiting, NoMemory}
 use Rattle.gp_cell.specs.Plans.{Names}
 use Rattle.gp_cell.proofs.Posting.{had_later}

@@ -23,4 +23,4 @@ pub returns-clause-nothing : goal.returns-clause-nothing
 returns-clause-nothing g c = let e = c.rise.ensures in step_nothing g.D.Disk.faults c.args.self.now c.rise.new.self e.same.0 e.same.1 c.rise.result e.nothing
 
 pub returns-clause-cause : goal.returns-clause-cause
-returns-clause-cause g c = let e = c.rise.ensures in rise_fault_if g.D.Disk.faults c.args.self.now c.rise.new.self e.same.0 e.same.1 g.D.Disk.content e.content e.limit c.rise.result e.down e.faults e.cause
+returns-clause-cause g c = let e = c.rise.ensures in rise_fault_if g.D.Disk.faults c.args.self.now c.rise.new.self e.same.0 e.same.1 g.D.Disk.content e.content e.limit c.rise.result e.down e.faults e.cause e.hidden
