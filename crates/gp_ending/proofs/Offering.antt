@@ -18,7 +18,7 @@ use Rattle.gp_work.specs.Doing.{ProcessState, have}
 use Rattle.gp_work.specs.Batches.{is_read, times, AreRead}
 use Rattle.gp_work.specs.Jobs.{Done}
 use Rattle.gp_phase.specs.Deeds.{takes_in}
-use Rattle.gp_phase.proofs.Deeds.{mid_false, does_up}
+use Rattle.gp_phase.proofs.Deeds.{mid_false, offered_plain}
 use Rattle.gp_round.specs.Counts.{Counts}
 use Rattle.gp_msg.specs.Messages.{EpochPart}
 use Rattle.gp_vlog.specs.Logs.{LogState}
@@ -36,17 +36,6 @@ abbrev pub events_of : Node → List Move → List Event
 events_of n ms = map (λ m. event_of n m) ms
 
 -- ---- moves that are offers
-
--- offers that were made, and none is replaced by a fall
-pub offered_plain : (n : Node) (h : ℕ) (ms : List Move) (es : List Event) → Each (λ m. is_offer m ≡ true) ms → Does n h ms es false false → es ≡ events_of n ms
-offered_plain n h [] es o t = t.0
-offered_plain n h (Offer d ∷ ms) es o (first, rest, mid, split, inl one, more) =
-    split ∙ (λ i. one.0 i ++ offered_plain n h ms rest o.1 (subst (λ x. Does n h ms rest x false) one.1 more) i)
-offered_plain n h (Offer d ∷ ms) es o (first, rest, mid, split, inr (inl one), more) = absurd one.2
-offered_plain n h (Offer d ∷ ms) es o (first, rest, mid, split, inr (inr one), more) =
-    absurd (let fallen : false ≡ true = does_up n h ms rest false (subst (λ x. Does n h ms rest x false) one.3 more) in cc)
-offered_plain n h (Begin r ∷ ms) es o t = absurd (let wrong : false ≡ true = o.0 in cc)
-offered_plain n h (Take k ∷ ms) es o t = absurd (let wrong : false ≡ true = o.0 in cc)
 
 pub are_offers : (n : Node) (ms : List Move) → Each (λ m. is_offer m ≡ true) ms → Each IsOffer (events_of n ms)
 are_offers n [] o = tt
@@ -99,7 +88,7 @@ pub offers_made : (p : ProcessState) (first : List Move) (cursor : ℕ) (q : Pro
     → own_events p.node p.list ≡ [] → Done p false first cursor q false behind → own_events q.node q.list ≡ events_of p.node first
 offers_made p first cursor q behind e o none d =
     let mid : d.mid ≡ false = mid_false p.node d.ks d.took d.mid d.takes in
-    let made : d.made ≡ events_of p.node first = offered_plain p.node (have p) first d.made o (subst (λ m. Does p.node (have p) first d.made false m) mid d.moves) in
+    let made : d.made ≡ events_of p.node first = offered_plain p.node (have p) (have q) first d.made o (subst (λ m. Does p.node (have p) (have q) first d.made false m) mid d.moves) in
     let took : d.took ≡ [] = (subst (λ ks. Takes p.node ks d.took d.mid false) (none_read p.node (messages_in q.list) cursor behind d.ks e d.read) d.takes).0 in
     d.posts ∙ (λ i. none i ++ (made i ++ took i)) ∙ append-nil (events_of p.node first)
 

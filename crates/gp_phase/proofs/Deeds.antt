@@ -8,9 +8,10 @@ use Rattle.gp_msg.specs.declared.event.Event.TheVariants.{Take}
 use Rattle.gp_msg.specs.Records.{messages_in}
 use Rattle.gp_work.specs.declared.moves.Move.{Move}
 use Rattle.gp_work.specs.declared.moves.Move.TheVariants as move
+use Rattle.gp_wire.specs.Lists.{Each}
 use Rattle.gp_wire.specs.Own.{own_events}
 use Rattle.gp_work.specs.Doing.{ProcessState, have, Goes, Posted}
-use Rattle.gp_work.specs.Moves.{event_of, Does, Takes, HasOffer}
+use Rattle.gp_work.specs.Moves.{event_of, is_offer, Does, Takes, HasOffer}
 use Rattle.gp_work.specs.Batches.{AreRead}
 use Rattle.gp_work.specs.Jobs.{Done}
 use Rattle.gp_work.proofs.Stretches.{messages_grown, have_grown}
@@ -42,19 +43,29 @@ pub mid_false : (n : Node) (ks : List ℕ) (es : List Event) (m : Bool) → Take
 mid_false n ks es true t = absurd (let fallen : false ≡ true = takes_up n ks es false t in cc)
 mid_false n ks es false t = refl
 
-pub does_up : (n : Node) (h : ℕ) (ms : List Move) (es : List Event) (g : Bool) → Does n h ms es true g → g ≡ true
-does_up n h [] es g t = t.1
-does_up n h (m ∷ ms) es g (first, rest, mid, split, inl one, more) = does_up n h ms rest g (subst (λ x. Does n h ms rest x g) one.1 more)
-does_up n h (m ∷ ms) es g (first, rest, mid, split, inr (inl one), more) = does_up n h ms rest g (subst (λ x. Does n h ms rest x g) one.1 more)
-does_up n h (m ∷ ms) es g (first, rest, mid, split, inr (inr one), more) = does_up n h ms rest g (subst (λ x. Does n h ms rest x g) one.3 more)
+pub does_up : (n : Node) (h u : ℕ) (ms : List Move) (es : List Event) (g : Bool) → Does n h u ms es true g → g ≡ true
+does_up n h u [] es g t = t.1
+does_up n h u (m ∷ ms) es g (first, rest, mid, seen, up, split, inl one, more) = does_up n seen u ms rest g (subst (λ x. Does n seen u ms rest x g) one.1 more)
+does_up n h u (m ∷ ms) es g (first, rest, mid, seen, up, split, inr (inl one), more) = does_up n seen u ms rest g (subst (λ x. Does n seen u ms rest x g) one.1 more)
+does_up n h u (m ∷ ms) es g (first, rest, mid, seen, up, split, inr (inr one), more) = does_up n seen u ms rest g (subst (λ x. Does n seen u ms rest x g) one.3 more)
 
 -- rounds are begun, one after another
-pub begun_plain : (n : Node) (h : ℕ) (rs : List Round) (es : List Event) → Does n h (begin_moves rs) es false false → es ≡ begins n rs
-begun_plain n h [] es t = t.0
-begun_plain n h (r ∷ rs) es (first, rest, mid, split, inl one, more) =
-    split ∙ (λ i. one.0 i ++ begun_plain n h rs rest (subst (λ x. Does n h (begin_moves rs) rest x false) one.1 more) i)
-begun_plain n h (r ∷ rs) es (first, rest, mid, split, inr (inl one), more) = absurd one.2
-begun_plain n h (r ∷ rs) es (first, rest, mid, split, inr (inr one), more) = absurd (let fallen : false ≡ true = does_up n h (begin_moves rs) rest false (subst (λ x. Does n h (begin_moves rs) rest x false) one.3 more) in cc)
+pub begun_plain : (n : Node) (h u : ℕ) (rs : List Round) (es : List Event) → Does n h u (begin_moves rs) es false false → es ≡ begins n rs
+begun_plain n h u [] es t = t.0
+begun_plain n h u (r ∷ rs) es (first, rest, mid, seen, up, split, inl one, more) =
+    split ∙ (λ i. one.0 i ++ begun_plain n seen u rs rest (subst (λ x. Does n seen u (begin_moves rs) rest x false) one.1 more) i)
+begun_plain n h u (r ∷ rs) es (first, rest, mid, seen, up, split, inr (inl one), more) = absurd one.2
+begun_plain n h u (r ∷ rs) es (first, rest, mid, seen, up, split, inr (inr one), more) = absurd (let fallen : false ≡ true = does_up n seen u (begin_moves rs) rest false (subst (λ x. Does n seen u (begin_moves rs) rest x false) one.3 more) in cc)
+
+-- offers are made, one after another
+pub offered_plain : (n : Node) (h u : ℕ) (ms : List Move) (es : List Event) → Each (λ m. is_offer m ≡ true) ms → Does n h u ms es false false → es ≡ map (event_of n) ms
+offered_plain n h u [] es are t = t.0
+offered_plain n h u (m ∷ ms) es are (first, rest, mid, seen, up, split, inl one, more) =
+    split ∙ (λ i. one.0 i ++ offered_plain n seen u ms rest are.1 (subst (λ x. Does n seen u ms rest x false) one.1 more) i)
+offered_plain n h u (move.Offer d ∷ ms) es are (first, rest, mid, seen, up, split, inr (inl one), more) = absurd one.2
+offered_plain n h u (move.Begin r ∷ ms) es are (first, rest, mid, seen, up, split, inr (inl one), more) = absurd (let wrong : false ≡ true = are.0 in cc)
+offered_plain n h u (move.Take k ∷ ms) es are (first, rest, mid, seen, up, split, inr (inl one), more) = absurd (let wrong : false ≡ true = are.0 in cc)
+offered_plain n h u (m ∷ ms) es are (first, rest, mid, seen, up, split, inr (inr one), more) = absurd (let fallen : false ≡ true = does_up n seen u ms rest false (subst (λ x. Does n seen u ms rest x false) one.3 more) in cc)
 
 -- ---- what these events take, and what else they are
 
@@ -99,7 +110,7 @@ tidy_on p cursor deeds rs q behind t go d = record {
     mid = mid_false p.node d.ks d.took d.mid d.takes
 
     made : d.made ≡ begins p.node rs
-    made = begun_plain p.node (have p) rs d.made (subst (λ m. Does p.node (have p) (begin_moves rs) d.made false m) mid d.moves)
+    made = begun_plain p.node (have p) (have q) rs d.made (subst (λ m. Does p.node (have p) (have q) (begin_moves rs) d.made false m) mid d.moves)
 
     took : d.took ≡ map (λ k. Take p.node k) d.ks
     took = takes_plain p.node d.ks d.took (subst (λ m. Takes p.node d.ks d.took m false) mid d.takes)
@@ -119,7 +130,7 @@ tidy_on p cursor deeds rs q behind t go d = record {
 pub done_made : (p : ProcessState) (rs : List Round) (cursor : ℕ) (q : ProcessState) (behind : ℕ) → Done p false (begin_moves rs) cursor q false behind → (took : List Event) × Posted p q (begins p.node rs ++ took)
 done_made p rs cursor q behind d =
     let mid : d.mid ≡ false = mid_false p.node d.ks d.took d.mid d.takes in
-    let made : d.made ≡ begins p.node rs = begun_plain p.node (have p) rs d.made (subst (λ m. Does p.node (have p) (begin_moves rs) d.made false m) mid d.moves) in
+    let made : d.made ≡ begins p.node rs = begun_plain p.node (have p) (have q) rs d.made (subst (λ m. Does p.node (have p) (have q) (begin_moves rs) d.made false m) mid d.moves) in
     (d.took, subst (λ es. Posted p q (es ++ d.took)) made d.posts)
 
 -- a look changes nothing of it

@@ -28,7 +28,7 @@ use Rattle.gp_cell.specs.Cells.{CellState, Keeps}
 use Rattle.gp_cell.specs.Refusals.{faults_of}
 use Rattle.gp_cell.specs.Working.{process_of, causes_of, is_up}
 use Rattle.gp_node.specs.Phases.{IsReadyJob, IsWorkedJob}
-use Rattle.gp_phase.proofs.Deeds.{does_up}
+use Rattle.gp_phase.proofs.Deeds.{offered_plain}
 use Rattle.gp_phase.proofs.Phasing.{done_of}
 use Rattle.gp_seats.specs.Seats.{IsNewAt}
 use Rattle.gp_seats.specs.Offering.{is_proposer, moves_of, given_to, IsDone, HasOffered}
@@ -73,16 +73,6 @@ moves_more n (x ∷ os) o = ap (λ l. cond (is_proposer n x.0) (move.Offer x.1 �
 
 -- ---- what a node posts
 
--- offers are made, one after another
-pub offered_plain : (n : Node) (h : ℕ) (ms : List Move) (es : List Event) → Each (λ m. is_offer m ≡ true) ms → Does n h ms es false false → es ≡ map (event_of n) ms
-offered_plain n h [] es are t = t.0
-offered_plain n h (m ∷ ms) es are (first, rest, mid, split, inl one, more) =
-    split ∙ (λ i. one.0 i ++ offered_plain n h ms rest are.1 (subst (λ x. Does n h ms rest x false) one.1 more) i)
-offered_plain n h (move.Offer d ∷ ms) es are (first, rest, mid, split, inr (inl one), more) = absurd one.2
-offered_plain n h (move.Begin r ∷ ms) es are (first, rest, mid, split, inr (inl one), more) = absurd (let wrong : false ≡ true = are.0 in cc)
-offered_plain n h (move.Take k ∷ ms) es are (first, rest, mid, split, inr (inl one), more) = absurd (let wrong : false ≡ true = are.0 in cc)
-offered_plain n h (m ∷ ms) es are (first, rest, mid, split, inr (inr one), more) = absurd (let fallen : false ≡ true = does_up n h ms rest false (subst (λ x. Does n h ms rest x false) one.3 more) in cc)
-
 reads_none : (p : ℕ) (o : Option Msg) → cond {A = ℕ} (is_read (node.Proposer p) o) 1 0 ≡ 0
 reads_none p None = refl
 reads_none p (Some m) = refl
@@ -105,7 +95,7 @@ posts_offers p i ms cursor q behind e are d = d.posts ∙ (λ k. own_events p.no
     none = subst (λ ks. Takes p.node ks d.took d.mid false) (reads_nothing i p.node _ cursor behind d.ks e d.read) d.takes
 
     made : d.made ≡ map (event_of p.node) ms
-    made = offered_plain p.node (have p) ms d.made are (subst (λ m. Does p.node (have p) ms d.made false m) (sym none.1) d.moves)
+    made = offered_plain p.node (have p) (have q) ms d.made are (subst (λ m. Does p.node (have p) (have q) ms d.made false m) (sym none.1) d.moves)
 
 -- ---- a proposer has no disk that could fail
 

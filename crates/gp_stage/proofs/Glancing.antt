@@ -15,7 +15,7 @@ use Rattle.gp_wire.specs.Passes.{HadTurn, nothing}
 use Rattle.gp_wire.proofs.Seen.{nothing_new}
 use Rattle.gp_cell.specs.Cells.{CellState, IsSameBut}
 use Rattle.gp_cell.proofs.Going.{holds_all}
-use Rattle.gp_work.proofs.Batching.{none_beyond}
+use Rattle.gp_wire.proofs.Words.{none_beyond}
 use Rattle.gp_stage.specs.Gathered.{HasLooked}
 use Rattle.gp_stage.proofs.Places.{same_value}
 

@@ -12,7 +12,7 @@ use Rattle.gp_work.specs.Batches.{IsBatch, order, AreRead}
 use Rattle.gp_work.specs.Jobs.{Stretch, CountsSteps, MovesOn, turn_after, MadeAll, MadeSome, TookAll, TookSome, TookStanding, Done, Broken}
 use Rattle.gp_work.proofs.Stretches.{messages_grown, have_grown, posted_on, posted_none, posted_same, risen_on, stretch_same, stretch_on}
 use Rattle.gp_work.proofs.Counting.{turn_append}
-use Rattle.gp_work.proofs.Making.{TookSoFar, takes_on, took_some_more}
+use Rattle.gp_work.proofs.Making.{TookSoFar, does_to, takes_on, took_some_more}
 use Rattle.gp_work.proofs.Batching.{batch_read, read_none, read_on, read_stays, stands}
 
 -- what was taken so far, from a on up to b, and the count of steps before and now
@@ -121,14 +121,14 @@ moved_on p f a q g b before now r t go = record {
 -- ---- the moves, and then what stands
 
 pub done_is : (p : ProcessState) (f : Bool) (first : List Move) (q : ProcessState) (g : Bool) (cursor : ℕ) (r : ProcessState) (h : Bool) (behind : ℕ)
-    → Stretch p f q g → MadeAll p f first q g → TookStanding q g cursor r h behind → Done p f first cursor r h behind
-done_is p f first q g cursor r h behind s m t = record {
+    → Stretch p f q g → MadeAll p f first q g → Goes q r → TookStanding q g cursor r h behind → Done p f first cursor r h behind
+done_is p f first q g cursor r h behind s m go t = record {
   mid = g;
   made = m.es;
   took = t.es;
   ks = t.ks;
   posts = posted_on p q r m.es t.es m.posts t.posts;
-  moves = m.all;
+  moves = does_to p.node (have p) (have q) (have r) first m.es f g (have_grown q r go) m.all;
   takes = subst (λ n. Takes n t.ks t.es g h) s.goes.node t.all;
   read = subst (λ n. AreRead n (messages_in r.list) cursor behind t.ks) s.goes.node t.read;
   risen = risen_on p.turn q.turn r.turn s.goes.turn t.risen;
@@ -138,8 +138,8 @@ done_is p f first q g cursor r h behind s m t = record {
   up = t.up;
 }
 
-pub broken_after : (p : ProcessState) (f : Bool) (first : List Move) (q : ProcessState) (g : Bool) (r : ProcessState) → Stretch p f q g → MadeAll p f first q g → TookSome q g r → Broken p f first r
-broken_after p f first q g r s m t = record {
+pub broken_after : (p : ProcessState) (f : Bool) (first : List Move) (q : ProcessState) (g : Bool) (r : ProcessState) → Stretch p f q g → MadeAll p f first q g → Goes q r → TookSome q g r → Broken p f first r
+broken_after p f first q g r s m go t = record {
   mid = g;
   last = t.mid;
   done = first;
@@ -149,7 +149,7 @@ broken_after p f first q g r s m t = record {
   took = t.es;
   ks = t.ks;
   posts = posted_on p q r m.es t.es m.posts t.posts;
-  moves = m.all;
+  moves = does_to p.node (have p) (have q) (have r) first m.es f g (have_grown q r go) m.all;
   takes = subst (λ n. Takes n t.ks t.es g t.mid) s.goes.node t.some;
   order = inr refl;
 }

@@ -54,7 +54,7 @@ pub record Done (p : ProcessState) (f : Bool) (first : List Move) (cursor : ℕ)
   pub ks : List ℕ
   pub posts : Posted p q (made ++ took)
   -- the moves of first, in their order
-  pub moves : Does p.node (have p) first made f mid
+  pub moves : Does p.node (have p) (have q) first made f mid
   -- each message that the node reads, from its cursor before to below its cursor after
   pub takes : Takes p.node ks took mid g
   pub read : AreRead p.node (messages_in q.list) cursor behind ks
@@ -75,7 +75,7 @@ pub record Broken (p : ProcessState) (f : Bool) (first : List Move) (q : Process
   pub took : List Event
   pub ks : List ℕ
   pub posts : Posted p q (made ++ took)
-  pub moves : Does p.node (have p) done made f mid
+  pub moves : Does p.node (have p) (have q) done made f mid
   pub takes : Takes p.node ks took mid last
   -- no message was taken before the moves were made
   pub order : (ks ≡ []) ⊎ (undone ≡ [])
@@ -89,14 +89,14 @@ Ends causes p f first cursor q g behind (Some fault) = Broken p f first q × Cau
 pub record MadeOne (p : ProcessState) (f : Bool) (m : Move) (q : ProcessState) (g : Bool) : Type 0 where
   pub es : List Event
   pub posts : Posted p q es
-  pub one : One p.node (have p) m es f g
+  pub one : One p.node (have q) m es f g
   pub up : q.up ≡ true
 
 -- the same for all moves
 pub record MadeAll (p : ProcessState) (f : Bool) (ms : List Move) (q : ProcessState) (g : Bool) : Type 0 where
   pub es : List Event
   pub posts : Posted p q es
-  pub all : Does p.node (have p) ms es f g
+  pub all : Does p.node (have p) (have q) ms es f g
   pub up : q.up ≡ true
 
 -- the same for the first moves
@@ -107,7 +107,7 @@ pub record MadeSome (p : ProcessState) (f : Bool) (ms : List Move) (q : ProcessS
   pub es : List Event
   pub mid : Bool
   pub posts : Posted p q es
-  pub some : Does p.node (have p) done es f mid
+  pub some : Does p.node (have p) (have q) done es f mid
 
 -- each of these messages was taken, or was replaced by a crash
 pub record TookAll (p : ProcessState) (f : Bool) (ks : List ℕ) (q : ProcessState) (g : Bool) : Type 0 where

@@ -43,17 +43,18 @@ IsBeyond n (Offer d) = ⊥
 IsBeyond n (Begin r) = ⊥
 IsBeyond n (Take k) = n ≤ k
 
--- a move was made; or it was left out, because the message that it takes was not sent; or the node crashed instead, which it does at most once
+-- a move was made; or it was left out, because the message that it takes is not among those that the node had seen at the end of this step; or the node crashed instead, which it does at most once
 abbrev pub One : Node → ℕ → Move → List Event → Bool → Bool → Type 0
-One n have m es f g =
+One n seen m es f g =
     ((es ≡ event_of n m ∷ []) × (g ≡ f))
-    ⊎ ((es ≡ []) × (g ≡ f) × IsBeyond have m)
+    ⊎ ((es ≡ []) × (g ≡ f) × IsBeyond seen m)
     ⊎ ((kept : Option Kept) × (es ≡ event.Fall n kept ∷ []) × (f ≡ false) × (g ≡ true))
 
--- each of the moves, in their order, was made, was left out, or was replaced by a crash; `have` messages were sent at first
-abbrev pub Does : Node → ℕ → List Move → List Event → Bool → Bool → Type 0
-Does n have [] es f g = (es ≡ []) × (g ≡ f)
-Does n have (m ∷ ms) es f g = (first : List Event) × (rest : List Event) × (mid : Bool) × (es ≡ first ++ rest) × One n have m first f mid × Does n have ms rest mid g
+-- each of the moves, in their order, was made, was left out, or was replaced by a crash; the node had seen `before` messages at first, `seen` after each step, and `now` at the end
+abbrev pub Does : Node → ℕ → ℕ → List Move → List Event → Bool → Bool → Type 0
+Does n before now [] es f g = (es ≡ []) × (g ≡ f) × (before ≤ now)
+Does n before now (m ∷ ms) es f g = (first : List Event) × (rest : List Event) × (mid : Bool) × (seen : ℕ) × (before ≤ seen)
+    × (es ≡ first ++ rest) × One n seen m first f mid × Does n seen now ms rest mid g
 
 -- a message was taken, or the node crashed instead
 abbrev pub OneTake : Node → ℕ → Event → Bool → Bool → Type 0
