@@ -25,7 +25,7 @@ use Rattle.gp_text.specs.Offering.{OffersReading, Offered, RefusedAt, offers_rea
 use Rattle.gp_text.specs.OfferAnswers.{Reads}
 use Rattle.gp_script.specs.declared.reason.Reason.{Reason}
 use Rattle.gp_cluster.specs.declared.policy.RoundPolicy.{RoundPolicy}
-use Rattle.gp_cluster.specs.Runs.{IsRunOf, HasLearnedAll, IsQuietOrSettled, EndCause, SomeBroke, EndsWith, HoldParts}
+use Rattle.gp_cluster.specs.Runs.{IsRunOf, HasLearnedAll, IsQuietOrSettled, EndCause, SomeLost, EndsWith, HoldParts}
 use Rattle.gp_cli.specs.declared.ran.Trail.{Trail}
 use Rattle.gp_cli.specs.declared.ran.Trail.TheVariants.{Folded}
 use Rattle.gp_cli.specs.declared.runs.TheConstants.{MOST_READ}
@@ -69,15 +69,15 @@ module _ {D : Type 0} (content : D → Option (List ℕ)) (faults : D → ℕ) w
     rose = h.rose;
   }
 
-  broke_seen : (limit : ℕ) (old new : List D) (at : ℕ) → SomeBroke content faults limit old new at → SomeBroke device_bytes device_faults limit (disk_states content faults old) (disk_states content faults new) at
-  broke_seen limit old new at h = record {
+  lost_seen : (old new : List D) → SomeLost content faults old new → SomeLost device_bytes device_faults (disk_states content faults old) (disk_states content faults new)
+  lost_seen old new h = record {
     place = h.place;
     was = see h.was;
     is = see h.is;
     before = seen_out old h.place h.was h.before;
     after = seen_out new h.place h.is h.after;
     rose = h.rose;
-    breaks = h.breaks;
+    hidden = h.hidden;
   }
 
   parts_seen : (config : Counts) (limit : ℕ) (run : List Entry) (disks : List D) → HoldParts content config limit run disks → HoldParts device_bytes config limit run (disk_states content faults disks)
@@ -93,8 +93,8 @@ module _ {D : Type 0} (content : D → Option (List ℕ)) (faults : D → ℕ) w
   cause_seen config limit old new list end.NoMemory cause = tt
   cause_seen config limit old new list end.Disk cause = rose_seen old new cause
   cause_seen config limit old new list (end.Full size need) cause = cause
-  cause_seen config limit old new list (end.NotLog at) cause = broke_seen limit old new at cause
-  cause_seen config limit old new list end.Changed cause = rose_seen old new cause
+  cause_seen config limit old new list (end.NotLog at) cause = lost_seen old new cause
+  cause_seen config limit old new list end.Changed cause = lost_seen old new cause
 
   -- without a list the cause says nothing of it
   unposted_cause : (config : Counts) (limit : ℕ) (old new : List D) (why : RunEnd) → MayPostNothing why → EndCause content faults config limit old new None why → EndCause content faults config limit old new (Some []) why

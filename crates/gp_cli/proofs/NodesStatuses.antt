@@ -15,7 +15,7 @@ use Rattle.gp_text.proofs.PlayedAlone.{script_alone}
 use Rattle.gp_ending.specs.declared.ends.RunEnd.{RunEnd}
 use Rattle.gp_ending.specs.declared.ends.RunEnd.TheVariants as end
 use Rattle.gp_cluster.specs.declared.policy.RoundPolicy.{RoundPolicy}
-use Rattle.gp_cluster.specs.Runs.{IsRunOf, SomeBroke, IsOverLimit}
+use Rattle.gp_cluster.specs.Runs.{IsRunOf, SomeLost, IsOverLimit}
 use Rattle.gp_cli.specs.declared.runs.TheConstants.{MOST_READ}
 use Rattle.gp_cli.specs.declared.subcommand.Subcommand.{Subcommand}
 use Rattle.gp_cli.specs.declared.subcommand.Subcommand.TheVariants.{Play, Run, Sim, Drive, Log, Upgrade, Audit}
@@ -188,20 +188,20 @@ module _ (before now : Outside) (status : ℕ) (trail : List Record) where
         told = subst (λ (t : List ℕ). Told before.sink now.sink t 7 7 status) has.says told;
       }
 
-  -- a disk whose bytes are no log has failed
-  broke_rose : (limit at : ℕ) → SomeBroke device_bytes device_faults limit before.disks now.disks at → SomeFailed before.disks now.disks
-  broke_rose limit at b = record { place = b.place; was = b.was; is = b.is; before = b.before; after = b.after; rose = b.rose }
+  -- a disk that lost its log has failed
+  lost_rose : SomeLost device_bytes device_faults before.disks now.disks → SomeFailed before.disks now.disks
+  lost_rose b = record { place = b.place; was = b.was; is = b.is; before = b.before; after = b.after; rose = b.rose }
 
-  loses : (words : List (List ℕ)) (why : RunEnd) (config : Counts) (list : List Record) (text : List ℕ) (policy : RoundPolicy) (limit : ℕ) (viewed : Option (List ℕ)) → named words ≡ Some (Run policy limit viewed) → NodesRan policy limit viewed why config list text → ¬ MayPostNothing why → trail ≡ list → SomeFailed before.disks now.disks → TellsChange limit before now status
+  loses : (words : List (List ℕ)) (why : RunEnd) (config : Counts) (list : List Record) (text : List ℕ) (policy : RoundPolicy) (limit : ℕ) (viewed : Option (List ℕ)) → named words ≡ Some (Run policy limit viewed) → NodesRan policy limit viewed why config list text → ¬ MayPostNothing why → trail ≡ list → SomeLost device_bytes device_faults before.disks now.disks → TellsChange before now status
       → LosesLog words before now status trail
-  loses words why config list text policy limit viewed is n not same failed told = record {
+  loses words why config list text policy limit viewed is n not same lost told = record {
     policy = policy;
     limit = limit;
     viewed = viewed;
     is_run = is;
     offers = n.offers;
     whole = whole_run policy limit viewed why config list text n not same;
-    failed = failed;
+    lost = lost;
     told = told;
   }
 
@@ -210,7 +210,7 @@ module _ (before now : Outside) (status : ℕ) (trail : List Record) where
       let by = ran_by (named words) (end.NotLog at) config list text cause in
       let n = by.4 in
       let has = n.has in
-      loses words (end.NotLog at) config list text by.0 by.1 by.2 by.3 n (λ m. elim m [ inl is ↦ cc | inr is ↦ cc ]) same (broke_rose by.1 at has.cause) (inl (at, has.cause, subst (λ (t : List ℕ). Told before.sink now.sink t 8 8 status) has.says told))
+      loses words (end.NotLog at) config list text by.0 by.1 by.2 by.3 n (λ m. elim m [ inl is ↦ cc | inr is ↦ cc ]) same has.cause (inl (at, subst (λ (t : List ℕ). Told before.sink now.sink t 8 8 status) has.says told))
 
   pub changes_log : (words : List (List ℕ)) (config : Counts) (list : List Record) (text : List ℕ) → IsCauseFor (named words) before now (Runs end.Changed config list text) → trail ≡ list → Tells (Runs end.Changed config list text) → LosesLog words before now status trail
   changes_log words config list text cause same told =
@@ -236,8 +236,8 @@ module _ (before now : Outside) (status : ℕ) (trail : List Record) where
       let own : config ≡ offers.config = has.own_config ∙ ap (λ (o : Offers). o.config) (offers_one offers n.offers holds n.read) in
       let over : IsOverLimit config limit (newest_first list) size need = has.cause in
       absurd (room size need (subst (λ (c : Counts). IsOverLimit c limit (newest_first trail) size need) own (subst (λ (rs : List Record). IsOverLimit config limit (newest_first rs) size need) (sym same) over)))
-  ran_completes policy limit viewed offers (end.NotLog at) config list text n same told holds written_well disks_well room = let has = n.has in absurd (disks_well (broke_rose limit at has.cause))
-  ran_completes policy limit viewed offers end.Changed config list text n same told holds written_well disks_well room = let has = n.has in absurd (disks_well has.cause)
+  ran_completes policy limit viewed offers (end.NotLog at) config list text n same told holds written_well disks_well room = let has = n.has in absurd (disks_well (lost_rose has.cause))
+  ran_completes policy limit viewed offers end.Changed config list text n same told holds written_well disks_well room = let has = n.has in absurd (disks_well (lost_rose has.cause))
 
   pub nodes_complete : (policy : RoundPolicy) (limit : ℕ) (viewed : Option (List ℕ)) (offers : Offers) (ending : Ending) → IsCauseFor (Some (Run policy limit viewed)) before now ending → IsListOf ending trail → Tells ending → HoldsOffers offers before.source → ¬ Rose before.source.faults now.source.faults
       → ¬ Rose before.sink.faults now.sink.faults → ¬ SomeFailed before.disks now.disks → HasRoomForNext offers.config limit trail → (status ≡ 0) ⊎ (status ≡ 1)

@@ -32,7 +32,7 @@ use Rattle.gp_cli.specs.Serving.{IsConfig, IsListOf, Ends, HoldsScript, HoldsBad
 use Rattle.gp_cli.specs.LogRuns.{HoldsLog, HoldsRoomyLog, HoldsFullLog, HoldsNoLog, ShowsLog, ShowsTakenOn, HasNoSpace, IsBrokenAt}
 use Rattle.gp_cli.specs.Run.{SomeFailed, HasReadOffers}
 use Rattle.gp_cli.specs.AuditRuns.{HoldsPrinted, HoldsOther, HoldsRun, AuditsRun, RejectsInput}
-use Rattle.gp_cli.specs.NodesRuns.{RefusesOffers, FillsLog, LosesLog, PrintsNodes, HoldsOffers, HoldsBadOffers, HasRoomForNext, OffersAll, AllCommute, RunsInScriptOrder, DiskFailed}
+use Rattle.gp_cli.specs.NodesRuns.{RefusesOffers, FillsLog, LosesLog, PrintsNodes, HoldsOffers, HoldsBadOffers, HasRoomForNext, OffersAll, AllCommute, RunsInScriptOrder, RunsNodes, AllReveal, DiskFailed}
 use Rattle.gp_cli.proofs.Causes.{read_legal}
 use Rattle.gp_cli.proofs.NodesStatuses.{nodes_offered, nodes_left, ran_to_fault, fills_log, breaks_log, changes_log, prints_nodes, nodes_complete, nodes_refuse}
 use Rattle.gp_cli.proofs.Audits.{read_before_legal}
@@ -639,6 +639,13 @@ module _ (words : List (List ℕ)) (before now : Outside) (status : ℕ) (trail 
     | inr (inr is) ↦ inr (
         let ending = Runs end.Changed is.0 is.1 is.2 in
         changes_log before now status trail words is.0 is.1 is.2 (cause_at ending is.3) (list_at ending is.3) (told_at ending is.3))
+  ]
+
+  -- a run of nodes loses no log of a disk that reveals what it holds
+  pub kept : RunsNodes words → AllReveal now.disks → status ≢ 8
+  kept n reveal eight = elim (broken eight) [
+    | inl at ↦ (let none : None ≡ Some at.disk = subst (λ (s : Option Subcommand). disk_used s ≡ Some at.disk) n.3 at.used in cc)
+    | inr loses ↦ reveal loses.lost.place loses.lost.is loses.lost.after loses.lost.hidden
   ]
 
   no_log_for : (k : ℕ) (sub : Option Subcommand) → named words ≡ sub → disk_used sub ≡ Some k → HoldsNoLog k before → ¬ Rose (device_at k before.disks).faults (device_at k now.disks).faults → (status ≡ 8) ⊎ (status ≡ 1)

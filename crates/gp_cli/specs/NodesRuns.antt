@@ -1,5 +1,5 @@
 -- What the statuses say of runs of nodes in threads.
-use Rattle.std.specs.Prelude.{◌≡◌, ◌⊎◌, ◌<◌, ℕ, false, List, [], take, Option, Some, None}
+use Rattle.std.specs.Prelude.{◌≡◌, ◌≢◌, ◌⊎◌, ◌<◌, ℕ, false, List, [], take, slice_get, Option, Some, None}
 use Rattle.std.specs.List.{Contains}
 use Rattle.std.specs.Map.{lookup}
 use Rattle.gp_command.specs.declared.command.Command.{Command}
@@ -19,7 +19,7 @@ use Rattle.gp_text.specs.declared.offers.Offers.{Offers}
 use Rattle.gp_text.specs.Offering.{Offer, Offered, RefusedAt, offers_reading}
 use Rattle.gp_text.specs.Offered.{AreOffered}
 use Rattle.gp_cluster.specs.declared.policy.RoundPolicy.{RoundPolicy}
-use Rattle.gp_cluster.specs.Runs.{IsRunOf, SomeBroke, IsOverLimit}
+use Rattle.gp_cluster.specs.Runs.{IsRunOf, SomeLost, IsOverLimit}
 use Rattle.gp_cli.specs.declared.runs.TheConstants.{MOST_READ}
 use Rattle.gp_cli.specs.declared.subcommand.Subcommand.{Subcommand}
 use Rattle.gp_cli.specs.declared.subcommand.Subcommand.TheVariants.{Play, Run, Sim, Drive, Log, Upgrade, Audit}
@@ -99,12 +99,12 @@ pub record FillsLog (words : List (List ℕ)) (before now : Outside) (status : �
   pub over : IsOverLimit offers.config limit (newest_first trail) size need
   pub told : Told before.sink now.sink (full_text size need) 7 7 status
 
--- what was printed says that a disk held other bytes than those that were written: either they break the format of a log at the place that was printed, or they are another log
-abbrev pub TellsChange : ℕ → Outside → Outside → ℕ → Type 0
-TellsChange limit before now status =
-    ((place : ℕ) × SomeBroke device_bytes device_faults limit before.disks now.disks place × Told before.sink now.sink (broken_text place) 8 8 status) ⊎ Told before.sink now.sink log_changed 8 8 status
+-- what was printed says that a disk held other bytes than those that were written: no log, or another one
+abbrev pub TellsChange : Outside → Outside → ℕ → Type 0
+TellsChange before now status =
+    ((place : ℕ) × Told before.sink now.sink (broken_text place) 8 8 status) ⊎ Told before.sink now.sink log_changed 8 8 status
 
--- `run`, `adapt` or `views` ended because a disk failed, and what was printed says that it then held other bytes than those that were written
+-- `run`, `adapt` or `views` ended because a disk failed that does not reveal what it holds, and what was printed says that it then held other bytes than those that were written
 pub record LosesLog (words : List (List ℕ)) (before now : Outside) (status : ℕ) (trail : List Record) : Type 0 where
   pub policy : RoundPolicy
   pub limit : ℕ
@@ -112,8 +112,16 @@ pub record LosesLog (words : List (List ℕ)) (before now : Outside) (status : �
   pub is_run : named words ≡ Some (Run policy limit viewed)
   pub offers : Offers
   pub whole : OffersAll policy before now trail offers
-  pub failed : SomeFailed before.disks now.disks
-  pub told : TellsChange limit before now status
+  pub lost : SomeLost device_bytes device_faults before.disks now.disks
+  pub told : TellsChange before now status
+
+-- the words name `run`, `adapt` or `views`
+abbrev pub RunsNodes : List (List ℕ) → Type 0
+RunsNodes words = (policy : RoundPolicy) × (limit : ℕ) × (viewed : Option (List ℕ)) × (named words ≡ Some (Run policy limit viewed))
+
+-- each disk reveals what it holds
+abbrev pub AllReveal : List DeviceState → Type 0
+AllReveal disks = (k : ℕ) (s : DeviceState) → slice_get disks k ≡ Some s → s.bytes ≢ None
 
 -- a disk that the subcommand uses failed: the one of `log` and `upgrade`, or some disk of `run`, `adapt` and `views`
 abbrev pub DiskFailed : Option Subcommand → Outside → Outside → Type 0

@@ -14,7 +14,7 @@ ghost use Rattle.gp_cli.specs.ProgramRuns.{ProgramRun, EndsWith, ReadsWell, Writ
 ghost use Rattle.gp_cli.specs.Serving.{Ends, HoldsScript, HoldsBadLine, PlaysWhole, StopsAtLine, PrintsDriven, PrintsSimulated};
 ghost use Rattle.gp_cli.specs.LogRuns.{HoldsLog, HoldsRoomyLog, HoldsFullLog, HoldsNoLog, ShowsLog, ShowsTakenOn, HasNoSpace, IsBrokenAt};
 ghost use Rattle.gp_cli.specs.AuditRuns.{HoldsPrinted, HoldsOther, HoldsRun, AuditsRun, RejectsInput};
-ghost use Rattle.gp_cli.specs.NodesRuns.{HoldsOffers, HoldsBadOffers, HasRoomForNext, CommutesAsInTheScript, OffersAll, PrintsNodes, RefusesOffers, FillsLog, LosesLog, DiskFailed};
+ghost use Rattle.gp_cli.specs.NodesRuns.{HoldsOffers, HoldsBadOffers, HasRoomForNext, CommutesAsInTheScript, OffersAll, PrintsNodes, RefusesOffers, FillsLog, LosesLog, RunsNodes, AllReveal, DiskFailed};
 ghost use Rattle.gp_cli.specs.Program.{Arguments, AreWords, IsProgramCause};
 
 /// With status 0 of `play` and `bank` a script, of the key store for `play` and of accounts for
@@ -123,12 +123,15 @@ pub fn a_log_is_shown()
 /// such bytes lead to no other status there, unless the disk fails or memory runs out. Status 7 of
 /// `run`, `adapt` and `views` means that an event may come next whose durable part needs more bytes
 /// than the limit leaves beside a log without entries. Status 8 of these three means that a disk
-/// failed; the printed line says that its bytes are not a log, or not the log that was written.
+/// failed that does not reveal what it holds; the printed line says that its bytes are not a log, or
+/// not the log that was written. So over disks that reveal what they hold these three never end with
+/// status 8.
 pub fn a_log_was_full_or_broken()
     ensures full { (run : ProgramRun) → run.status ≡ 7
         → HasNoSpace run.words run.before run.now run.status ⊎ FillsLog run.words run.before run.now run.status run.trail }
     ensures broken { (run : ProgramRun) → run.status ≡ 8
         → IsBrokenAt run.words run.before run.now run.status ⊎ LosesLog run.words run.before run.now run.status run.trail }
+    ensures kept { (run : ProgramRun) → RunsNodes run.words → AllReveal run.now.disks → run.status ≢ 8 }
     ensures no_room { (run : ProgramRun) (k : ℕ) → named run.words ≡ Some (Upgrade k) → HoldsFullLog k run.before → KeepsWell k run → EndsWith 7 run }
     ensures no_log { (run : ProgramRun) (k : ℕ) → disk_used (named run.words) ≡ Some k → HoldsNoLog k run.before → KeepsWell k run → EndsWith 8 run }
 {}

@@ -19,9 +19,8 @@ use Rattle.gp_work.specs.declared.faults.JobFault.TheVariants as fault
 use Rattle.gp_work.specs.declared.job.Job.{Job}
 use Rattle.gp_cell.specs.Cells.{CellState}
 use Rattle.gp_cell.specs.Refusals.{IsTooGreat, faults_of}
-use Rattle.gp_cell.specs.Founds.{LogBreaksWhere}
+use Rattle.gp_cell.specs.Downs.{HidesLog}
 use Rattle.gp_cell.specs.Working.{causes_of}
-use Rattle.gp_work.specs.declared.faults.RiseFault.TheVariants as rise
 use Rattle.gp_phase.specs.Phases.{FaultCause}
 use Rattle.gp_ending.specs.Ended.{cell_in, cells_of}
 use Rattle.gp_ending.proofs.Indexing.{each_of, get_each, pick}
@@ -38,12 +37,12 @@ use Rattle.gp_cluster.specs.Cells.{IsKnownCell, SomeCellRose, logs_of}
 use Rattle.gp_cluster.specs.Closing.{IsRunOfCells, IsConclusion, Stood, Settled, SettledTo, StoodTo, Leaves}
 use Rattle.gp_cluster.proofs.Going.{cell_rose}
 use Rattle.gp_cluster.proofs.Settled.{rose_before}
-use Rattle.gp_cluster.specs.Runs.{EndCause, SomeBroke, IsOverLimit}
+use Rattle.gp_cluster.specs.Runs.{EndCause, SomeLost, IsOverLimit}
 use Rattle.gp_cluster.specs.Seated.{IsSeated, HaveLimit, logs_in}
 use Rattle.gp_cluster.proofs.Learning.{core_behind}
 use Rattle.gp_cluster.proofs.Causing.{over_behind, over_whole, in_logs, limits_go}
 use Rattle.gp_cluster.proofs.Failing.{cell_there, first_rose}
-use Rattle.gp_cluster.proofs.Breaking.{log_broke}
+use Rattle.gp_cluster.proofs.Losing.{log_lost}
 use Rattle.gp_cluster.proofs.Outcome as outcome
 
 -- the job whose fault decides
@@ -99,15 +98,15 @@ module _ {D : Type 0} (content : D → Option (List ℕ)) (faults : D → ℕ) (
       rose_of_job : (i : ℕ) (d : Job (CellState D)) (l : i < length jobs) → Rose (faults_of faults (get_or jobs i d).cell.log) (faults_of faults (get_or worked i d).cell.log) → SomeRose faults (map disk_in (logs_in jobs)) (map disk_in logs)
       rose_of_job i d l x = some_rose (subst (SomeCellRose faults before) (sym same) (first_rose faults jobs proposing worked offered size as_many i d l x))
 
-      -- the disk of a job whose bytes break the format
-      broke_of_job : (i : ℕ) (d : Job (CellState D)) (l : i < length jobs) (at : ℕ) → Rose (faults_of faults (get_or jobs i d).cell.log) (faults_of faults (get_or worked i d).cell.log) → LogBreaksWhere content (get_or worked i d).cell.log (rise.NotLog at)
-          → SomeBroke content faults limit (map disk_in (logs_in jobs)) (map disk_in logs) at
-      broke_of_job i d l at x b =
+      -- the disk of a job, which does not reveal what it holds
+      lost_of_job : (i : ℕ) (d : Job (CellState D)) (l : i < length jobs) → Rose (faults_of faults (get_or jobs i d).cell.log) (faults_of faults (get_or worked i d).cell.log) → HidesLog content (get_or worked i d).cell.log
+          → SomeLost content faults (map disk_in (logs_in jobs)) (map disk_in logs)
+      lost_of_job i d l x b =
           let there : slice_get left.after i ≡ Some (get_or worked i d).cell = ap (λ cs. slice_get cs i) same ∙ get-append_left (cells_of worked) (cells_of offered) i (let n = length-map worked cell_in in omega (arith, l, size, n)) ∙ cell_there worked i d (omega (arith, l, size)) in
           let earlier : slice_get before i ≡ Some (get_or jobs i d).cell = get-append_left (cells_of jobs) (cells_of proposing) i (let n = length-map jobs cell_in in omega (arith, l, n)) ∙ cell_there jobs i d l in
-          subst (λ xs. SomeBroke content faults limit (map disk_in xs) (map disk_in logs) at) before_logs (subst (λ ys. SomeBroke content faults limit (map disk_in (logs_of before)) (map disk_in ys) at) (sym left.logs_are)
-          (log_broke content faults limit at before left.after (outcome.go_on content faults config wire offers jobs proposing worked offered s size carried as_many has known_worked known_offered end decided known_offers some e posted logs left)
-          i (get_or jobs i d).cell (get_or worked i d).cell earlier there x (limit_at i (get_or worked i d).cell there) b))
+          subst (λ xs. SomeLost content faults (map disk_in xs) (map disk_in logs)) before_logs (subst (λ ys. SomeLost content faults (map disk_in (logs_of before)) (map disk_in ys)) (sym left.logs_are)
+          (log_lost content faults before left.after (outcome.go_on content faults config wire offers jobs proposing worked offered s size carried as_many has known_worked known_offered end decided known_offers some e posted logs left)
+          i (get_or jobs i d).cell (get_or worked i d).cell earlier there x b))
 
       over_of_job : (i : ℕ) (d : Job (CellState D)) → i < length worked → (needs seen : ℕ) (x : Event) → IsTooGreat (get_or worked i d).cell x seen needs → IsOverLimit config limit (newest_first list) seen needs
       over_of_job i d l needs seen x g =
@@ -120,8 +119,8 @@ module _ {D : Type 0} (content : D → Option (List ℕ)) (faults : D → ℕ) (
       by_fault i d l fault.NoMemory h = tt
       by_fault i d l fault.Disk h = rose_of_job i d l h
       by_fault i d l (fault.Full seen needs) h = over_of_job i d (omega (arith, l, size)) needs seen h.0 h.1
-      by_fault i d l (fault.NotLog at) h = broke_of_job i d l at h.0 h.1
-      by_fault i d l (fault.Changed found) h = rose_of_job i d l h.0
+      by_fault i d l (fault.NotLog at) h = lost_of_job i d l h.0 h.1.1
+      by_fault i d l (fault.Changed found) h = lost_of_job i d l h.0 h.1.4
 
       by_decision : (m : RunEnd) → IsDecided worked m → Cause (Some list) m
       by_decision m (inl is) = subst (Cause (Some list)) (sym is.0) tt

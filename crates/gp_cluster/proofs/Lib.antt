@@ -15,7 +15,7 @@ pub mod Causing
 pub mod Outcome
 pub mod Carried
 pub mod Failing
-pub mod Breaking
+pub mod Losing
 pub mod Sitting
 pub mod Quieting
 pub mod Calming

@@ -27,10 +27,10 @@ use Rattle.gp_ending.specs.declared.ends.RunEnd.{RunEnd}
 use Rattle.gp_ending.specs.declared.ends.RunEnd.TheVariants.{Learned, NoMemory, Disk, Full, NotLog, Changed}
 use Rattle.gp_cluster.specs.Cells.{LogGoes}
 use Rattle.gp_seats.proofs.Sitting.{all_of_each}
-use Rattle.gp_cluster.specs.Runs.{EndCause, SomeBroke, EndsWith, HoldParts, IsQuietOrSettled}
+use Rattle.gp_cluster.specs.Runs.{EndCause, SomeLost, EndsWith, HoldParts, IsQuietOrSettled}
 use Rattle.gp_cluster.specs.declared.policy.RoundPolicy.{RoundPolicy}
 use Rattle.gp_cluster.specs.Seated.{RunsFrom, HaveLimit, HoldLogs}
-use Rattle.gp_cluster.proofs.Breaking.{broke_there}
+use Rattle.gp_cluster.proofs.Losing.{lost_there}
 
 -- ---- new logs
 
@@ -83,15 +83,15 @@ module _ {D : Type 0} (content : D → Option (List ℕ)) (image : D → List �
     rose = subst (λ n. Rose n (faults r.is)) m.steady r.rose;
   }
 
-  some_broke : (disks : List D) (first : List (LogState D)) (last : List D) (at : ℕ) → Made disks first → SomeBroke content faults limit (map disk_in first) last at → SomeBroke content faults limit disks last at
-  some_broke disks first last at z r = let m = made_of disks first z r.place r.was r.before in record {
+  some_lost : (disks : List D) (first : List (LogState D)) (last : List D) → Made disks first → SomeLost content faults (map disk_in first) last → SomeLost content faults disks last
+  some_lost disks first last z r = let m = made_of disks first z r.place r.was r.before in record {
     place = r.place;
     was = m.disk;
     is = r.is;
     before = m.there;
     after = r.after;
     rose = subst (λ n. Rose n (faults r.is)) m.steady r.rose;
-    breaks = r.breaks;
+    hidden = r.hidden;
   }
 
 -- ---- what holds of a log holds of its disk
@@ -111,14 +111,14 @@ module _ {D : Type 0} (content : D → Option (List ℕ)) (config : Counts) (lim
 -- ---- causes
 
 module _ {D : Type 0} (content : D → Option (List ℕ)) (faults : D → ℕ) (config : Counts) (limit : ℕ) where
-  cause_on : (old new old' new' : List D) (posted : Option (List Record)) → (SomeRose faults old new → SomeRose faults old' new') → ((at : ℕ) → SomeBroke content faults limit old new at → SomeBroke content faults limit old' new' at) → (end : RunEnd)
+  cause_on : (old new old' new' : List D) (posted : Option (List Record)) → (SomeRose faults old new → SomeRose faults old' new') → (SomeLost content faults old new → SomeLost content faults old' new') → (end : RunEnd)
       → EndCause content faults config limit old new posted end → EndCause content faults config limit old' new' posted end
   cause_on old new old' new' posted f b Learned c = tt
   cause_on old new old' new' posted f b NoMemory c = tt
   cause_on old new old' new' posted f b Disk c = f c
   cause_on old new old' new' posted f b (Full size needed) c = c
-  cause_on old new old' new' posted f b (NotLog at) c = b at c
-  cause_on old new old' new' posted f b Changed c = f c
+  cause_on old new old' new' posted f b (NotLog at) c = b c
+  cause_on old new old' new' posted f b Changed c = b c
 
 -- ---- the run of the disks
 
@@ -143,8 +143,8 @@ module _ {D : Type 0} (policy : RoundPolicy) (content : D → Option (List ℕ))
   rose : SomeRose faults (map disk_in first) (map disk_in last) → SomeRose faults disks back
   rose r = (fell_there faults config disks (map disk_in last) lending.Disk acceptors coordinators twelve (fell, some_rose content image faults limit (lent_of config disks) first (map disk_in last) made r)).1
 
-  broke : (at : ℕ) → SomeBroke content faults limit (map disk_in first) (map disk_in last) at → SomeBroke content faults limit disks back at
-  broke at r = broke_there content faults limit at config disks (map disk_in last) acceptors coordinators twelve count_back (some_broke content image faults limit (lent_of config disks) first (map disk_in last) at made r)
+  lost : SomeLost content faults (map disk_in first) (map disk_in last) → SomeLost content faults disks back
+  lost r = lost_there content faults config disks (map disk_in last) acceptors coordinators twelve count_back (some_lost content image faults limit (lent_of config disks) first (map disk_in last) made r)
 
   limits : HaveLimit limit first
   limits = have_limit content image faults limit (lent_of config disks) first made
@@ -159,7 +159,7 @@ module _ {D : Type 0} (policy : RoundPolicy) (content : D → Option (List ℕ))
   quiet l calm = run.quiet l (λ r. calm (rose r))
 
   pub cause : EndCause content faults config limit disks back posted end
-  cause = cause_on content faults config limit (map disk_in first) (map disk_in last) disks back posted rose broke end (run.cause limit limits)
+  cause = cause_on content faults config limit (map disk_in first) (map disk_in last) disks back posted rose lost end (run.cause limit limits)
 
   named_within : (list : List Record) (ns : List Node) (logs : List (LogState D)) → AllZip (λ n log. HoldsPart content config limit (newest_first list) n log.disk) ns logs → (k : ℕ) (n : Node) → slice_get ns k ≡ Some n → k < length logs
   named_within list [] logs z k n e = absurd (let wrong : None ≡ Some n = e in cc)

@@ -1,5 +1,5 @@
 -- The result of a run of nodes in threads.
-use Rattle.std.specs.Prelude.{true, ◌≡◌, ◌≢◌, ◌⊎◌, ◌<◌, ℕ, ◌+◌, nat_eq, List, Option, Some, None, IfSome, slice_get}
+use Rattle.std.specs.Prelude.{true, ◌≡◌, ◌≢◌, ◌⊎◌, ◌<◌, ℕ, ◌+◌, List, Option, Some, None, IfSome, slice_get}
 use Rattle.gp_command.specs.Views.{DraftView}
 use Rattle.gp_round.specs.Counts.{Counts}
 use Rattle.gp_msg.specs.declared.node.Node.{Node}
@@ -14,8 +14,6 @@ use Rattle.gp_run.specs.Legal.{Legal, fits}
 use Rattle.gp_run.specs.Runs.{newest_first}
 use Rattle.gp_vlog.specs.Bodies.{LogEntry, need}
 use Rattle.gp_vlog.specs.Logs.{HoldsEntries}
-use Rattle.gp_vlog.specs.Reading.{BreaksAt}
-use Rattle.gp_vlog.specs.declared.fault.OpenFault.TheVariants as opening_fault
 use Rattle.gp_cell.specs.Cores.{opening, acts, core_at, part_in}
 use Rattle.gp_cell.specs.Crashes.{last_part}
 use Rattle.gp_driver.specs.Settling.{settle}
@@ -57,24 +55,24 @@ pub record IsOverLimit (config : Counts) (limit : ℕ) (run : List Entry) (size 
   pub its_need : needed ≡ need None part
   pub great : limit < size + needed
 
--- the count of faults of some disk rose, and the bytes of that disk, if it reveals them, break the format of a log of this limit at this place, and at no smaller one
-pub record SomeBroke {D : Type 0} (content : D → Option (List ℕ)) (faults : D → ℕ) (limit : ℕ) (old new : List D) (at : ℕ) : Type 0 where
+-- the count of faults of some disk rose, and the disk does not reveal what it holds
+pub record SomeLost {D : Type 0} (content : D → Option (List ℕ)) (faults : D → ℕ) (old new : List D) : Type 0 where
   pub place : ℕ
   pub was : D
   pub is : D
   pub before : slice_get old place ≡ Some was
   pub after : slice_get new place ≡ Some is
   pub rose : Rose (faults was) (faults is)
-  pub breaks : BreaksAt (nat_eq limit) (content is) (opening_fault.NotLog at)
+  pub hidden : content is ≡ None
 
--- why a run ended in this way: a disk failed, or its bytes had changed after a failure, only if the count of faults of some disk rose; its bytes were no log only if they broke the format at that place; and a log was full only if a part was too great for it
+-- why a run ended in this way: a disk failed only if the count of faults of some disk rose; its bytes were no log after a failure, or another log, only if that disk does not reveal what it holds; and a log was full only if a part was too great for it
 abbrev pub EndCause : {D : Type 0} → (D → Option (List ℕ)) → (D → ℕ) → Counts → ℕ → List D → List D → Option (List Record) → RunEnd → Type 0
 EndCause content faults config limit old new posted Learned = Unit {0}
 EndCause content faults config limit old new posted NoMemory = Unit {0}
 EndCause content faults config limit old new posted Disk = SomeRose faults old new
 EndCause content faults config limit old new posted (Full size needed) = IfSome posted (λ list. IsOverLimit config limit (newest_first list) size needed)
-EndCause content faults config limit old new posted (NotLog at) = SomeBroke content faults limit old new at
-EndCause content faults config limit old new posted Changed = SomeRose faults old new
+EndCause content faults config limit old new posted (NotLog at) = SomeLost content faults old new
+EndCause content faults config limit old new posted Changed = SomeLost content faults old new
 
 -- these bytes are a log of this limit whose last entry has this part; a log without entries counts as one with the first part
 abbrev pub EndsWith : ℕ → Option EpochPart → Option EpochPart → List ℕ → Type 0
