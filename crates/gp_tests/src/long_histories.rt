@@ -1,8 +1,7 @@
 //! Histories of 256 commands, in both representations.
-use crate::alphabet::touching;
 use crate::outcome::holds;
 use gp_bounds::{compatible, join, meet};
-use gp_command::{Access, Command, CommandId, Draft};
+use gp_command::{Access, Command, CommandId, Draft, Key, Touch};
 use gp_history::{Hist, SeqHistory};
 use gp_index::History;
 use std::alloc::Global;
@@ -46,6 +45,11 @@ fn draft(alloc: Global, shape: Shape, n: u8) -> Result<Draft, Fail> {
         Shape::OwnKeys | Shape::Checkpoints => touching(alloc, &own_key(n), Access::Write),
         Shape::Mixed => touching(alloc, &own_key(n % 4), access(n / 4)),
     }
+}
+
+fn touching(alloc: Global, key: &[u8], access: Access) -> Result<Draft, Fail> {
+    let key = Key::new(key)?;
+    Ok(Draft::new(alloc, &[Touch { key, access }], b"")?)
 }
 
 fn is_checkpoint(shape: Shape, n: u8) -> bool {

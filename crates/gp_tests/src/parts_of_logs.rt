@@ -1,16 +1,15 @@
-//! Commands, durable parts and logs of the tables.
+//! Durable parts of an acceptor, and calls on logs.
 use gp_command::{Access, Command, CommandId, Draft, Key, Touch};
-use gp_edge::{CalmDisk, Disk};
+use gp_edge::Disk;
 use gp_history::Hist;
 use gp_index::History;
 use gp_msg::Durable;
 use gp_round::{Mode, Round};
 use gp_vlog::{AppendFault, Log, OpenFault, keeps_rules};
 use std::alloc::Global;
-use std::test::Fail;
 
-/// The round of this count whose lead is coordinator 0.
-pub fn single(count: u32) -> Round {
+// The round of this count whose lead is coordinator 0.
+fn single(count: u32) -> Round {
     Round {
         count,
         mode: Mode::Single,
@@ -18,8 +17,8 @@ pub fn single(count: u32) -> Round {
     }
 }
 
-/// A write of one key by the first offer of a proposer. `None` if memory runs out.
-pub fn put(alloc: Global, proposer: u32, key: &str, body: &str) -> Option<Command> {
+// A write of one key by the first offer of a proposer. `None` if memory runs out.
+fn put(alloc: Global, proposer: u32, key: &str, body: &str) -> Option<Command> {
     let touch = Touch {
         key: Key::new(key.as_bytes()).ok()?,
         access: Access::Write,
@@ -61,8 +60,8 @@ fn vote_for(alloc: Global, commands: usize) -> Option<History> {
     Some(vote)
 }
 
-/// Whether a write of one key by the first offer of a proposer is added to a vote.
-pub fn pushes(alloc: Global, vote: &mut History, proposer: u32, key: &str, body: &str) -> bool {
+// Whether a write of one key by the first offer of a proposer is added to a vote.
+fn pushes(alloc: Global, vote: &mut History, proposer: u32, key: &str, body: &str) -> bool {
     match put(alloc, proposer, key, body) {
         Some(command) => vote.push(command).is_ok(),
         None => false,
@@ -74,25 +73,6 @@ pub fn votes(part: &Durable) -> Option<usize> {
     match part {
         Durable::Acceptor { vote, .. } => Some(vote.len()),
         Durable::Coordinator { .. } => None,
-    }
-}
-
-/// A new log on a disk in memory.
-pub fn created(alloc: Global, limit: u32) -> Result<Log<CalmDisk>, Fail> {
-    if limit < 64 || 67_108_864 < limit {
-        return Err(Fail::from("no limit"));
-    }
-    match Log::create(alloc, CalmDisk::new(alloc, b"what was there")?, limit) {
-        Ok(log) => Ok(log),
-        Err(_) => Err(Fail::from("not created")),
-    }
-}
-
-/// The log on a disk with these bytes.
-pub fn opened(alloc: Global, bytes: &[u8]) -> Result<Log<CalmDisk>, Fail> {
-    match Log::open(alloc, CalmDisk::new(alloc, bytes)?) {
-        Ok(log) => Ok(log),
-        Err(_) => Err(Fail::from("not opened")),
     }
 }
 
@@ -140,25 +120,12 @@ pub fn renews_part<D: Disk>(alloc: Global, log: &mut Log<D>, commands: usize) ->
 /// The result of opening: the number of entries and the size, or why it was refused.
 pub type Opens = Result<(usize, u64), OpenFault>;
 
-/// The result of opening these bytes.
-pub fn opens(alloc: Global, bytes: &[u8]) -> Opens {
-    match CalmDisk::new(alloc, bytes) {
-        Ok(disk) => opens_on(alloc, disk),
-        Err(_) => Err(OpenFault::NoMemory),
-    }
-}
-
 /// The result of opening the log on this disk.
 pub fn opens_on<D: Disk>(alloc: Global, disk: D) -> Opens {
     match Log::open(alloc, disk) {
         Ok(log) => Ok((log.count(), log.size())),
         Err(unopened) => Err(unopened.why),
     }
-}
-
-/// Whether there are so many bytes, and opening them has this result.
-pub fn opens_cut(alloc: Global, bytes: &[u8], len: usize, wanted: Opens) -> bool {
-    len <= bytes.len() && opens(alloc, &bytes[..len]) == wanted
 }
 
 /// The bytes break the format at this place.

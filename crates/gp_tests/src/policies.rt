@@ -3,12 +3,23 @@ ghost use Rattle.std.specs.Prelude.{◌≡◌, true, IfSome};
 ghost use Rattle.gp_round.specs.Configs.{is_owner};
 ghost use Rattle.gp_round.specs.Rounds.{earlier};
 
-use crate::scene::{FAST_1, SINGLE_2_OF_0};
 use gp_collide::{Choose, Notice, Policy};
 use gp_round::{Config, Mode, Round};
 use std::test::Fail;
 
 const LAST_COUNT: u32 = 1_000_000;
+
+const FAST_1: Round = Round {
+    count: 1,
+    mode: Mode::Fast,
+    lead: 0,
+};
+
+const SINGLE_2: Round = Round {
+    count: 2,
+    mode: Mode::Single,
+    lead: 0,
+};
 
 const SINGLE_BEFORE_LAST: Round = Round {
     count: LAST_COUNT - 1,
@@ -26,7 +37,7 @@ const SINGLE_LAST: Round = Round {
 type Case = (Round, bool, Option<Round>);
 
 static CASES: [Case; 5] = [
-    (FAST_1, true, Some(SINGLE_2_OF_0)),
+    (FAST_1, true, Some(SINGLE_2)),
     (FAST_1, false, None),
     (SINGLE_BEFORE_LAST, true, Some(SINGLE_LAST)),
     (SINGLE_LAST, true, None),

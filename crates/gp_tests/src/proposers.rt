@@ -2,10 +2,10 @@
 ghost use Rattle.std.specs.Prelude.{◌<◌, ◌≤◌, ◌+◌};
 
 use crate::outcome::holds;
-use crate::scene::draft;
-use gp_command::CommandId;
+use gp_command::{CommandId, Draft, Key};
 use gp_msg::{Msg, Outs};
 use gp_proposer::Proposer;
+use gp_store::{Op, draft_of};
 use std::alloc::Global;
 use std::test::Fail;
 
@@ -17,34 +17,36 @@ fn offers_are_numbered_from_1(rt: HostRuntime) -> Result<(), Fail> {
 fn are_numbered(alloc: Global) -> Result<bool, Fail> {
     let mut proposer = Proposer::new(3);
     Ok(
-        offers(alloc, &mut proposer, b'a', 1)?
-            && offers(alloc, &mut proposer, b'X', 2)?
-            && offers(alloc, &mut proposer, b'1', 3)?,
+        offers(alloc, &mut proposer, b"a", 1)?
+            && offers(alloc, &mut proposer, b"x", 2)?
+            && offers(alloc, &mut proposer, b"b", 3)?,
     )
 }
 
-fn offers(alloc: Global, proposer: &mut Proposer, letter: u8, number: u32) -> Result<bool, Fail>
+fn draft(alloc: Global, key: &[u8]) -> Result<Draft, Fail> {
+    Ok(draft_of(alloc, Op::Get(Key::new(key)?))?)
+}
+
+fn offers(alloc: Global, proposer: &mut Proposer, key: &[u8], number: u32) -> Result<bool, Fail>
     requires { proposer.old.offers < 3 }
     ensures { proposer.new.offers ≤ proposer.old.offers + 1 }
 {
     is_offer(
         alloc,
-        &proposer.offer(alloc, draft(alloc, letter)?)?,
-        letter,
+        &proposer.offer(alloc, draft(alloc, key)?)?,
+        key,
         number,
     )
 }
 
-// Whether a step sent the proposal of what a letter does, with this number.
-fn is_offer(alloc: Global, outs: &Outs, letter: u8, number: u32) -> Result<bool, Fail> {
+// Whether a step sent the proposal of a read of this key, with this number.
+fn is_offer(alloc: Global, outs: &Outs, key: &[u8], number: u32) -> Result<bool, Fail> {
     let id = CommandId {
         proposer: 3,
         number,
     };
     Ok(match outs.as_slice() {
-        [Msg::Propose { command }] => {
-            command.id() == id && *command.draft() == draft(alloc, letter)?
-        }
+        [Msg::Propose { command }] => command.id() == id && *command.draft() == draft(alloc, key)?,
         _ => false,
     })
 }
