@@ -1,14 +1,90 @@
 //! Sources and sinks that fail.
-use crate::stage::{Played, holds, play_over, plays_from};
-use crate::whole_scripts::{
-    FOUR_ACCEPTORS_CHOSEN_PREFIX, FOUR_ACCEPTORS_CHOSEN_PREFIX_PRINTS, ONE_PUT, ONE_PUT_PRINTS,
-};
+use crate::stage::{holds, play_over, plays_from};
 use gp_edge::{CalmSource, MemSink, MemSource, Source, WriteSink};
 use std::alloc::Global;
 use std::io::Cursor;
 use std::sync::Wait;
 use std::test::Fail;
 use std::thread::Threads;
+
+// one put in a single round, which one learner hears
+const ONE_PUT: &[u8] = b"\
+nodes 3 1 2
+offer p0 put a 5
+begin c0 1 single
+take c0 0
+take a0 1
+take a1 1
+take c0 2
+take c0 3
+take a0 4
+take a1 4
+take l0 5
+take l0 6
+";
+
+const ONE_PUT_PRINTS: &[u8] = b"\
+l0 learned 1: p0.1
+l0 state: a=5
+l0 replies: p0.1=ok
+l1 learned 0: -
+l1 state: -
+l1 replies: -
+events 11 messages 7
+";
+
+// what three of four acceptors voted in a fast round is chosen, and a round without one of them keeps it
+const FOUR_ACCEPTORS_CHOSEN_PREFIX: &[u8] = b"\
+nodes 4 1 1
+begin c0 1 fast
+take a0 0
+take a1 0
+take a2 0
+take a3 0
+take c0 1
+take c0 2
+take c0 3
+take a0 5
+take a1 5
+take a2 5
+take a3 5
+offer p0 put a 1
+offer p1 put a 2
+take a0 10
+take a1 10
+take a2 10
+take a3 11
+take a3 10
+take l0 12
+take l0 13
+take l0 14
+show l0
+take c0 11
+begin c0 2 single
+take a1 17
+take a2 17
+take a3 17
+take c0 18
+take c0 19
+take c0 20
+take a1 21
+take a2 21
+take a3 21
+take l0 22
+take l0 23
+take l0 24
+";
+
+const FOUR_ACCEPTORS_CHOSEN_PREFIX_PRINTS: &[u8] = b"\
+l0 learned 1: p0.1
+l0 learned 2: p0.1 p1.1
+l0 state: a=2
+l0 replies: p0.1=ok p1.1=ok
+events 36 messages 25
+";
+
+// A script, and what it prints.
+type Played = (&'static [u8], &'static [u8]);
 
 /// The most bytes that a write takes, and the writes that fail.
 #[derive(Clone, Copy)]

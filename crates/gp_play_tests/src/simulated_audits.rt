@@ -1,10 +1,10 @@
 //! Runs that are made from numbers, with crashes and checkpoints.
-use crate::audited_inputs::upholds;
 use crate::stage::holds;
 use gp_audit::{Cause, Proof, certify};
 use gp_round::{Mode, Round};
 use gp_sim::simulate;
 use gp_text::{report, trace};
+use gp_verdict::audit;
 use gp_world::World;
 use std::alloc::Global;
 use std::sync::Wait;
@@ -82,6 +82,14 @@ fn is_upheld(alloc: Global, world: &World) -> Result<bool, Fail> {
     let mut input = Vec::new(alloc);
     print(alloc, world, &mut input)?;
     is_certified(alloc, world, &input)
+}
+
+// Whether the input is upheld, and the text is this.
+fn upholds(alloc: Global, input: &[u8], text: &[u8]) -> bool {
+    match audit(alloc, input) {
+        Ok(audited) => audited.text.as_slice() == text,
+        Err(_) => false,
+    }
 }
 
 fn is_certified(alloc: Global, world: &World, input: &[u8]) -> Result<bool, Fail> {
