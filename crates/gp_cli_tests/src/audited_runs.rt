@@ -1,8 +1,7 @@
 //! Audits of runs, whose certificates are compared with the votes that are counted.
 use crate::counted_votes::all_counted;
 use crate::many_runs::{config_of, script_with};
-use crate::nodes::{CHECKPOINT, EIGHT, TWO};
-use crate::stage::{CALM, Finished, served, whole_run};
+use crate::stage::{Finished, served, whole_run};
 use gp_msg::{Event, Record};
 use gp_round::Config;
 use gp_sim::simulate;
@@ -52,29 +51,8 @@ pub fn is_audited<W: Threads + Wait + Sync>(
 
 // Whether an audit upholds this.
 fn is_legal<W: Threads + Wait + Sync>(rt: &W, alloc: Global, text: &[u8]) -> Result<bool, Fail> {
-    let audit = served(rt, alloc, &["audit"], text, CALM)?;
+    let audit = served(rt, alloc, &["audit"], text)?;
     Ok(audit.status == 0 && audit.text.starts_with(b"legal\n"))
-}
-
-// Acceptors, coordinators and learners, and the script that names them.
-type Stored = (u32, u32, u32, &'static [u8]);
-
-static STORED: [Stored; 3] = [(3, 3, 2, EIGHT), (3, 3, 2, CHECKPOINT), (3, 2, 1, TWO)];
-
-// Whether what a script prints is upheld.
-fn is_upheld<W: Threads + Wait + Sync>(rt: &W, alloc: Global, row: &Stored) -> Result<bool, Fail> {
-    let (acceptors, coordinators, learners, script) = *row;
-    let config = Config::new(acceptors, coordinators, learners)?;
-    let run = whole_run(rt, alloc, &["run"], script, CALM)?;
-    Ok(run.ran.status == 0 && is_audited(rt, alloc, config, &run)?)
-}
-
-#[test]
-fn each_stored_run_is_upheld(rt: HostRuntime) -> Result<(), Fail> {
-    for row in &STORED {
-        assert!(rt; is_upheld(&rt, rt.alloc(), row)?);
-    }
-    Ok(())
 }
 
 // How many nodes crashed.
@@ -98,7 +76,7 @@ fn fallen_run<W: Threads + Wait + Sync>(
     let number = if seed % 4 == 3 { 7 } else { seed as u64 % 4 };
     let call = 3 + seed as u64 % 7;
     let script = script_with(alloc, seed, OFFERS)?;
-    whole_run(rt, alloc, &["run"], &script, (number, b"", &[call]))
+    whole_run(rt, alloc, &["run"], &script, (number, &[call]))
 }
 
 // How many nodes crashed in the runs of these seeds, or `None` if one of the runs was not upheld.

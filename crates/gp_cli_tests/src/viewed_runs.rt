@@ -1,7 +1,6 @@
 //! Nodes that run in threads while two readers view a key.
-use crate::nodes::{EIGHT, Printed, count, is_feed, parts_of, plays_again, show_eight};
-use crate::outcome::holds;
-use crate::stage::{CALM, served};
+use crate::nodes::{count, is_feed, parts_of};
+use crate::stage::served;
 use std::alloc::Global;
 use std::sync::Wait;
 use std::test::Fail;
@@ -31,50 +30,24 @@ const MADE: usize = 5;
 
 const RUNS: usize = 5;
 
-// The lines of the run, and those of the readers.
-#[derive(Drop)]
-struct Viewed {
-    run: Printed,
-    looks: Vec<u8>,
-}
-
-// What a run of this script printed that ended with all learned.
-fn run_viewed<W: Threads + Wait + Sync>(
+// The lines of the readers in a run of this script that ended with all learned.
+fn looks_of<W: Threads + Wait + Sync>(
     rt: &W,
     alloc: Global,
-    key: &str,
     script: &[u8],
-) -> Result<Viewed, Fail> {
-    let outcome = served(rt, alloc, &["views", key], script, CALM)?;
+) -> Result<Vec<u8>, Fail> {
+    let outcome = served(rt, alloc, &["views", "a"], script)?;
     if outcome.status == 0 {
-        viewed_in(alloc, &outcome.text)
+        looks_in(alloc, &outcome.text)
     } else {
         Err(Fail::from("not all is learned"))
     }
 }
 
-fn viewed_in(alloc: Global, text: &[u8]) -> Result<Viewed, Fail> {
+fn looks_in(alloc: Global, text: &[u8]) -> Result<Vec<u8>, Fail> {
     let whole = parts_of(alloc, text)?;
     let behind = parts_of(alloc, &whole.report)?;
-    let run = Printed {
-        trace: whole.trace,
-        report: behind.trace,
-    };
-    Ok(Viewed {
-        run,
-        looks: behind.report,
-    })
-}
-
-// The last line that begins with these bytes.
-fn last_of<'a>(text: &'a [u8], begin: &[u8]) -> &'a [u8] {
-    let mut last: &'a [u8] = b"";
-    for line in text.split(is_feed) {
-        if line.starts_with(begin) {
-            last = line;
-        }
-    }
-    last
+    Ok(behind.report)
 }
 
 // How many reads are printed that begin with these bytes.
@@ -110,34 +83,11 @@ fn are_right(looks: &[u8], reader: &[u8]) -> bool {
     before == MADE
 }
 
-// Whether these are the last lines of the two readers.
-fn end_with(viewed: &Viewed, first: &[u8], second: &[u8]) -> bool {
-    last_of(&viewed.looks, b"r0") == first && last_of(&viewed.looks, b"r1") == second
-}
-
-fn sees_all<W: Threads + Wait + Sync>(
-    rt: &W,
-    alloc: Global,
-    viewed: &Viewed,
-) -> Result<bool, Fail> {
-    let is_seen = end_with(viewed, b"r0 seen 8 value 1", b"r1 seen 8 value 1");
-    let has_order = viewed.looks.starts_with(b"order: ");
-    let shown = is_seen && has_order && show_eight(&viewed.run.report);
-    Ok(shown && plays_again(rt, alloc, &viewed.run)?)
-}
-
-#[test]
-fn the_last_read_of_each_reader_sees_all(rt: HostRuntime) -> Result<(), Fail> {
-    let viewed = run_viewed(&rt, rt.alloc(), "a", EIGHT)?;
-    assert!(rt; sees_all(&rt, rt.alloc(), &viewed)?);
-    Ok(())
-}
-
 // A reader reads at least once while the nodes work, and once after that.
 #[test]
 fn each_reader_reads_while_the_nodes_work(rt: HostRuntime) -> Result<(), Fail> {
-    let viewed = run_viewed(&rt, rt.alloc(), "a", PUTS)?;
-    assert!(rt; reads_of(&viewed.looks, b"r0 ") >= 2 && reads_of(&viewed.looks, b"r1 ") >= 2);
+    let looks = looks_of(&rt, rt.alloc(), PUTS)?;
+    assert!(rt; reads_of(&looks, b"r0 ") >= 2 && reads_of(&looks, b"r1 ") >= 2);
     Ok(())
 }
 
@@ -154,28 +104,8 @@ fn sees_some(looks: &[u8]) -> bool {
 // What was learned is published while the nodes work in a later epoch. So each reader sees some of it before its last read.
 #[test]
 fn what_was_learned_is_published_while_the_nodes_work(rt: HostRuntime) -> Result<(), Fail> {
-    let viewed = run_viewed(&rt, rt.alloc(), "a", EPOCHS)?;
-    assert!(rt; sees_some(&viewed.looks));
-    Ok(())
-}
-
-#[test]
-fn a_key_that_no_command_writes_has_no_value(rt: HostRuntime) -> Result<(), Fail> {
-    let viewed = run_viewed(&rt, rt.alloc(), "z", EIGHT)?;
-    assert!(rt; end_with(&viewed, b"r0 seen 8 value none", b"r1 seen 8 value none"));
-    Ok(())
-}
-
-// Whether no order is printed, and neither reader saw a command.
-fn sees_nothing(viewed: &Viewed) -> bool {
-    count(&viewed.looks, b"order: -") == 1
-        && end_with(viewed, b"r0 seen 0 value none", b"r1 seen 0 value none")
-}
-
-#[test]
-fn a_run_that_learns_nothing_has_no_order(rt: HostRuntime) -> Result<(), Fail> {
-    let viewed = run_viewed(&rt, rt.alloc(), "a", b"nodes 3 1 1\n")?;
-    assert!(rt; sees_nothing(&viewed));
+    let looks = looks_of(&rt, rt.alloc(), EPOCHS)?;
+    assert!(rt; sees_some(&looks));
     Ok(())
 }
 
@@ -189,18 +119,8 @@ fn shows_beginnings(looks: &[u8]) -> bool {
 #[test]
 fn each_read_shows_a_beginning_of_the_order(rt: HostRuntime) -> Result<(), Fail> {
     for _ in 0..RUNS {
-        let viewed = run_viewed(&rt, rt.alloc(), "a", PUTS)?;
-        assert!(rt; shows_beginnings(&viewed.looks));
+        let looks = looks_of(&rt, rt.alloc(), PUTS)?;
+        assert!(rt; shows_beginnings(&looks));
     }
     Ok(())
-}
-
-fn ends_with_no_looks<W: Threads + Wait + Sync>(rt: &W, alloc: Global) -> Result<bool, Fail> {
-    let outcome = served(rt, alloc, &["views", "a"], EIGHT, (0, b"", &[0]))?;
-    Ok(outcome.ended(6, b"disk fault\n"))
-}
-
-#[test]
-fn a_disk_that_fails_ends_the_run_with_no_looks(rt: HostRuntime) -> Result<(), Fail> {
-    holds(&rt, ends_with_no_looks(&rt, rt.alloc()))
 }

@@ -1,7 +1,7 @@
-//! The words of the command, and the status with which the program ends.
+//! The arguments of the program, and the status with which it ends.
 ghost use Rattle.std.specs.Prelude.{◌≡◌, IfOk, length};
 
-use crate::stage::{CALM, disks_with, owned, served};
+use crate::stage::{disks_with, owned};
 use gp_cli::run_program;
 use gp_command::NoMemory;
 use gp_edge::{CalmSink, CalmSource, Idle, MemDisk};
@@ -20,61 +20,12 @@ const SCRIPT: &[u8] = b"nodes 3 1 1\n";
 
 const PRINTS: &[u8] = b"l0 learned 0: -\nl0 state: -\nl0 replies: -\nevents 0 messages 0\n";
 
-// Whether these words end with status 2 and the usage line, and leave the input unread.
-fn are_refused<W: Threads + Wait + Sync>(
-    rt: &W,
-    alloc: Global,
-    words: &[&str],
-) -> Result<bool, Fail> {
-    let outcome = served(rt, alloc, words, SCRIPT, CALM)?;
-    Ok(outcome.ended(2, USAGE) && outcome.records == 0)
-}
-
-// Words that name no subcommand, or one with other words than it takes.
-static UNKNOWN: [&'static [&'static str]; 26] = [
-    &[],
-    &["play", "now"],
-    &["run", "63"],
-    &["run", "67108865"],
-    &["run", "064"],
-    &["run", "64", "64"],
-    &["log", "12"],
-    &["upgrade", "12"],
-    &["log", "00"],
-    &["sim", "0"],
-    &["sim", "1", "0"],
-    &["sim", "1", "257"],
-    &["drive", "8", "1", "1"],
-    &["drive", "3", "5", "1"],
-    &["drive", "3", "1", "65"],
-    &["audit", "x"],
-    &["Audit"],
-    &["bank", "x"],
-    &["bank", "0"],
-    &["Bank"],
-    &["views"],
-    &["views", "A"],
-    &["views", ""],
-    &["views", "a", "a"],
-    &["Play"],
-    &["--help"],
-];
-
-#[test]
-fn unknown_words_print_the_usage(rt: HostRuntime) -> Result<(), Fail> {
-    let alloc = rt.alloc();
-    for words in &UNKNOWN {
-        assert!(rt; are_refused(&rt, alloc, words)?);
-    }
-    Ok(())
-}
-
 // The disks of the program, unless there is no memory for them.
 fn disks_for(alloc: Global, has_memory: bool) -> Result<Result<Vec<MemDisk>, NoMemory>, Fail>
     ensures { IfOk result (λ disks. IfOk disks (λ d. length d.items ≡ 12)) }
 {
     if has_memory {
-        Ok(Ok(disks_with(alloc, 0, b"", &[])?))
+        Ok(Ok(disks_with(alloc, 0, &[])?))
     } else {
         Ok(Err(NoMemory))
     }

@@ -1,5 +1,0 @@
-use Rattle.gp_cli_tests.specs.Posters.{IsStill}
-use Rattle.gp_cli_tests.proofs.posters.work.Given as goal
-
-abbrev pub invariant-loop-number : goal.invariant-loop-number
-invariant-loop-number g l = IsStill l.initial.poster.pass l.poster.pass
