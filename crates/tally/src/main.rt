@@ -35,21 +35,37 @@ fn history(alloc: Global, rows: &[Row]) -> Result<History, NoMemory> {
     Ok(learned)
 }
 
+// As many additions of one client as a run may have commands.
+fn additions(alloc: Global) -> Result<Vec<Row>, NoMemory> {
+    let mut rows = Vec::new(alloc);
+    for number in 1..=1024 {
+        rows.push((0, number, Access::Add))?;
+    }
+    Ok(rows)
+}
+
+// Prints how many commands the history of these rows has, and the count after it.
+fn show<R: Print>(rt: &R, alloc: Global, rows: &[Row]) -> io::Result<()> {
+    let Ok(learned) = history(alloc, rows) else {
+        return Err(io::Error::from(ErrorKind::OutOfMemory));
+    };
+    if !has_distinct_ids(&learned) {
+        return Err(io::Error::from(ErrorKind::InvalidData));
+    }
+    match tally_of(alloc, &learned) {
+        Ok(tally) => println!(rt; "{} commands, count {}", learned.len(), tally.count),
+        Err(NoMemory) => Err(io::Error::from(ErrorKind::OutOfMemory)),
+    }
+}
+
 fn main(rt: HostRuntime) -> io::Result<()> {
     // one history in two sequences, since two additions do not conflict
     let mut otherwise = COMMANDS;
     otherwise.swap(0, 1);
-    for rows in [COMMANDS, otherwise] {
-        let Ok(learned) = history(rt.alloc(), &rows) else {
-            return Err(io::Error::from(ErrorKind::OutOfMemory));
-        };
-        if !has_distinct_ids(&learned) {
-            return Err(io::Error::from(ErrorKind::InvalidData));
-        }
-        match tally_of(rt.alloc(), &learned) {
-            Ok(tally) => println!(rt; "{} commands, count {}", learned.len(), tally.count)?,
-            Err(NoMemory) => return Err(io::Error::from(ErrorKind::OutOfMemory)),
-        }
-    }
-    Ok(())
+    show(&rt, rt.alloc(), &COMMANDS)?;
+    show(&rt, rt.alloc(), &otherwise)?;
+    let Ok(many) = additions(rt.alloc()) else {
+        return Err(io::Error::from(ErrorKind::OutOfMemory));
+    };
+    show(&rt, rt.alloc(), &many)
 }
