@@ -6,6 +6,8 @@ use crate::repeat::Repeat;
 use crate::subject::{Request, Subject};
 use crate::words::Words;
 use std::alloc::Global;
+use std::sync::Wait;
+use std::thread::Threads;
 
 // What the next line is read as.
 #[derive(Clone, Copy, PartialEq, Eq)]
@@ -59,8 +61,9 @@ impl Cases {
     }
 
     /// Reads a line, and returns what differs there.
-    pub fn line<S: Subject>(
+    pub fn line<W: Threads + Wait + Sync, S: Subject>(
         &mut self,
+        threads: &W,
         subject: &mut S,
         line: &[u8],
     ) -> Result<Option<String>, Fault> {
@@ -70,21 +73,22 @@ impl Cases {
             return Ok(None);
         }
         match Repeat::of(line)? {
-            Some(repeat) => self.repeated(subject, repeat),
-            None => self.plain(subject, line),
+            Some(repeat) => self.repeated(threads, subject, repeat),
+            None => self.plain(threads, subject, line),
         }
     }
 
     // Reads the lines that one line stands for. At most one of them differs.
-    fn repeated<S: Subject>(
+    fn repeated<W: Threads + Wait + Sync, S: Subject>(
         &mut self,
+        threads: &W,
         subject: &mut S,
         repeat: Repeat<'_>,
     ) -> Result<Option<String>, Fault> {
         let mut wrong = None;
         for n in repeat.first..=repeat.last {
             let line = repeat.line(self.alloc, n)?;
-            let found = self.plain(subject, &line)?;
+            let found = self.plain(threads, subject, &line)?;
             if found.is_some() {
                 wrong = found;
             }
@@ -92,7 +96,12 @@ impl Cases {
         Ok(wrong)
     }
 
-    fn plain<S: Subject>(&mut self, subject: &mut S, line: &[u8]) -> Result<Option<String>, Fault> {
+    fn plain<W: Threads + Wait + Sync, S: Subject>(
+        &mut self,
+        threads: &W,
+        subject: &mut S,
+        line: &[u8],
+    ) -> Result<Option<String>, Fault> {
         if line.is_empty() {
             return self.close();
         }
@@ -102,12 +111,12 @@ impl Cases {
         if let Some(input) = line.strip_prefix(b"  ") {
             self.input(input)?;
         } else if let Some(definition) = line.strip_prefix(b"let ") {
-            self.run_waiting(subject)?;
+            self.run_waiting(threads, subject)?;
             self.letters.define(self.alloc, Words::new(definition))?;
         } else if *line == *b"----".as_slice() {
-            self.end_commands(subject)?;
+            self.end_commands(threads, subject)?;
         } else {
-            self.command(subject, line)?;
+            self.command(threads, subject, line)?;
         }
         Ok(None)
     }
@@ -133,8 +142,13 @@ impl Cases {
         self.answers.compare(line)
     }
 
-    fn command<S: Subject>(&mut self, subject: &mut S, line: &[u8]) -> Result<(), Fault> {
-        self.run_waiting(subject)?;
+    fn command<W: Threads + Wait + Sync, S: Subject>(
+        &mut self,
+        threads: &W,
+        subject: &mut S,
+        line: &[u8],
+    ) -> Result<(), Fault> {
+        self.run_waiting(threads, subject)?;
         if self.place == Place::Between {
             subject.begin(self.alloc);
         }
@@ -159,28 +173,41 @@ impl Cases {
         Ok(())
     }
 
-    fn end_commands<S: Subject>(&mut self, subject: &mut S) -> Result<(), Fault> {
+    fn end_commands<W: Threads + Wait + Sync, S: Subject>(
+        &mut self,
+        threads: &W,
+        subject: &mut S,
+    ) -> Result<(), Fault> {
         if self.place != Place::Commands {
             return Err(Fault::Unread);
         }
-        self.run_waiting(subject)?;
+        self.run_waiting(threads, subject)?;
         self.place = Place::Wanted;
         Ok(())
     }
 
     // Runs the command that was read last.
-    fn run_waiting<S: Subject>(&mut self, subject: &mut S) -> Result<(), Fault> {
+    fn run_waiting<W: Threads + Wait + Sync, S: Subject>(
+        &mut self,
+        threads: &W,
+        subject: &mut S,
+    ) -> Result<(), Fault> {
         let Some(waiting) = self.waiting.take() else {
             return Ok(());
         };
         self.at = waiting.number;
-        let text = self.answer(subject, &waiting)?;
+        let text = self.answer(threads, subject, &waiting)?;
         self.at = self.number;
         self.answers.push(&waiting.line, text.as_str())
     }
 
     // What the command gives; of `size COMMAND` how much the command gives.
-    fn answer<S: Subject>(&self, subject: &mut S, waiting: &Waiting) -> Result<String, Fault> {
+    fn answer<W: Threads + Wait + Sync, S: Subject>(
+        &self,
+        threads: &W,
+        subject: &mut S,
+        waiting: &Waiting,
+    ) -> Result<String, Fault> {
         let (line, is_measured) = match waiting.line.strip_prefix(b"size ") {
             Some(measured) => (measured, true),
             None => (waiting.line.as_slice(), false),
@@ -190,7 +217,7 @@ impl Cases {
             line,
             input: &waiting.input,
         };
-        let text = subject.answer(self.alloc, request)?;
+        let text = subject.answer(threads, self.alloc, request)?;
         if is_measured {
             return size_of(self.alloc, text.as_str());
         }

@@ -6,20 +6,23 @@ use std::alloc::Global;
 use std::fs;
 use std::io::{self, ErrorKind};
 use std::rt::Files;
+use std::sync::Wait;
+use std::thread::Threads;
 
-/// Runs the cases of a file, and prints each difference with its file and line, and then
-/// `NAME: N cases, M wrong`.
+/// Runs the cases of a file, with `threads` for the nodes of a subject. Prints each difference with
+/// its file and line, and then `NAME: N cases, M wrong`.
 ///
 /// An error if the file is not there, if it has no case, or if a line of it is unknown or out of
 /// place; what is wrong is printed first.
-pub fn run_file<R: Print + Files + Alloc, S: Subject>(
+pub fn run_file<R: Print + Files + Alloc, W: Threads + Wait + Sync, S: Subject>(
     rt: &R,
+    threads: &W,
     alloc: Global,
     path: &str,
     subject: &mut S,
 ) -> io::Result<()> {
     match fs::read(rt, path) {
-        Ok(bytes) => run_bytes(rt, alloc, last_part(path), &bytes, subject),
+        Ok(bytes) => run_bytes(rt, threads, alloc, last_part(path), &bytes, subject),
         Err(refused) => {
             println!(rt; "{path}: not read")?;
             Err(refused)
@@ -27,15 +30,16 @@ pub fn run_file<R: Print + Files + Alloc, S: Subject>(
     }
 }
 
-fn run_bytes<R: Print, S: Subject>(
+fn run_bytes<R: Print, W: Threads + Wait + Sync, S: Subject>(
     rt: &R,
+    threads: &W,
     alloc: Global,
     name: &str,
     bytes: &[u8],
     subject: &mut S,
 ) -> io::Result<()> {
     let mut cases = Cases::new(alloc);
-    run_lines(rt, name, bytes, subject, &mut cases)?;
+    run_lines(rt, threads, name, bytes, subject, &mut cases)?;
     let (count, wrong) = (cases.count, cases.wrong);
     println!(rt; "{name}: {count} cases, {wrong} wrong")?;
     if count == 0 {
@@ -44,15 +48,16 @@ fn run_bytes<R: Print, S: Subject>(
     Ok(())
 }
 
-fn run_lines<R: Print, S: Subject>(
+fn run_lines<R: Print, W: Threads + Wait + Sync, S: Subject>(
     rt: &R,
+    threads: &W,
     name: &str,
     bytes: &[u8],
     subject: &mut S,
     cases: &mut Cases,
 ) -> io::Result<()> {
     for line in bytes.split(|byte| *byte == b'\n') {
-        let found = cases.line(subject, line);
+        let found = cases.line(threads, subject, line);
         tell(rt, name, cases.at, found)?;
     }
     let found = cases.close();

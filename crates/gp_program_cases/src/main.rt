@@ -26,8 +26,8 @@ fn main(rt: HostRuntime) -> io::Result<()> {
     let alloc = rt.alloc();
     for path in env::args(&rt)?.skip(1) {
         if path.ends_with(".txt") {
-            let mut program = Program::new(&rt, alloc);
-            run_file(&rt, alloc, path.as_str(), &mut program)?;
+            let mut program = Program::new(alloc);
+            run_file(&rt, &rt, alloc, path.as_str(), &mut program)?;
         } else {
             compare_pages(&rt, &rt, path.as_str())?;
         }

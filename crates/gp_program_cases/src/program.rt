@@ -12,8 +12,7 @@ use std::thread::Threads;
 
 /// The program, the disk that has bytes, and what the run before left.
 #[derive(Drop)]
-pub struct Program<'a, W: Threads + Wait + Sync> {
-    rt: &'a W,
+pub struct Program {
     disk: Special,
     // How many records the last run has and the one before it, and whether nodes in threads posted
     // the last ones.
@@ -24,10 +23,9 @@ pub struct Program<'a, W: Threads + Wait + Sync> {
     is_kept: bool,
 }
 
-impl<'a, W: Threads + Wait + Sync> Program<'a, W> {
-    pub fn new(rt: &'a W, alloc: Global) -> Program<'a, W> {
+impl Program {
+    pub fn new(alloc: Global) -> Program {
         Program {
-            rt,
             disk: Special::none(alloc),
             records: 0,
             records_before: 0,
@@ -36,11 +34,17 @@ impl<'a, W: Threads + Wait + Sync> Program<'a, W> {
         }
     }
 
-    fn stage(&mut self, alloc: Global, line: &[u8], text: &[u8]) -> Result<Vec<u8>, Fault> {
+    fn stage<W: Threads + Wait + Sync>(
+        &mut self,
+        rt: &W,
+        alloc: Global,
+        line: &[u8],
+        text: &[u8],
+    ) -> Result<Vec<u8>, Fault> {
         let mut words = Words::new(line);
         match words.next()? {
-            b"serve" => self.serve(alloc, words, text),
-            b"replayed" => self.replayed(alloc, text),
+            b"serve" => self.serve(rt, alloc, words, text),
+            b"replayed" => self.replayed(rt, alloc, text),
             b"file" => self.file(alloc, words, text),
             b"more" => self.more(alloc, words, text),
             b"fails" => self.fails(alloc, words),
@@ -62,7 +66,7 @@ impl<'a, W: Threads + Wait + Sync> Program<'a, W> {
             b"offers" | b"messages" | b"printed" | b"summary" | b"clash" => {
                 script_text(alloc, Words::new(line), text)
             }
-            b"settled" => settled_text(self.rt, alloc, text),
+            b"settled" => settled_text(rt, alloc, text),
             b"spelled" => spelled(alloc, words),
             b"bytes" => command_bytes(alloc, words),
             _ => shaped(alloc, Words::new(line), text),
@@ -70,14 +74,20 @@ impl<'a, W: Threads + Wait + Sync> Program<'a, W> {
     }
 
     // What the program prints for these words with this input, and its status if that is not 0.
-    fn serve(&mut self, alloc: Global, words: Words<'_>, input: &[u8]) -> Result<Vec<u8>, Fault> {
+    fn serve<W: Threads + Wait + Sync>(
+        &mut self,
+        rt: &W,
+        alloc: Global,
+        words: Words<'_>,
+        input: &[u8],
+    ) -> Result<Vec<u8>, Fault> {
         let Ended {
             text,
             status,
             records,
             is_posted,
             content,
-        } = served(self.rt, alloc, &words_of(alloc, words)?, input, &self.disk)?;
+        } = served(rt, alloc, &words_of(alloc, words)?, input, &self.disk)?;
         self.records_before = self.records;
         self.records = records;
         self.is_posted = is_posted;
@@ -88,10 +98,15 @@ impl<'a, W: Threads + Wait + Sync> Program<'a, W> {
     }
 
     // Whether `play` prints the report of a run from its trace.
-    fn replayed(&mut self, alloc: Global, text: &[u8]) -> Result<Vec<u8>, Fault> {
+    fn replayed<W: Threads + Wait + Sync>(
+        &mut self,
+        rt: &W,
+        alloc: Global,
+        text: &[u8],
+    ) -> Result<Vec<u8>, Fault> {
         let (trace, after) = parts_of(text);
         let (report, _) = parts_of(after);
-        let played = self.serve(alloc, Words::new(b"play"), trace)?;
+        let played = self.serve(rt, alloc, Words::new(b"play"), trace)?;
         let is_same = *played.as_slice() == *report;
         Ok(Vec::from_slice(alloc, yes_or_no(is_same))?)
     }
@@ -149,7 +164,7 @@ impl<'a, W: Threads + Wait + Sync> Program<'a, W> {
     }
 }
 
-impl<'a, W: Threads + Wait + Sync> Subject for Program<'a, W> {
+impl Subject for Program {
     fn begin(&mut self, alloc: Global) {
         self.disk = Special::none(alloc);
         self.records = 0;
@@ -158,10 +173,15 @@ impl<'a, W: Threads + Wait + Sync> Subject for Program<'a, W> {
         self.is_kept = true;
     }
 
-    fn answer(&mut self, alloc: Global, request: Request<'_>) -> Result<String, Fault> {
+    fn answer<W: Threads + Wait + Sync>(
+        &mut self,
+        threads: &W,
+        alloc: Global,
+        request: Request<'_>,
+    ) -> Result<String, Fault> {
         let mut text = Vec::from_slice(alloc, request.input)?;
         for stage in request.line.split(is_bar) {
-            text = self.stage(alloc, trimmed(stage), &text)?;
+            text = self.stage(threads, alloc, trimmed(stage), &text)?;
         }
         Ok(String::from_utf8_lossy(alloc, &text)?)
     }

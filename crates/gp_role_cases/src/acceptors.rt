@@ -8,6 +8,8 @@ use gp_cases::{
 };
 use gp_msg::Msg;
 use std::alloc::Global;
+use std::sync::Wait;
+use std::thread::Threads;
 
 /// A file has one acceptor at a time.
 #[derive(Drop)]
@@ -22,7 +24,12 @@ impl Acceptors {
 }
 
 impl Subject for Acceptors {
-    fn answer(&mut self, alloc: Global, request: Request<'_>) -> Result<String, Fault> {
+    fn answer<W: Threads + Wait + Sync>(
+        &mut self,
+        _threads: &W,
+        alloc: Global,
+        request: Request<'_>,
+    ) -> Result<String, Fault> {
         let mut words = request.words();
         let name = words.name()?;
         if name == "acceptor" {

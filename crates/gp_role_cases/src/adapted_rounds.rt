@@ -7,6 +7,8 @@ use gp_adapt::{Adapt, ChooseMode, Scene};
 use gp_cases::{Fault, Request, Subject, Words, config_words, push_line, round_text};
 use gp_round::{Config, Mode, Round};
 use std::alloc::Global;
+use std::sync::Wait;
+use std::thread::Threads;
 
 /// Policies have no state: the calls of one are the input lines of its command.
 #[derive(Drop)]
@@ -15,7 +17,12 @@ pub struct AdaptedRounds;
 impl Subject for AdaptedRounds {
     // What the calls give, of the policy of the words `adapt cN of A C L calm N`, or, with `by-clashes`
     // after them, of one that is known to go by the number of collisions alone.
-    fn answer(&mut self, alloc: Global, request: Request<'_>) -> Result<String, Fault> {
+    fn answer<W: Threads + Wait + Sync>(
+        &mut self,
+        _threads: &W,
+        alloc: Global,
+        request: Request<'_>,
+    ) -> Result<String, Fault> {
         let mut words = request.words();
         words.pass(b"adapt")?;
         let coordinator = words.next_node(b'c')?;

@@ -2,6 +2,8 @@
 use gp_cases::{Fault, Request, Subject, Words, config_of};
 use gp_safe::{Answer, pick};
 use std::alloc::Global;
+use std::sync::Wait;
+use std::thread::Threads;
 
 /// Choices have no state.
 #[derive(Drop)]
@@ -9,7 +11,12 @@ pub struct Choices;
 
 impl Subject for Choices {
     // The choice after the answers of the input lines, each as `aN voted ROUND vote WORD`.
-    fn answer(&mut self, alloc: Global, request: Request<'_>) -> Result<String, Fault> {
+    fn answer<W: Threads + Wait + Sync>(
+        &mut self,
+        _threads: &W,
+        alloc: Global,
+        request: Request<'_>,
+    ) -> Result<String, Fault> {
         let mut words = request.words();
         words.pass(b"pick")?;
         words.pass(b"of")?;

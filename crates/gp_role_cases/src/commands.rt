@@ -8,6 +8,8 @@ use gp_command::{
 };
 use std::alloc::Global;
 use std::cmp::Ordering;
+use std::sync::Wait;
+use std::thread::Threads;
 
 /// The bytes that were given last.
 #[derive(Drop)]
@@ -86,7 +88,12 @@ pub fn put(bytes: &mut Vec<u8>, place: usize, value: u8) -> Result<(), Fault> {
 }
 
 impl Subject for Commands {
-    fn answer(&mut self, alloc: Global, request: Request<'_>) -> Result<String, Fault> {
+    fn answer<W: Threads + Wait + Sync>(
+        &mut self,
+        _threads: &W,
+        alloc: Global,
+        request: Request<'_>,
+    ) -> Result<String, Fault> {
         let letters = request.letters;
         let mut words = request.words();
         match words.name()? {

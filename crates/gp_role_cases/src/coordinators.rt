@@ -11,6 +11,8 @@ use gp_coordinator::Coordinator;
 use gp_msg::Durable;
 use gp_round::{Config, Round};
 use std::alloc::Global;
+use std::sync::Wait;
+use std::thread::Threads;
 
 /// A file has one coordinator at a time.
 #[derive(Drop)]
@@ -25,7 +27,12 @@ impl Coordinators {
 }
 
 impl Subject for Coordinators {
-    fn answer(&mut self, alloc: Global, request: Request<'_>) -> Result<String, Fault> {
+    fn answer<W: Threads + Wait + Sync>(
+        &mut self,
+        _threads: &W,
+        alloc: Global,
+        request: Request<'_>,
+    ) -> Result<String, Fault> {
         let mut words = request.words();
         let name = words.name()?;
         if name == "coordinator" {

@@ -3,6 +3,8 @@
 use gp_cases::{Cases, Fault, Request, Subject, push_line};
 use gp_index::History;
 use std::alloc::Global;
+use std::sync::Wait;
+use std::thread::Threads;
 
 /// Commands that give back what they are given: `give` its input lines, `say TEXT` the text, and
 /// `order WORD` the history of the word.
@@ -10,7 +12,12 @@ use std::alloc::Global;
 pub struct Format;
 
 impl Subject for Format {
-    fn answer(&mut self, alloc: Global, request: Request<'_>) -> Result<String, Fault> {
+    fn answer<W: Threads + Wait + Sync>(
+        &mut self,
+        _threads: &W,
+        alloc: Global,
+        request: Request<'_>,
+    ) -> Result<String, Fault> {
         let mut words = request.words();
         match words.name()? {
             "give" => Ok(String::from_utf8_lossy(alloc, request.input)?),
@@ -30,19 +37,28 @@ impl Subject for Format {
 pub struct Files;
 
 impl Subject for Files {
-    fn answer(&mut self, alloc: Global, request: Request<'_>) -> Result<String, Fault> {
+    fn answer<W: Threads + Wait + Sync>(
+        &mut self,
+        threads: &W,
+        alloc: Global,
+        request: Request<'_>,
+    ) -> Result<String, Fault> {
         let mut words = request.words();
         if words.name()? == "run" {
-            return told(alloc, request.input);
+            return told(threads, alloc, request.input);
         }
-        Format.answer(alloc, request)
+        Format.answer(threads, alloc, request)
     }
 }
 
-fn told(alloc: Global, input: &[u8]) -> Result<String, Fault> {
+fn told<W: Threads + Wait + Sync>(
+    threads: &W,
+    alloc: Global,
+    input: &[u8],
+) -> Result<String, Fault> {
     let mut cases = Cases::new(alloc);
     let mut text = String::new(alloc);
-    if tell_lines(alloc, input, &mut cases, &mut text)? {
+    if tell_lines(threads, alloc, input, &mut cases, &mut text)? {
         let (count, wrong) = (cases.count, cases.wrong);
         let end = format!(in alloc; "{count} cases, {wrong} wrong")?;
         push_line(end.as_str(), &mut text)?;
@@ -51,14 +67,15 @@ fn told(alloc: Global, input: &[u8]) -> Result<String, Fault> {
 }
 
 // Tells what was found at the lines, and whether all were read.
-fn tell_lines(
+fn tell_lines<W: Threads + Wait + Sync>(
+    threads: &W,
     alloc: Global,
     input: &[u8],
     cases: &mut Cases,
     text: &mut String,
 ) -> Result<bool, Fault> {
     for line in input.split(|byte| *byte == b'\n') {
-        let found = cases.line(&mut Format, line);
+        let found = cases.line(threads, &mut Format, line);
         if !tell(alloc, cases.at, found, text)? {
             return Ok(false);
         }

@@ -7,6 +7,8 @@ use gp_epoch::{cut, first_checkpoint};
 use gp_history::{Hist, SeqHistory};
 use gp_index::History;
 use std::alloc::Global;
+use std::sync::Wait;
+use std::thread::Threads;
 
 /// Histories have no state.
 #[derive(Drop)]
@@ -14,7 +16,12 @@ pub struct Histories;
 
 impl Subject for Histories {
     // One text, or that of each representation if they differ.
-    fn answer(&mut self, alloc: Global, request: Request<'_>) -> Result<String, Fault> {
+    fn answer<W: Threads + Wait + Sync>(
+        &mut self,
+        _threads: &W,
+        alloc: Global,
+        request: Request<'_>,
+    ) -> Result<String, Fault> {
         if let Some(text) = indexes::text_of(alloc, request)? {
             return Ok(text);
         }

@@ -6,6 +6,8 @@ use gp_cases::{Fault, Letters, Request, Subject, Words, config_words, message_of
 use gp_learner::Learner;
 use gp_msg::{Msg, Outs};
 use std::alloc::Global;
+use std::sync::Wait;
+use std::thread::Threads;
 
 /// A file has one learner at a time.
 #[derive(Drop)]
@@ -20,7 +22,12 @@ impl Learners {
 }
 
 impl Subject for Learners {
-    fn answer(&mut self, alloc: Global, request: Request<'_>) -> Result<String, Fault> {
+    fn answer<W: Threads + Wait + Sync>(
+        &mut self,
+        _threads: &W,
+        alloc: Global,
+        request: Request<'_>,
+    ) -> Result<String, Fault> {
         let mut words = request.words();
         let name = words.name()?;
         if name == "learner" {

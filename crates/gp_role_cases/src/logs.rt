@@ -6,6 +6,8 @@ use gp_edge::CalmDisk;
 use gp_msg::Durable;
 use gp_vlog::{AppendFault, Log, OpenFault, keeps_rules};
 use std::alloc::Global;
+use std::sync::Wait;
+use std::thread::Threads;
 
 /// A file has one log at a time, or the bytes of one.
 #[derive(Drop)]
@@ -116,7 +118,12 @@ fn alike(one: &[u8], other: &[u8]) -> usize {
 }
 
 impl Subject for Logs {
-    fn answer(&mut self, alloc: Global, request: Request<'_>) -> Result<String, Fault> {
+    fn answer<W: Threads + Wait + Sync>(
+        &mut self,
+        _threads: &W,
+        alloc: Global,
+        request: Request<'_>,
+    ) -> Result<String, Fault> {
         let mut words = request.words();
         match words.name()? {
             "create" => self.create(alloc, words),

@@ -6,13 +6,20 @@ use gp_cases::{
 use gp_command::Draft;
 use gp_msg::{Event, MsgKind, Node, OfferList, Outs, Record, Records, reads};
 use std::alloc::Global;
+use std::sync::Wait;
+use std::thread::Threads;
 
 /// Messages have no state.
 #[derive(Drop)]
 pub struct Messages;
 
 impl Subject for Messages {
-    fn answer(&mut self, alloc: Global, request: Request<'_>) -> Result<String, Fault> {
+    fn answer<W: Threads + Wait + Sync>(
+        &mut self,
+        _threads: &W,
+        alloc: Global,
+        request: Request<'_>,
+    ) -> Result<String, Fault> {
         let mut words = request.words();
         match words.name()? {
             "kind" => kind(alloc, request, words),

@@ -6,6 +6,8 @@ use gp_index::History;
 use gp_replica::{Replica, has_distinct_ids};
 use gp_store::KeyStore;
 use std::alloc::Global;
+use std::sync::Wait;
+use std::thread::Threads;
 
 // A replica, and what it has learned.
 #[derive(Drop)]
@@ -27,7 +29,12 @@ impl Replicas {
 }
 
 impl Subject for Replicas {
-    fn answer(&mut self, alloc: Global, request: Request<'_>) -> Result<String, Fault> {
+    fn answer<W: Threads + Wait + Sync>(
+        &mut self,
+        _threads: &W,
+        alloc: Global,
+        request: Request<'_>,
+    ) -> Result<String, Fault> {
         let mut words = request.words();
         let name = words.name()?;
         if name == "replica" {

@@ -3,13 +3,20 @@ use crate::commands::ordered;
 use gp_cases::{Fault, Request, Subject, Words, config_of, yes_or_no};
 use gp_round::{Config, Mode, Subsets, Which, count_members, is_member};
 use std::alloc::Global;
+use std::sync::Wait;
+use std::thread::Threads;
 
 /// Rounds have no state.
 #[derive(Drop)]
 pub struct Rounds;
 
 impl Subject for Rounds {
-    fn answer(&mut self, alloc: Global, request: Request<'_>) -> Result<String, Fault> {
+    fn answer<W: Threads + Wait + Sync>(
+        &mut self,
+        _threads: &W,
+        alloc: Global,
+        request: Request<'_>,
+    ) -> Result<String, Fault> {
         let mut words = request.words();
         match words.name()? {
             "config" => config(alloc, words),

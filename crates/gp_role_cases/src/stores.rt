@@ -4,6 +4,8 @@ use gp_command::{Command, CommandId};
 use gp_replica::{Machine, Reply};
 use gp_store::KeyStore;
 use std::alloc::Global;
+use std::sync::Wait;
+use std::thread::Threads;
 
 const FIRST: CommandId = CommandId {
     proposer: 0,
@@ -23,7 +25,12 @@ impl Stores {
 }
 
 impl Subject for Stores {
-    fn answer(&mut self, alloc: Global, request: Request<'_>) -> Result<String, Fault> {
+    fn answer<W: Threads + Wait + Sync>(
+        &mut self,
+        _threads: &W,
+        alloc: Global,
+        request: Request<'_>,
+    ) -> Result<String, Fault> {
         let mut words = request.words();
         let name = words.name()?;
         if name == "store" {

@@ -2,6 +2,8 @@
 use gp_cases::{Fault, Request, Subject, Words, message_of};
 use gp_collide::Watch;
 use std::alloc::Global;
+use std::sync::Wait;
+use std::thread::Threads;
 
 /// A file has one watch at a time.
 #[derive(Drop)]
@@ -32,7 +34,12 @@ impl Watches {
 
 impl Subject for Watches {
     // Whether the watch has noticed a collision.
-    fn answer(&mut self, alloc: Global, request: Request<'_>) -> Result<String, Fault> {
+    fn answer<W: Threads + Wait + Sync>(
+        &mut self,
+        _threads: &W,
+        alloc: Global,
+        request: Request<'_>,
+    ) -> Result<String, Fault> {
         let mut words = request.words();
         let watch = match words.name()? {
             "watch" => watch_of(alloc, words)?,

@@ -4,6 +4,8 @@ use gp_msg::{Event, Node};
 use gp_random::{MOST_COMMANDS, Workload};
 use gp_round::Mode;
 use std::alloc::Global;
+use std::sync::Wait;
+use std::thread::Threads;
 
 // More than the events of any workload.
 const MANY: u64 = 4096;
@@ -13,7 +15,12 @@ const MANY: u64 = 4096;
 pub struct Workloads;
 
 impl Subject for Workloads {
-    fn answer(&mut self, alloc: Global, request: Request<'_>) -> Result<String, Fault> {
+    fn answer<W: Threads + Wait + Sync>(
+        &mut self,
+        _threads: &W,
+        alloc: Global,
+        request: Request<'_>,
+    ) -> Result<String, Fault> {
         let mut words = request.words();
         match words.name()? {
             "events" => events(alloc, words),
